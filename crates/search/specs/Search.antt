@@ -136,3 +136,8 @@ Fits (listed.All n left) size = n ≤ size
 pub record Lists (r : Listed) (xs : List Float) (size : ℕ) (l : Listing) : Type 0 where
   pub within : Fits r size
   pub are : told r xs ≡ l
+
+-- the first n numbers of after are those of before in the order in which they are tried
+pub record InOrder (role : Role) (before after : List Float) (n : ℕ) : Type 0 where
+  pub within : n ≤ length before
+  pub are : take n after ≡ in-order role before

@@ -13,7 +13,7 @@ ghost use lib.ListN.{length};
 ghost use Rattle.geometry.specs.Stretch.{stretch, holds};
 ghost use Rattle.geometry.specs.Points.{point-at};
 ghost use Rattle.search.specs.Stretches.{members, routes, Windows, runs-in};
-ghost use Rattle.search.specs.Search.{candidate, gathered, tried, common-xs, search-of, falls, Lists};
+ghost use Rattle.search.specs.Search.{candidate, gathered, tried, common-xs, search-of, falls, Lists, InOrder};
 
 // Tap visits left: they pay for the looks at runs, and for nothing else.
 pub struct TapVisits(pub u32);
@@ -88,7 +88,16 @@ fn candidate_of(role: Role, b: Bounds, s: Stretch) -> Candidate
 
 // The first pass: the desired x and a candidate of each run that has one, one visit paid before
 // each run.
-fn gather(points: &[f64], starts: &[usize], counts: &[usize], role: Role, pitch: f64, b: Bounds, granted: TapVisits, xs: &mut [f64]) -> Listed
+fn gather(
+    points: &[f64],
+    starts: &[usize],
+    counts: &[usize],
+    role: Role,
+    pitch: f64,
+    b: Bounds,
+    granted: TapVisits,
+    xs: &mut [f64],
+) -> Listed
     requires { ⌜ Windows (now points) (now starts) (now counts) ⌝ }
     requires { ⌜ runs-in (members role pitch (routes (now points) (now starts) (now counts))) < length (now xs) ⌝ }
     ensures { λ r. ⌜ Lists r (now (xs .exit)) (length (now (xs .entry))) (gathered role b (members role pitch (routes (now (points .entry)) (now (starts .entry)) (now (counts .entry)))) (granted .0)) ⌝ }
@@ -120,7 +129,15 @@ fn gather(points: &[f64], starts: &[usize], counts: &[usize], role: Role, pitch:
 
 // The second pass: each candidate is tried on the members in order, one visit paid before each run
 // looked at. Those that are common are kept, at the front of xs.
-fn try_candidates(points: &[f64], starts: &[usize], counts: &[usize], role: Role, pitch: f64, granted: TapVisits, xs: &mut [f64]) -> Listed
+fn try_candidates(
+    points: &[f64],
+    starts: &[usize],
+    counts: &[usize],
+    role: Role,
+    pitch: f64,
+    granted: TapVisits,
+    xs: &mut [f64],
+) -> Listed
     requires { ⌜ Windows (now points) (now starts) (now counts) ⌝ }
     ensures { λ r. ⌜ Lists r (now (xs .exit)) (length (now (xs .entry))) (tried (members role pitch (routes (now (points .entry)) (now (starts .entry)) (now (counts .entry)))) (now (xs .entry)) [] (granted .0)) ⌝ }
 {
@@ -164,9 +181,30 @@ fn is_falling(role: Role) -> bool
     }
 }
 
+// The numbers in the order in which they are tried, equal bits kept once, at the front of xs; the
+// answer is how many there are.
+fn put_in_order(role: Role, xs: &mut [f64], scratch: &mut [f64]) -> usize
+    requires { ⌜ length (now xs) ≤ length (now scratch) ⌝ }
+    ensures { λ r. ⌜ InOrder role (now (xs .entry)) (now (xs .exit)) r ⌝ }
+{
+    let falling = is_falling(role);
+    sorting::sort(falling, xs, scratch);
+    sorting::dedup(falling, xs)
+}
+
 // All common candidates in the order in which they are tried, at the front of xs. What the rest of
 // xs and scratch hold afterwards is left open.
-pub fn common_horizontal_collector_xs(points: &[f64], starts: &[usize], counts: &[usize], role: Role, pitch: f64, b: Bounds, granted: TapVisits, xs: &mut [f64], scratch: &mut [f64]) -> Listed
+pub fn common_horizontal_collector_xs(
+    points: &[f64],
+    starts: &[usize],
+    counts: &[usize],
+    role: Role,
+    pitch: f64,
+    b: Bounds,
+    granted: TapVisits,
+    xs: &mut [f64],
+    scratch: &mut [f64],
+) -> Listed
     requires { ⌜ Windows (now points) (now starts) (now counts) ⌝ }
     requires { ⌜ runs-in (members role pitch (routes (now points) (now starts) (now counts))) < length (now xs) ⌝ }
     requires { ⌜ length (now xs) ≤ length (now scratch) ⌝ }
@@ -176,22 +214,40 @@ pub fn common_horizontal_collector_xs(points: &[f64], starts: &[usize], counts: 
     match g {
         Listed::Spent => Listed::Spent,
         Listed::All(n, left) => {
-            let falling = is_falling(role);
-            sorting::sort(falling, &mut xs[..n], scratch);
-            let k = sorting::dedup(falling, &mut xs[..n]);
+            let k = put_in_order(role, &mut xs[..n], scratch);
             try_candidates(points, starts, counts, role, pitch, left, &mut xs[..k])
         }
     }
 }
 
 // The first of them.
-pub fn common_horizontal_collector_x(points: &[f64], starts: &[usize], counts: &[usize], role: Role, pitch: f64, b: Bounds, granted: TapVisits, xs: &mut [f64], scratch: &mut [f64]) -> Searched
+pub fn common_horizontal_collector_x(
+    points: &[f64],
+    starts: &[usize],
+    counts: &[usize],
+    role: Role,
+    pitch: f64,
+    b: Bounds,
+    granted: TapVisits,
+    xs: &mut [f64],
+    scratch: &mut [f64],
+) -> Searched
     requires { ⌜ Windows (now points) (now starts) (now counts) ⌝ }
     requires { ⌜ runs-in (members role pitch (routes (now points) (now starts) (now counts))) < length (now xs) ⌝ }
     requires { ⌜ length (now xs) ≤ length (now scratch) ⌝ }
     ensures { λ r. ⌜ r ≡ search-of role b (members role pitch (routes (now (points .entry)) (now (starts .entry)) (now (counts .entry)))) (granted .0) ⌝ }
 {
-    let g = common_horizontal_collector_xs(points, starts, counts, role, pitch, b, granted, xs, scratch);
+    let g = common_horizontal_collector_xs(
+        points,
+        starts,
+        counts,
+        role,
+        pitch,
+        b,
+        granted,
+        xs,
+        scratch,
+    );
     match g {
         Listed::Spent => Searched {
             outcome: Outcome::Spent,
