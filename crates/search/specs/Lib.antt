@@ -1,2 +1,4 @@
 pub mod Stretches
 pub mod Search
+pub mod Count
+pub mod Cost
