@@ -2,3 +2,4 @@ pub mod Stretches
 pub mod Search
 pub mod Count
 pub mod Cost
+pub mod Best
