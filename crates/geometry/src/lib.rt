@@ -5,11 +5,14 @@
 // and rounds as the definition that its contract cites says: nothing here has a tolerance but
 // preserved_point_matches.
 ghost use mathlib.Core.Path.{_≡_};
+ghost use Prim.Native.Nat.{_+_, _*_, _<_};
+ghost use lib.ListN.{length};
 ghost use Rattle.geometry.specs.Contact.{matches, slanted, across, upright, place, in-line, crossing, meet, at-tap, strict, disallowed, contact};
 ghost use Rattle.geometry.specs.Enters.{inside, passes-inside, enters};
 ghost use Rattle.geometry.specs.Spacing.{overlap-positive, too-close};
 ghost use Rattle.geometry.specs.Stretch.{stretch, holds, on-trunk};
 ghost use Rattle.geometry.specs.Line.{on-level, on-upright, on-line};
+ghost use Rattle.geometry.specs.Points.{point-at};
 ghost use Rattle.geometry.specs.Port.{port-point};
 
 // Two coordinates.
@@ -464,5 +467,18 @@ pub fn port_point(node: Node, side: Side, offset: f64) -> Point
             x: corner.x,
             y: corner.y + offset,
         },
+    }
+}
+
+// ---- points of a slice
+
+// Point i of a lent slice of coordinates: x at 2 i, y at 2 i + 1.
+pub fn point_at(points: &[f64], i: usize) -> Point
+    requires { ⌜ 2 * i + 1 < length (now points) ⌝ }
+    ensures { λ r. ⌜ r ≡ point-at (now (points .entry)) i ⌝ }
+{
+    Point {
+        x: points[2 * i],
+        y: points[2 * i + 1],
     }
 }

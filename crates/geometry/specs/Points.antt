@@ -1,0 +1,23 @@
+-- A route as a list of points, its runs, and where its points stand in a slice of numbers. Definitions only.
+-- Assumes nothing.
+use Prim.Native.Nat.{ℕ, zero, suc, _+_, _*_}
+use mathlib.Core.List.{List, [], _∷_}
+use lib.Ieee.{Float, nan}
+use lib.ListN.{getD}
+use Rattle.geometry.specs.declared.Point.{Point}
+use Rattle.geometry.specs.declared.Segment.{Segment}
+
+-- Document 01's term "run": from a point of a route to the next. points.windows(2) of the Rust.
+unfoldable pub runs : List Point → List Segment
+runs [] = []
+runs (a ∷ []) = []
+runs (a ∷ b ∷ r) = record { start = a; end = b } ∷ runs (b ∷ r)
+
+-- point i of a slice: x at 2 i, y at 2 i + 1
+unfoldable pub point-at : List Float → ℕ → Point
+point-at s i = record { x = getD s (2 * i) nan; y = getD s (2 * i + 1) nan }
+
+-- the route that is a window of a slice: count points from point start on
+unfoldable pub points-from : List Float → ℕ → ℕ → List Point
+points-from s start zero = []
+points-from s start (suc count) = point-at s start ∷ points-from s (suc start) count
