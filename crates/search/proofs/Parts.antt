@@ -1,18 +1,24 @@
 -- What stands at the front of a slice, as parts of it are lent to one function after the other.
 -- Assumes nothing.
 use mathlib.Core.Path.{_≡_, refl, sym, _∙_, ap, subst}
+use mathlib.Core.Bool.{Bool, true, false, cond}
 use mathlib.Core.List.{List, [], _∷_, _++_}
 use Prim.Native.Nat.{ℕ, suc, _+_, _-_, _≤_, _<_}
 use native.Mathlib.Omega.{arith}
-use lib.ListN.{length, getD, take, drop, length-take}
-use lib.Seq.{length-take-le, length-front, take-append-le}
+use lib.ListN.{length, getD, take, drop, length-take, length-drop, length-append, drop-of-length-le}
+use lib.Seq.{length-take-le, length-front, take-append-le, take-append-add, take-all, take-at}
+use native.Mathlib.Nat.{le-refl}
 use lib.Ieee.{Float, nan}
 use Rattle.geometry.specs.declared.Role.{Role}
 use Rattle.geometry.specs.declared.Stretch.{Stretch}
 use Rattle.search.specs.declared.TapVisits.{TapVisits}
+use Rattle.search.specs.declared.Bounds.{Bounds}
 use Rattle.search.specs.declared.Listed.{Listed}
 use Rattle.search.specs.declared.Listed.the-variants as listed
-use Rattle.search.specs.Search.{Listing, listing, spent, told, Fits, Lists, InOrder, in-order, tried, then-tried, first, answer, searched}
+use Rattle.search.specs.Search.{Listing, listing, spent, told, Fits, Lists, InOrder, in-order, tried, then-tried, first, answer, searched, common-xs}
+use Rattle.search.specs.Stretches.{runs-in}
+use Rattle.search.specs.Cost.{listed-few}
+use Rattle.search.specs.Promotion.{adjacent, aimed-at, between, joined, with-adjacent}
 use Rattle.search.specs.declared.Outcome.the-variants.{Found, Nothing, Spent}
 
 -- the numbers lie within a slice that is as long, or longer
@@ -76,3 +82,43 @@ module _ (r : Listed) (xs : List Float) (l : Listing) (are : told r xs ≡ l) wh
 
     pub says-found : 0 < n → n ≤ length xs → answer (Found (getD xs 0 nan)) (v .0) ≡ searched l
     says-found p h = ap (λ (ys : List Float). answer (first ys) (v .0)) (sym (head xs n p h)) ∙ at-count
+
+-- ---- a second search behind the first n numbers
+module _ (xs : List Float) (n : ℕ) (h : n ≤ length xs) where
+  -- the part that is lent, and the slice as it comes back
+  pub back-part : take (length xs - n) (drop n xs) ≡ drop n xs
+  back-part = take-all (length xs - n) (drop n xs) (rw (length-drop n xs) (le-refl _))
+
+  pub back-length : length (take (length xs - n) (drop n xs)) ≡ length xs - n
+  back-length = ap length back-part ∙ length-drop n xs
+
+  pub whole-again : (ys : List Float) → length ys ≡ length xs - n → length (take n xs ++ (ys ++ drop (length xs - n) (drop n xs))) ≡ length xs
+  whole-again ys e =
+      let none : drop (length xs - n) (drop n xs) ≡ [] = let f : length (drop n xs) ≤ length xs - n = rw (length-drop n xs) (le-refl _) in drop-of-length-le (drop n xs) f in
+      rw (none) (omega (arith, length-append (take n xs) (ys ++ []), length-append ys [], length-take-le n xs h))
+
+  module _ (ys rest : List Float) where
+    pub first-kept : take n (take n xs ++ (ys ++ rest)) ≡ take n xs
+    first-kept = take-at (take n xs) (ys ++ rest) n (length-take-le n xs h)
+
+    pub both-lists : (m : ℕ) → m ≤ length ys → take (n + m) (take n xs ++ (ys ++ rest)) ≡ take n xs ++ take m ys
+    both-lists m f =
+        ap (λ (k : ℕ). take (k + m) (take n xs ++ (ys ++ rest))) (sym (length-take-le n xs h)) ∙ take-append-add (take n xs) (ys ++ rest) m
+        ∙ ap (λ (l : List Float). take n xs ++ l) (take-append-le m ys rest f)
+
+module _ (role : Role) (pitch : Float) (b : Bounds) (ms : List (List Stretch)) (xs : List Float) (v : ℕ) (lane : Float) (hl : lane ≡ adjacent role pitch (b .desired)) where
+  at-lane : Float → Listing
+  at-lane x = cond (between b x) (joined role xs (common-xs role (aimed-at b x) ms v)) (listing xs v)
+
+  pub no-second : between b lane ≡ false → listing xs v ≡ with-adjacent role pitch b ms xs v
+  unfolding at-lane
+  no-second e = ap (λ (t : Bool). cond t (joined role xs (common-xs role (aimed-at b lane) ms v)) (listing xs v)) (sym e) ∙ ap at-lane hl
+
+  pub second : between b lane ≡ true → (l : Listing) → l ≡ joined role xs (common-xs role (aimed-at b lane) ms v) → l ≡ with-adjacent role pitch b ms xs v
+  unfolding at-lane
+  second e l h = h ∙ ap (λ (t : Bool). cond t (joined role xs (common-xs role (aimed-at b lane) ms v)) (listing xs v)) (sym e) ∙ ap at-lane hl
+
+-- how many numbers a search lists
+pub count-few : (role : Role) (b : Bounds) (ms : List (List Stretch)) (v : ℕ) (g : Listed) (xs : List Float) (n : ℕ) (w : TapVisits) → g ≡ listed.All n w → n ≤ length xs → told g xs ≡ common-xs role b ms v → n ≤ runs-in ms + 1
+count-few role b ms v g xs n w e h are =
+    omega (arith, length-take-le n xs h, listed-few role b ms v (take n xs) (w .0) (ap (λ (r : Listed). told r xs) (sym e) ∙ are))

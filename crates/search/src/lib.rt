@@ -9,10 +9,11 @@ use geometry::Stretch;
 ghost use mathlib.Core.Path.{_≡_};
 ghost use mathlib.Core.List.{[], _∷_};
 ghost use Prim.Native.Nat.{_+_, _*_, _≤_, _<_};
-ghost use lib.ListN.{length};
+ghost use lib.ListN.{length, take};
 ghost use Rattle.geometry.specs.Stretch.{stretch, holds};
 ghost use Rattle.geometry.specs.Points.{point-at};
 ghost use Rattle.search.specs.Stretches.{members, routes, Windows, runs-in};
+ghost use Rattle.search.specs.Promotion.{adjacent, between, with-adjacent, promotion-xs};
 ghost use Rattle.search.specs.Search.{candidate, gathered, tried, common-xs, search-of, falls, Lists, InOrder};
 
 // Tap visits left: they pay for the looks at runs, and for nothing else.
@@ -23,6 +24,12 @@ pub struct Bounds {
     pub minimum: f64,
     pub desired: f64,
     pub maximum: f64,
+}
+
+// What interior_collector_bounds gives.
+pub enum CollectorBounds {
+    Absent,
+    Between(Bounds),
 }
 
 // What a run has to offer: a candidate, or none.
@@ -265,5 +272,118 @@ pub fn common_horizontal_collector_x(
                 left: left,
             }
         }
+    }
+}
+
+// ---- promotion_collector_candidates
+
+// One pitch beside the desired x.
+fn adjacent_lane(role: Role, pitch: f64, desired: f64) -> f64
+    ensures { λ r. ⌜ r ≡ adjacent role pitch desired ⌝ }
+{
+    match role {
+        Role::Input => desired - pitch,
+        Role::Output => desired + pitch,
+    }
+}
+
+fn is_between(b: Bounds, x: f64) -> bool
+    ensures { λ r. ⌜ r ≡ between b x ⌝ }
+{
+    (x >= b.minimum) & (x <= b.maximum)
+}
+
+// A second search one pitch beside the desired x, behind the first n numbers of xs, which are the
+// first one's list. What the rest of xs and scratch hold afterwards is left open.
+fn add_adjacent(
+    points: &[f64],
+    starts: &[usize],
+    counts: &[usize],
+    role: Role,
+    pitch: f64,
+    b: Bounds,
+    n: usize,
+    left: TapVisits,
+    xs: &mut [f64],
+    scratch: &mut [f64],
+) -> Listed
+    requires { ⌜ Windows (now points) (now starts) (now counts) ⌝ }
+    requires { ⌜ n + runs-in (members role pitch (routes (now points) (now starts) (now counts))) < length (now xs) ⌝ }
+    requires { ⌜ length (now xs) ≤ length (now scratch) ⌝ }
+    ensures { λ r. ⌜ Lists r (now (xs .exit)) (length (now (xs .entry))) (with-adjacent role pitch b (members role pitch (routes (now (points .entry)) (now (starts .entry)) (now (counts .entry)))) (take n (now (xs .entry))) (left .0)) ⌝ }
+{
+    let lane = adjacent_lane(role, pitch, b.desired);
+    if !is_between(b, lane) {
+        return Listed::All(n, left);
+    }
+    let second = Bounds {
+        minimum: b.minimum,
+        desired: lane,
+        maximum: b.maximum,
+    };
+    let g = common_horizontal_collector_xs(
+        points,
+        starts,
+        counts,
+        role,
+        pitch,
+        second,
+        left,
+        &mut xs[n..],
+        scratch,
+    );
+    match g {
+        Listed::Spent => Listed::All(n, TapVisits(0)),
+        Listed::All(m, rest) => {
+            let both = n + m;
+            let k = put_in_order(role, &mut xs[..both], scratch);
+            Listed::All(k, rest)
+        }
+    }
+}
+
+// The candidates of both searches, at the front of xs. What the rest of xs and scratch hold
+// afterwards is left open.
+pub fn promotion_candidates(
+    points: &[f64],
+    starts: &[usize],
+    counts: &[usize],
+    role: Role,
+    pitch: f64,
+    b: Bounds,
+    granted: TapVisits,
+    xs: &mut [f64],
+    scratch: &mut [f64],
+) -> Listed
+    requires { ⌜ Windows (now points) (now starts) (now counts) ⌝ }
+    requires { ⌜ 2 * runs-in (members role pitch (routes (now points) (now starts) (now counts))) + 1 < length (now xs) ⌝ }
+    requires { ⌜ length (now xs) ≤ length (now scratch) ⌝ }
+    ensures { λ r. ⌜ Lists r (now (xs .exit)) (length (now (xs .entry))) (promotion-xs role pitch b (members role pitch (routes (now (points .entry)) (now (starts .entry)) (now (counts .entry)))) (granted .0)) ⌝ }
+{
+    let g = common_horizontal_collector_xs(
+        points,
+        starts,
+        counts,
+        role,
+        pitch,
+        b,
+        granted,
+        xs,
+        scratch,
+    );
+    match g {
+        Listed::Spent => Listed::Spent,
+        Listed::All(n, left) => add_adjacent(
+            points,
+            starts,
+            counts,
+            role,
+            pitch,
+            b,
+            n,
+            left,
+            xs,
+            scratch,
+        ),
     }
 }
