@@ -32,7 +32,6 @@ a ⊖ b = Ieee.sub binary64 a b
 
 infixl 50 _⊕_
 infixl 50 _⊖_
-
 abbrev pub number : ℕ → Float
 number n = Ieee.ofInt binary64 (pos n)
 

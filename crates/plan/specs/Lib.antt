@@ -1,3 +1,9 @@
 pub mod Depths
 pub mod Bounds
 pub mod Plan
+pub mod Through
+pub mod Enough
+pub mod Visits
+pub mod Lone
+pub mod Numbers
+pub mod Planned
