@@ -28,6 +28,7 @@ use Rattle.route.specs.Found.{first-found, last-found, met-on-route}
 use Rattle.route.specs.declared.Line.{Line}
 use Rattle.route.specs.declared.Rewritten.the-variants.{Refused, Made}
 use Rattle.route.specs.Rewrite.{corner, new-points, sequence, joined}
+use Rattle.route.specs.Remade.{new-length}
 use Rattle.route.specs.Contract.{Pushed, Within, told, left-in, Leaves}
 use Rattle.route.specs.Window.{points-length, points-drop, points-take, points-next, put-after, run-at, runs-length, runs-next, runs-none, runs-last}
 
@@ -190,12 +191,6 @@ module _ (line : Line) (x : Float) (src : List Float) (start count : ℕ) (c : C
 
 pub within-run : (found : Crossing) (count i : ℕ) (p : Point) → Within found count → found ≡ On i p → i + 1 < count
 within-run found count i p h e = rw e at h
-
-new-length : (role : Role) (trunk : Bool) (tap turn p : Point) → length (new-points role trunk tap turn p) ≤ 3
-unfolding new-points
-new-length role true tap turn p = omega arith
-new-length Input false tap turn p = omega arith
-new-length Output false tap turn p = omega arith
 
 pub pushed-new : (role : Role) (trunk : Bool) (tap turn p : Point) {s t : List Float} {n m : ℕ} → Pushed s n (new-points role trunk tap turn p) t m → m ≤ n + 3
 pushed-new role trunk tap turn p h = let l = new-length role trunk tap turn p in omega (arith, h .most)

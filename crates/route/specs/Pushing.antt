@@ -4,6 +4,8 @@ use Prim.Native.Nat.{ℕ, zero, suc, _+_, _≤_, _<_}
 use mathlib.Core.Path.{_≡_, refl, sym, ap, _∙_}
 use mathlib.Core.List.{List, [], _∷_, _++_, dropLast, append-nil, append-assoc, List·Memᴰ, List·Memᴰ·head, List·Memᴰ·tail, Memᴰ·cast, Sublistᴰ, Sublistᴰ·slnil, Sublistᴰ·cons, Sublistᴰ·cons-cons, Sublistᴰ·refl, Sublistᴰ·trans}
 use mathlib.Core.Bool.{Bool, true, false, _||_, cond}
+use native.Mathlib.Omega.{arith}
+use lib.ListN.{length}
 use Rattle.geometry.specs.declared.Point.{Point}
 use Rattle.geometry.specs.Contact.{matches}
 use Rattle.route.specs.Route.{Route}
@@ -43,6 +45,11 @@ sub-mem Sublistᴰ·slnil m = m
 sub-mem (Sublistᴰ·cons d) m = List·Memᴰ·tail (sub-mem d m)
 sub-mem (Sublistᴰ·cons-cons e d) (List·Memᴰ·head f) = List·Memᴰ·head (f ∙ e)
 sub-mem (Sublistᴰ·cons-cons e d) (List·Memᴰ·tail m) = List·Memᴰ·tail (sub-mem d m)
+
+pub sub-length : {r s : Route} → Sublistᴰ r s → length r ≤ length s
+sub-length Sublistᴰ·slnil = omega arith
+sub-length (Sublistᴰ·cons d) = let h = sub-length d in omega arith
+sub-length (Sublistᴰ·cons-cons e d) = let h = sub-length d in omega arith
 
 -- ---- the last point that is pushed is the route's last
 
