@@ -8,7 +8,7 @@ use mathlib.Core.Bool.{Bool, true, false, cond, not, _&&_, _||_}
 use native.Mathlib.Omega.{arith}
 use native.Mathlib.Numerals.{add-one}
 use lib.Dec.{eqb, ltb}
-use lib.ListN.{length, take, drop, length-append}
+use lib.ListN.{length, set, take, drop, length-append}
 use lib.Ieee.{Float}
 use borrow.Author.Tests.{ne-eqb, le-ltb}
 use Rattle.geometry.specs.declared.Point.{Point}
@@ -29,6 +29,7 @@ use Rattle.route.specs.declared.Line.{Line}
 use Rattle.route.specs.declared.Rewritten.the-variants.{Refused, Made}
 use Rattle.route.specs.Rewrite.{corner, new-points, sequence, joined}
 use Rattle.route.specs.Remade.{new-length}
+use Rattle.route.specs.Slots.{put-points, length-puts, Held, Stored, stored}
 use Rattle.route.specs.Contract.{Pushed, Within, told, left-in, Leaves}
 use Rattle.route.specs.Window.{points-length, points-drop, points-take, points-next, put-after, run-at, runs-length, runs-next, runs-none, runs-last}
 
@@ -241,3 +242,40 @@ module _ (role : Role) (trunk : Bool) (tap : Point) (x : Float) (found : Crossin
       let c = new-length role trunk tap (corner x tap) p in
       let d = points-length src start (start + i + 1 - start) in
       made i p m t n e f h (rw q (rw q at (j .points))) (omega (arith, a .most, b .most))
+
+-- ---- points copied
+
+module _ (src : List Float) (start n at : ℕ) where
+  -- what is left to copy, i points being copied
+  abbrev pub copied-on : ℕ → List Float → List Float
+  copied-on i t = put-points t (at + i) (points-from src (start + i) (n - i))
+
+  pub copy-start : (s : List Float) → copied-on 0 s ≡ put-points s at (points-from src start n)
+  copy-start s =
+      let a : start + 0 ≡ start = omega arith in
+      let b : n - 0 ≡ n = omega arith in
+      let c : at + 0 ≡ at = omega arith in
+      rw (a, b, c)
+
+  pub copy-step : (t u : List Float) (i : ℕ) (p : Point) → i < n → p ≡ point-at src (start + i) → u ≡ put-point t (at + i) p → copied-on (i + 1) u ≡ copied-on i t
+  unfolding put-points points-from
+  copy-step t u i p h e q =
+      let a : n - i ≡ suc (n - (i + 1)) = omega arith in
+      let b : start + (i + 1) ≡ suc (start + i) = omega arith in
+      let d : at + (i + 1) ≡ suc (at + i) = omega arith in
+      rw (a, b, d, q, e)
+
+  pub copy-end : (t : List Float) (i : ℕ) → n ≤ i → copied-on i t ≡ t
+  unfolding put-points points-from
+  copy-end t i h = let a : n - i ≡ 0 = omega arith in rw a
+
+pub stores : (src s t : List Float) (ns : List ℕ) (start n e : ℕ) → n ≤ 68 → 136 * length ns ≤ length s → e < length ns
+    → t ≡ put-points s (68 * e) (points-from src start n) → Stored s ns e (points-from src start n) t (set ns e n)
+stores src s t ns start n e a b h q =
+    let r = points-from src start n in
+    let l : length r ≡ n = points-length src start n in
+    let m : length r ≤ 68 = omega arith in
+    record {
+      slots = q;
+      counts = rw l;
+      routes = λ v. rw q (rw l at (stored s e r m (omega arith) ns v h)) }

@@ -7,3 +7,4 @@ pub mod Window
 pub mod Pushing
 pub mod Found
 pub mod Remade
+pub mod Slots

@@ -110,17 +110,17 @@ pub length-put : (s : List Float) (k : ℕ) (p : Point) → length (put-point s 
 unfolding put-point
 length-put s k p = simp length-set
 
-put-other : (s : List Float) (k i : ℕ) (p : Point) → i < k → point-at (put-point s k p) i ≡ point-at s i
+pub put-other : (s : List Float) (k i : ℕ) (p : Point) → (i ≡ k → ⊥) → point-at (put-point s k p) i ≡ point-at s i
 unfolding put-point point-at
 put-other s k i p h =
     rw (
       getD-set-other (set s (2 * k) (p .x)) (2 * k + 1) (2 * i) (p .y) nan (λ e. omega arith),
       getD-set-other s (2 * k) (2 * i) (p .x) nan (λ e. omega arith),
-      getD-set-other (set s (2 * k) (p .x)) (2 * k + 1) (2 * i + 1) (p .y) nan (λ e. omega arith),
+      getD-set-other (set s (2 * k) (p .x)) (2 * k + 1) (2 * i + 1) (p .y) nan (λ e. h (omega arith)),
       getD-set-other s (2 * k) (2 * i + 1) (p .x) nan (λ e. omega arith),
     )
 
-put-here : (s : List Float) (k : ℕ) (p : Point) → 2 * k + 1 < length s → point-at (put-point s k p) k ≡ p
+pub put-here : (s : List Float) (k : ℕ) (p : Point) → 2 * k + 1 < length s → point-at (put-point s k p) k ≡ p
 unfolding put-point point-at
 put-here s k p h =
     let a : 2 * k < length s = omega arith in
@@ -135,5 +135,5 @@ put-here s k p h =
 pub put-after : (s : List Float) (k : ℕ) (p : Point) → 2 * k + 1 < length s → points-from (put-point s k p) 0 (k + 1) ≡ points-from s 0 k ++ (p ∷ [])
 put-after s k p h =
     let z : 0 + k ≡ k = omega arith in
-    let stay : points-from (put-point s k p) 0 k ≡ points-from s 0 k = points-same (put-point s k p) s 0 0 k (λ i l. put-other s k (0 + i) p (omega arith)) in
+    let stay : points-from (put-point s k p) 0 k ≡ points-from s 0 k = points-same (put-point s k p) s 0 0 k (λ i l. put-other s k (0 + i) p (λ e. omega arith)) in
     rw (add-one, points-last (put-point s k p) 0 k, z, put-here s k p h, stay)

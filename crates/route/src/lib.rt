@@ -14,6 +14,7 @@ ghost use Rattle.route.specs.Push.{aligned, replaces, push-point};
 ghost use Rattle.route.specs.Intersection.{meets, first-met, last-met, first-vertical-line-intersection, last-vertical-line-intersection, first-shared-trunk-intersection, last-shared-trunk-intersection};
 ghost use Rattle.route.specs.Rewrite.{new-points, joined, rewrite-input-shared-trunk, rewrite-output-shared-trunk, rewrite-input-route, rewrite-output-route};
 ghost use Rattle.route.specs.Contract.{Pushed, Within, Leaves};
+ghost use Rattle.route.specs.Slots.{put-points, Stored};
 use geometry::Hit;
 use geometry::Point;
 use geometry::Role;
@@ -418,4 +419,30 @@ pub fn rewrite_output_route(
         count,
         &mut out[..],
     )
+}
+
+// ---- present routes in slots: the route of edge e is in the 68 points from point 68 e on, and
+// counts has how many points it has
+
+// The points of a window, written into another slice from point at on.
+fn copy_points(points: &[f64], start: usize, count: usize, out: &mut [f64], at: usize)
+    requires { ⌜ (2 * (start + count) ≤ length (now points)) × (2 * (at + count) ≤ length (now out)) ⌝ }
+    ensures { λ _. ⌜ now (out .exit) ≡ put-points (now (out .entry)) at (points-from (now (points .entry)) start count) ⌝ }
+{
+    let mut i: usize = 0;
+    while i < count {
+        let p = point_at(points, start + i);
+        put_point(&mut out[..], at + i, p);
+        i += 1;
+    }
+}
+
+// The route of edge e becomes a window of another slice: a rewritten route of the scratch, or a
+// given one of the job's points.
+pub fn store_route(points: &[f64], start: usize, count: usize, slots: &mut [f64], counts: &mut [usize], e: usize)
+    requires { ⌜ (2 * (start + count) ≤ length (now points)) × (count ≤ 68) × (136 * length (now counts) ≤ length (now slots)) × (e < length (now counts)) ⌝ }
+    ensures { λ _. ⌜ Stored (now (slots .entry)) (now (counts .entry)) e (points-from (now (points .entry)) start count) (now (slots .exit)) (now (counts .exit)) ⌝ }
+{
+    copy_points(points, start, count, &mut slots[..], 68 * e);
+    counts[e] = count;
 }
