@@ -4,10 +4,3 @@ pub mod Enters
 pub mod Stretch
 pub mod Line
 pub mod Port
-pub mod Exact
-pub mod Promise
-pub mod Between
-pub mod Near
-pub mod Meeting
-pub mod Theorem
-pub mod Outside
