@@ -278,4 +278,5 @@ stores src s t ns start n e a b h q =
     record {
       slots = q;
       counts = rw l;
-      routes = λ v. rw q (rw l at (stored s e r m (omega arith) ns v h)) }
+      routes = λ v. rw q (rw l at (stored s e r m (omega arith) ns v h));
+    }

@@ -110,7 +110,7 @@ fn push_three(out: &mut [f64], count: usize, a: Point, b: Point, c: Point) -> us
 }
 
 // The points of a slice from place start to before place end, pushed one after the other.
-fn push_points(points: &[f64], start: usize, end: usize, out: &mut [f64], count: usize) -> usize
+pub fn push_points(points: &[f64], start: usize, end: usize, out: &mut [f64], count: usize) -> usize
     requires { ⌜ (start ≤ end) × (2 * end ≤ length (now points)) × (2 * (count + (end - start)) ≤ length (now out)) ⌝ }
     ensures { λ r. ⌜ Pushed (now (out .entry)) count (points-from (now (points .entry)) start (end - start)) (now (out .exit)) r ⌝ }
 {
@@ -439,7 +439,14 @@ fn copy_points(points: &[f64], start: usize, count: usize, out: &mut [f64], at: 
 
 // The route of edge e becomes a window of another slice: a rewritten route of the scratch, or a
 // given one of the job's points.
-pub fn store_route(points: &[f64], start: usize, count: usize, slots: &mut [f64], counts: &mut [usize], e: usize)
+pub fn store_route(
+    points: &[f64],
+    start: usize,
+    count: usize,
+    slots: &mut [f64],
+    counts: &mut [usize],
+    e: usize,
+)
     requires { ⌜ (2 * (start + count) ≤ length (now points)) × (count ≤ 68) × (136 * length (now counts) ≤ length (now slots)) × (e < length (now counts)) ⌝ }
     ensures { λ _. ⌜ Stored (now (slots .entry)) (now (counts .entry)) e (points-from (now (points .entry)) start count) (now (slots .exit)) (now (counts .exit)) ⌝ }
 {

@@ -17,7 +17,7 @@ abbrev μ-loop : tie.MeasureT-loop
 μ-loop points start count out₀ at i₀ out i = count - i
 
 loop-holds : tie.Need-loop-holds Inv-loop μ-loop
-loop-holds c = 
+loop-holds c =
     let a = c .before .before .args in
     (omega arith, refl, copy-start (now (a .points)) (a .start) (a .count) (a .at) (now (a .out)))
 
@@ -40,19 +40,21 @@ loop-less : tie.Need-loop-less Inv-loop μ-loop
 loop-less c = search needs
 
 loop-again : tie.Need-loop-again Inv-loop μ-loop
-loop-again c = 
+loop-again c =
     let a = c .before .before .before .before .before .before .before .before .before .args in
     let l = c .before .before .before .before .before .before .loop in
     let f = c .before .before .put-point in
-    let k = f .kept .0 in
-    (omega arith, omega arith,
-    copy-step (now (a .points)) (a .start) (a .count) (a .at) (l .out) (f .last .0) (l .i) (c .before .before .before .before .point-at .result) (c .before .before .before .before .before .loop-test .taken) (c .before .before .before .before .point-at .ensures) (f .ensures) ∙ l .inv .2)
+    let k = f .kept .0 in (
+      omega arith,
+      omega arith,
+      copy-step (now (a .points)) (a .start) (a .count) (a .at) (l .out) (f .last .0) (l .i) (c .before .before .before .before .point-at .result) (c .before .before .before .before .before .loop-test .taken) (c .before .before .before .before .point-at .ensures) (f .ensures) ∙ l .inv .2,
+    )
 
 same-length : tie.Need-same-length Inv-loop μ-loop
 same-length c = search needs
 
 returns : tie.Need-returns Inv-loop μ-loop
-returns c = 
+returns c =
     let a = c .before .before .before .before .args in
     let l = c .before .loop in
     sym (copy-end (now (a .points)) (a .start) (a .count) (a .at) (l .out) (l .i) (c .loop-test .left)) ∙ l .inv .2
