@@ -1,0 +1,10 @@
+pub mod Route
+pub mod Push
+pub mod Intersection
+pub mod Rewrite
+pub mod Contract
+pub mod Window
+pub mod Pushing
+pub mod Found
+pub mod Remade
+pub mod Slots
