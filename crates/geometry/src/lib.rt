@@ -12,7 +12,7 @@ ghost use Rattle.geometry.specs.Enters.{inside, passes-inside, enters};
 ghost use Rattle.geometry.specs.Spacing.{overlap-positive, too-close};
 ghost use Rattle.geometry.specs.Stretch.{stretch, holds, on-trunk};
 ghost use Rattle.geometry.specs.Line.{on-level, on-upright, on-line};
-ghost use Rattle.geometry.specs.Points.{point-at};
+ghost use Rattle.geometry.specs.Points.{point-at, put-point};
 ghost use Rattle.geometry.specs.Port.{port-point};
 
 // Two coordinates.
@@ -481,4 +481,12 @@ pub fn point_at(points: &[f64], i: usize) -> Point
         x: points[2 * i],
         y: points[2 * i + 1],
     }
+}
+
+pub fn put_point(out: &mut [f64], i: usize, p: Point)
+    requires { ⌜ 2 * i + 1 < length (now out) ⌝ }
+    ensures { λ _. ⌜ now (out .exit) ≡ put-point (now (out .entry)) i p ⌝ }
+{
+    out[2 * i] = p.x;
+    out[2 * i + 1] = p.y;
 }

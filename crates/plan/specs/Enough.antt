@@ -12,7 +12,8 @@ use Rattle.binary64.specs.Order.{least, greatest}
 use Rattle.geometry.specs.declared.Role.{Role}
 use Rattle.geometry.specs.declared.Role.the-variants.{Input, Output}
 use Rattle.board.specs.declared.Bundle.{Bundle}
-use Rattle.board.specs.Board.{Board, Route}
+use Rattle.geometry.specs.Points.{Route}
+use Rattle.board.specs.Board.{Board}
 use Rattle.plan.specs.declared.Bound.{Bound}
 use Rattle.plan.specs.declared.Bound.the-variants.{None, At}
 use Rattle.search.specs.declared.Bounds.{Bounds}

@@ -27,9 +27,9 @@ use Rattle.board.specs.declared.Port.{Port}
 use Rattle.board.specs.declared.Bundle.{Bundle}
 use Rattle.board.specs.declared.Member.{Member}
 use Rattle.geometry.specs.Port.{port-point}
-use Rattle.geometry.specs.Points.{runs}
+use Rattle.geometry.specs.Points.{Route, runs}
 use Rattle.geometry.specs.Stretch.{from-to, shortened, stretch}
-use Rattle.board.specs.Board.{Board, Route, rail-depth}
+use Rattle.board.specs.Board.{Board, rail-depth}
 use Rattle.plan.specs.declared.Used.{Used}
 use Rattle.plan.specs.declared.Bound.{Bound}
 use Rattle.plan.specs.declared.Bound.the-variants as bound

@@ -7,7 +7,8 @@ use Prim.Native.Nat.{ℕ, _-_, _≤_}
 use native.Mathlib.Omega.{arith}
 use lib.Dec.{leb}
 use Rattle.geometry.specs.declared.Role.{Role}
-use Rattle.board.specs.Board.{Board, Route}
+use Rattle.geometry.specs.Points.{Route}
+use Rattle.board.specs.Board.{Board}
 use Rattle.search.specs.declared.Bounds.{Bounds}
 use Rattle.geometry.specs.declared.Stretch.{Stretch}
 use Rattle.search.specs.declared.Searched.{Searched}

@@ -18,7 +18,7 @@ use Rattle.geometry.specs.declared.Role.the-variants.{Input, Output}
 use Rattle.geometry.specs.declared.Hit.{Hit}
 use Rattle.geometry.specs.declared.Hit.the-variants.{Missed, Met}
 use Rattle.geometry.specs.Contact.{matches}
-use Rattle.route.specs.Route.{Route, runs, point-at, put-point, points-from}
+use Rattle.geometry.specs.Points.{Route, runs, point-at, put-point, points-from}
 use Rattle.route.specs.Push.{aligned, replaces, push-point, push-points}
 use Rattle.route.specs.Pushing.{push-append}
 use Rattle.route.specs.declared.Crossing.{Crossing}

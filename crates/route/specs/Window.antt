@@ -10,7 +10,7 @@ use lib.Seq.{getD-set-same, getD-set-other}
 use lib.Ieee.{Float, nan}
 use Rattle.geometry.specs.declared.Point.{Point}
 use Rattle.geometry.specs.declared.Segment.{Segment}
-use Rattle.route.specs.Route.{Route, runs, point-at, put-point, points-from}
+use Rattle.geometry.specs.Points.{Route, runs, point-at, put-point, points-from}
 
 -- ---- points
 

@@ -9,7 +9,7 @@ ghost use mathlib.Core.Path.{_≡_};
 ghost use mathlib.Core.List.{[], _∷_};
 ghost use Prim.Native.Nat.{_+_, _*_, _-_, _<_, _≤_};
 ghost use lib.ListN.{length};
-ghost use Rattle.route.specs.Route.{point-at, put-point, points-from, runs};
+ghost use Rattle.geometry.specs.Points.{point-at, put-point, points-from, runs};
 ghost use Rattle.route.specs.Push.{aligned, replaces, push-point};
 ghost use Rattle.route.specs.Intersection.{meets, first-met, last-met, first-vertical-line-intersection, last-vertical-line-intersection, first-shared-trunk-intersection, last-shared-trunk-intersection};
 ghost use Rattle.route.specs.Rewrite.{new-points, joined, rewrite-input-shared-trunk, rewrite-output-shared-trunk, rewrite-input-route, rewrite-output-route};
@@ -38,26 +38,6 @@ pub enum Rewritten {
     Made(usize),
 }
 
-// ---- points of a slice
-
-pub fn point_at(points: &[f64], i: usize) -> Point
-    requires { ⌜ 2 * i + 1 < length (now points) ⌝ }
-    ensures { λ r. ⌜ r ≡ point-at (now (points .entry)) i ⌝ }
-{
-    Point {
-        x: points[2 * i],
-        y: points[2 * i + 1],
-    }
-}
-
-fn put_point(out: &mut [f64], i: usize, p: Point)
-    requires { ⌜ 2 * i + 1 < length (now out) ⌝ }
-    ensures { λ _. ⌜ now (out .exit) ≡ put-point (now (out .entry)) i p ⌝ }
-{
-    out[2 * i] = p.x;
-    out[2 * i + 1] = p.y;
-}
-
 // ---- push_point
 
 fn is_aligned(a: Point, b: Point, p: Point) -> bool
@@ -74,14 +54,14 @@ fn replaces_last(points: &[f64], count: usize, point: Point) -> bool
     if count == 0 {
         return false;
     }
-    let last = point_at(points, count - 1);
+    let last = geometry::point_at(points, count - 1);
     if geometry::preserved_point_matches(last, point) {
         return true;
     }
     if count < 2 {
         return false;
     }
-    let before = point_at(points, count - 2);
+    let before = geometry::point_at(points, count - 2);
     is_aligned(before, last, point)
 }
 
@@ -92,10 +72,10 @@ pub fn push_point(points: &mut [f64], count: usize, point: Point) -> usize
     ensures most { λ r. ⌜ r ≤ count + 1 ⌝ }
 {
     if replaces_last(&points[..], count, point) {
-        put_point(&mut points[..], count - 1, point);
+        geometry::put_point(&mut points[..], count - 1, point);
         return count;
     }
-    put_point(&mut points[..], count, point);
+    geometry::put_point(&mut points[..], count, point);
     count + 1
 }
 
@@ -117,7 +97,7 @@ pub fn push_points(points: &[f64], start: usize, end: usize, out: &mut [f64], co
     let mut n = count;
     let mut i = start;
     while i < end {
-        let p = point_at(points, i);
+        let p = geometry::point_at(points, i);
         n = push_point(&mut out[..], n, p);
         i += 1;
     }
@@ -152,8 +132,8 @@ fn first_crossing(line: Line, x: f64, points: &[f64], start: usize, count: usize
 {
     let mut i: usize = 0;
     while i + 1 < count {
-        let a = point_at(points, start + i);
-        let b = point_at(points, start + i + 1);
+        let a = geometry::point_at(points, start + i);
+        let b = geometry::point_at(points, start + i + 1);
         let h = line_on_run(line, x, a, b);
         match h {
             Hit::Met(p) => {
@@ -174,8 +154,8 @@ fn last_crossing(line: Line, x: f64, points: &[f64], start: usize, count: usize)
     while left > 1 {
         left -= 1;
         let i = left - 1;
-        let a = point_at(points, start + i);
-        let b = point_at(points, start + i + 1);
+        let a = geometry::point_at(points, start + i);
+        let b = geometry::point_at(points, start + i + 1);
         let h = line_on_run(line, x, a, b);
         match h {
             Hit::Met(p) => {
@@ -431,8 +411,8 @@ fn copy_points(points: &[f64], start: usize, count: usize, out: &mut [f64], at: 
 {
     let mut i: usize = 0;
     while i < count {
-        let p = point_at(points, start + i);
-        put_point(&mut out[..], at + i, p);
+        let p = geometry::point_at(points, start + i);
+        geometry::put_point(&mut out[..], at + i, p);
         i += 1;
     }
 }

@@ -82,7 +82,7 @@ fn put_points(points: &[f64], count: usize, out: &mut [u8], start: usize) -> usi
     wire::put16(&mut out[..], start, count as u32);
     let mut i: usize = 0;
     while i < count {
-        let p = route::point_at(points, i);
+        let p = geometry::point_at(points, i);
         put_point(p, &mut out[..], start + 2 + 16 * i);
         i += 1;
     }

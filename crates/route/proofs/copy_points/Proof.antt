@@ -1,6 +1,6 @@
 use Rattle.route.proofs.Laws.{copied-on, copy-start, copy-step, copy-end}
 use Rattle.route.specs.Slots.{put-points}
-use Rattle.route.specs.Route.{points-from}
+use Rattle.geometry.specs.Points.{points-from}
 use lib.ListN.{length}
 use Prim.Native.Nat.{_≤_, _+_, _-_, _*_}
 use denote.Ref.{now}

@@ -1,6 +1,6 @@
 use Rattle.route.proofs.Laws.{later, first-start, first-hit, first-miss, first-end}
 use Rattle.route.specs.Intersection.{meets, first-met}
-use Rattle.route.specs.Route.{points-from, runs}
+use Rattle.geometry.specs.Points.{points-from, runs}
 use lib.ListN.{length}
 use Prim.Native.Nat.{_≤_, _+_, _-_, _*_}
 use denote.Ref.{now}

@@ -1,6 +1,6 @@
 use Rattle.route.proofs.Laws.{last-hit, last-miss, last-end}
 use Rattle.route.specs.Intersection.{meets, last-met}
-use Rattle.route.specs.Route.{points-from, runs}
+use Rattle.geometry.specs.Points.{points-from, runs}
 use lib.ListN.{length}
 use Prim.Native.Nat.{_≤_, _+_, _-_, _*_}
 use denote.Ref.{now}

@@ -1,7 +1,7 @@
 use Rattle.route.proofs.Laws.{push-step}
 use Rattle.route.specs.Window.{points-none, points-length}
 use Rattle.route.specs.Push.{push-points}
-use Rattle.route.specs.Route.{points-from}
+use Rattle.geometry.specs.Points.{points-from}
 use lib.ListN.{length}
 use Prim.Native.Nat.{_≤_, _<_, _+_, _-_, _*_}
 use denote.Ref.{now}
