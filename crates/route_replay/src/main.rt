@@ -9,19 +9,16 @@ use geometry::Role;
 use route::Crossing;
 use route::Rewritten;
 
-// ---- fields of a record; what is past its end is 0
+// ---- fields of a record; a number that is no coordinate, or past its end, is 0
 
 fn number_at(record: &[u8], at: usize) -> f64
     requires { ⌜ at < 4096 ⌝ }
 {
-    if at + 8 > record.len() {
-        return 0.0;
+    let n = wire::coordinate_at(record, at);
+    match n {
+        wire::Number::Good(x) => x,
+        wire::Number::Bad(_) => 0.0,
     }
-    let b = wire::be64(record, at);
-    if b % 0x8000000000000000 > 0x7ff0000000000000 {
-        return 0.0;
-    }
-    f64::from_bits(b)
 }
 
 fn point_at(record: &[u8], at: usize) -> Point
@@ -71,7 +68,7 @@ fn put_point(p: Point, out: &mut [u8], at: usize)
     wire::put_number(&mut out[..], at + 8, p.y);
 }
 
-// A tag of 1, if it is wanted, and the first count points of a slice; answers where they end.
+// The first count points of a slice; answers where they end.
 fn put_points(points: &[f64], count: usize, out: &mut [u8], start: usize) -> usize
     requires { ⌜ (136 ≤ length (now points)) × (start < 10) × (2048 ≤ length (now out)) ⌝ }
     ensures { λ r. ⌜ r ≤ 2048 ⌝ }
@@ -95,14 +92,15 @@ fn put_crossing(c: Crossing, out: &mut [u8]) -> usize
 {
     match c {
         Crossing::Nowhere => {
-            out[4] = 0;
+            wire::put8(&mut out[..], 4, 0);
             5
         }
         Crossing::On(i, p) => {
-            out[4] = 1;
-            if i < 65536 {
-                wire::put16(&mut out[..], 5, i as u32);
+            if i > 65535 {
+                return 4;
             }
+            wire::put8(&mut out[..], 4, 1);
+            wire::put16(&mut out[..], 5, i as u32);
             put_point(p, &mut out[..], 7);
             23
         }
@@ -115,11 +113,11 @@ fn put_rewritten(r: Rewritten, scratch: &[f64], out: &mut [u8]) -> usize
 {
     match r {
         Rewritten::Refused => {
-            out[4] = 0;
+            wire::put8(&mut out[..], 4, 0);
             5
         }
         Rewritten::Made(n) => {
-            out[4] = 1;
+            wire::put8(&mut out[..], 4, 1);
             put_points(scratch, n, &mut out[..], 5)
         }
     }
