@@ -15,7 +15,7 @@ struct Patch {
 }
 
 // README.md lists these line by line.
-const PATCHES: [Patch; 7] = [
+const PATCHES: [Patch; 11] = [
     Patch {
         name: "tap grant: parameters",
         from: "    separate_same_role_collectors: bool,
@@ -62,7 +62,40 @@ fn collector_has_lane_separation(",
                 *clamp_refused = true;
                 return planned;
             }
+            harness::note(harness::Event::Split);
             let input_split = (earliest_separated_output
+",
+    },
+    Patch {
+        name: "events: a component with both roles",
+        from: "        let feasible_low = inputs
+",
+        to: "        harness::note(harness::Event::Chain);
+        let feasible_low = inputs
+",
+    },
+    Patch {
+        name: "events: given up",
+        from: "        if feasible_low + context.pitch > latest_output_limit {
+",
+        to: "        if feasible_low + context.pitch > latest_output_limit {
+            harness::note(harness::Event::GivenUp);
+",
+    },
+    Patch {
+        name: "events: input limit",
+        from: "        if required_output_x > latest_output_limit {
+",
+        to: "        if required_output_x > latest_output_limit {
+            harness::note(harness::Event::Limit);
+",
+    },
+    Patch {
+        name: "events: same-role separation",
+        from: "                let desired = match range.role {
+",
+        to: "                harness::note(harness::Event::Separation);
+                let desired = match range.role {
 ",
     },
     Patch {

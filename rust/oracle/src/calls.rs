@@ -53,6 +53,7 @@ pub mod op {
     pub const SHEET: u8 = 0x39;
     pub const SUFFICIENT: u8 = 0x3a;
     pub const PLANNING: u8 = 0x3b;
+    pub const EVENTS: u8 = 0x3c;
 
     pub const STAGE: u8 = 0x40;
 }
@@ -388,6 +389,7 @@ fn on_job(operation: u8, from: &mut Reader<'_>, out: &mut Writer) -> Made {
             write_sheet(out, &board, &planned);
         }
         op::SUFFICIENT => write_sufficient(out, &board),
+        op::EVENTS => write_events(out, &board),
         op::PLANNING => {
             out.u8(0);
             write_offsets(out, &board);
@@ -509,6 +511,23 @@ fn write_sufficient(out: &mut Writer, board: &Board) {
             out.u32(sufficient.searches as u32);
             out.u64(sufficient.sum);
             out.u64(sufficient.visits);
+        }
+        None => out.u8(13),
+    }
+}
+
+fn write_events(out: &mut Writer, board: &Board) {
+    let graph = board.graph();
+    let visits = board.tap_visits as usize;
+    match board
+        .prepare(&graph)
+        .events(&board.routes, board.separate, visits)
+    {
+        Some(counts) => {
+            out.u8(0);
+            for count in counts {
+                out.u16(count as u16);
+            }
         }
         None => out.u8(13),
     }

@@ -11,6 +11,23 @@ thread_local! {
     static INTERIOR: Cell<bool> = const { Cell::new(false) };
     static SEARCHES: Cell<u64> = const { Cell::new(0) };
     static SEARCH_COST: Cell<u64> = const { Cell::new(0) };
+    static EVENTS: Cell<[u32; 5]> = const { Cell::new([0; 5]) };
+}
+
+/// What happens in a plan; the copy notes each as it comes to it.
+#[derive(Clone, Copy, Debug, Eq, PartialEq)]
+pub(super) enum Event {
+    Chain,
+    GivenUp,
+    Split,
+    Limit,
+    Separation,
+}
+
+pub(super) fn note(event: Event) {
+    let mut counts = EVENTS.get();
+    counts[event as usize] += 1;
+    EVENTS.set(counts);
 }
 
 /// Called by the copy with the outcome of the interior test of rewrite_member_routes.
@@ -257,6 +274,18 @@ impl<'board, 'graph> Prepared<'board, 'graph> {
             &mut clamp_refused,
         );
         (!clamp_refused).then_some(planned)
+    }
+
+    /// Chains, given up, splits, input limits and separations of the plan from this grant.
+    pub(crate) fn events(
+        &self,
+        routes: &[EdgeGeometry],
+        separate: bool,
+        mut visits: usize,
+    ) -> Option<[u32; 5]> {
+        EVENTS.set([0; 5]);
+        self.plan(routes, separate, &mut visits)?;
+        Some(EVENTS.get())
     }
 
     /// The sum of n * (n + 2) over the searches of a plan whose visits never run out, and the
