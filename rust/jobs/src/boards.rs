@@ -671,3 +671,58 @@ pub fn nothing_common(rng: &mut Rng) -> Draft {
     });
     draft
 }
+
+/// One chain on a board hardly wide enough for it; most lanes are 0.
+pub fn narrow(rng: &mut Rng) -> Draft {
+    let mut draft = Draft {
+        separate: rng.chance(1, 2),
+        crossings: rng.chance(1, 2),
+        stub: rng.between(0, 4),
+        gap: rng.between(1, 6),
+        clearance: rng.pick(&[0, 0, 3]),
+        reserve: rng.between(0, 4),
+        ..Draft::default()
+    };
+    let (pitch, rail) = (draft.pitch(), draft.rail());
+    let members = 2 + rng.below(2) as i64;
+    let span = 2 * rail + rng.between(pitch, 6 * pitch);
+    let left = draft.node(-10, -10, 10, 20);
+    let right = draft.node(span, -10, 10, 20);
+    let source = draft.port_at(left, EAST, 0);
+    let to_y = rng.between(-3, 3);
+    let target = draft.port_at(right, WEST, to_y);
+    let mut edges = Vec::new();
+    for member in 0..members {
+        let y = member * (pitch + 2);
+        let z = rng.pick(&[y, y, y + 1]);
+        let a = rng.between(0, span / 3);
+        let b = rng.between(a, span);
+        let c = rng.between(b, span);
+        let points = vec![
+            (0, 0),
+            (a, 0),
+            (a, y),
+            (b, y),
+            (b, z),
+            (c, z),
+            (c, to_y),
+            (span, to_y),
+        ];
+        edges.push(draft.edge(source, target, points));
+    }
+    let even = rng.chance(2, 3);
+    for (port, role) in [(source, INPUT), (target, OUTPUT)] {
+        draft.bundles.push(DraftBundle {
+            port,
+            role,
+            width: members as u32,
+            members: edges
+                .iter()
+                .enumerate()
+                .map(|(lane, &edge)| (edge, if even { 0 } else { lane as u16 }))
+                .collect(),
+        });
+    }
+    draft.shuffle(rng);
+    draft
+}

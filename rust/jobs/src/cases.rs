@@ -107,19 +107,42 @@ fn leaf(rng: &mut Rng, _: u64) -> Vec<u8> {
     match operation {
         op::STRETCH => {
             out.u8(rng.below(2) as u8);
-            put_run(&mut out, rightward(rng, &palette));
-            out.f64(palette.length(rng));
+            let run = rightward(rng, &palette);
+            put_run(&mut out, run);
+            out.f64(some_length(rng, &palette, run));
         }
         op::CONTACT => contact(rng, &palette, &mut out),
         op::SPACING => {
-            put_run(&mut out, palette.run(rng));
-            put_run(&mut out, palette.run(rng));
-            out.f64(palette.length(rng));
+            let (left, mut right) = (palette.run(rng), palette.run(rng));
+            if rng.chance(1, 2) {
+                // Both level or both upright.
+                right.1 = match left.0.1 == left.1.1 {
+                    true => (palette.any(rng), right.0.1),
+                    false => (right.0.0, palette.any(rng)),
+                };
+            }
+            put_run(&mut out, left);
+            put_run(&mut out, right);
+            let apart = match left.0.1 == left.1.1 {
+                true => (left.0.1 - right.0.1).abs(),
+                false => (left.0.0 - right.0.0).abs(),
+            };
+            let spacing = match rng.below(4) {
+                0 => near(rng, apart).abs(),
+                1 => clean(apart * 2.0),
+                _ => palette.length(rng),
+            };
+            out.f64(spacing);
         }
         op::INTERIOR => {
             put(&mut out, palette.point(rng));
-            out.f64(palette.length(rng));
-            out.f64(palette.length(rng));
+            for _ in 0..2 {
+                let size = match rng.chance(1, 2) {
+                    true => palette.distance(rng),
+                    false => palette.length(rng),
+                };
+                out.f64(size);
+            }
             put_run(&mut out, palette.run(rng));
         }
         op::PORT_POINT => {
@@ -138,10 +161,12 @@ fn leaf(rng: &mut Rng, _: u64) -> Vec<u8> {
             out.u8(rng.below(2) as u8);
             let run = rightward(rng, &palette);
             put_run(&mut out, run);
-            let length = palette.length(rng);
-            out.f64(match rng.below(4) {
+            let length = some_length(rng, &palette, run);
+            out.f64(match rng.below(6) {
                 0 => run.0.0,
-                1 => clean(run.1.0 - length),
+                1 => run.1.0,
+                2 => clean(run.0.0 + length),
+                3 => clean(run.1.0 - length),
                 _ => palette.any(rng),
             });
             out.f64(length);
@@ -184,11 +209,22 @@ fn leaf(rng: &mut Rng, _: u64) -> Vec<u8> {
 
 /// A run that mostly is usable.
 fn rightward(rng: &mut Rng, palette: &Palette) -> ((f64, f64), (f64, f64)) {
-    let (start, mut end) = palette.run(rng);
-    if rng.chance(2, 3) {
-        end = (palette.any(rng).max(end.0), start.1);
+    match rng.below(3) {
+        0 => palette.run(rng),
+        _ => palette.wide(rng),
     }
-    (start, end)
+}
+
+/// A length that is often at most the run's, or just about it.
+fn some_length(rng: &mut Rng, palette: &Palette, run: ((f64, f64), (f64, f64))) -> f64 {
+    let whole = (run.1.0 - run.0.0).abs().min(power(20));
+    match rng.below(6) {
+        0 => 0.0,
+        1 => whole,
+        2 => near(rng, whole).abs(),
+        3 => whole / 2.0,
+        _ => palette.length(rng),
+    }
 }
 
 fn contact(rng: &mut Rng, palette: &Palette, out: &mut Writer) {
@@ -260,8 +296,36 @@ fn route(rng: &mut Rng, _: u64) -> Vec<u8> {
         points.insert(place, points[place]);
         points.truncate(64);
     }
-    let length = palette.length(rng);
-    let on = some_place(rng, &palette, &points, length);
+    let mut length = palette.length(rng);
+    let mut on = some_place(rng, &palette, &points, length);
+    let trunk = matches!(
+        operation,
+        op::FIRST_TRUNK
+            | op::LAST_TRUNK
+            | op::REWRITE_INPUT_SHARED_TRUNK
+            | op::REWRITE_OUTPUT_SHARED_TRUNK
+    );
+    if trunk && points.len() > 1 && rng.chance(2, 3) {
+        // A place in the stretch of some run, if that has one.
+        let place = rng.below(points.len() - 1);
+        let run = (points[place], points[place + 1]);
+        length = some_length(rng, &palette, run);
+        let input = matches!(operation, op::FIRST_TRUNK | op::REWRITE_INPUT_SHARED_TRUNK);
+        let (low, high) = match input {
+            true => (run.0.0, clean(run.1.0 - length)),
+            false => (clean(run.0.0 + length), run.1.0),
+        };
+        let x = match rng.below(3) {
+            0 => low,
+            1 => high,
+            _ => clean(low + (high - low) / 2.0),
+        };
+        let y = match rng.below(5) {
+            0 => near(rng, run.0.1),
+            _ => run.0.1,
+        };
+        on = (x, y);
+    }
     match operation {
         op::PUSH_POINT => {
             let pushed = match (rng.below(3), points.last()) {
@@ -329,7 +393,11 @@ fn search(rng: &mut Rng, _: u64) -> Vec<u8> {
     let palette = Palette::new(rng);
     let operation = rng.pick(&[op::SEARCH, op::SEARCH, op::COMMON, op::PROMOTION]);
     let role = rng.below(2) as u8;
-    let pitch = palette.length(rng);
+    let pitch = match rng.below(3) {
+        0 => palette.length(rng),
+        1 => (palette.distance(rng) / 4.0).min(power(20)),
+        _ => rng.pick(&[0.0, 1.0, 2.0, 4.0, 1e-7]),
+    };
     let (mut low, mut high) = (palette.any(rng), palette.any(rng));
     if low > high && rng.chance(9, 10) {
         (low, high) = (high, low);
@@ -344,12 +412,24 @@ fn search(rng: &mut Rng, _: u64) -> Vec<u8> {
         1 => 6 + rng.below(59),
         _ => 1 + rng.below(4),
     };
+    let together = rng.chance(1, 2);
     let routes = (0..members)
         .map(|_| {
             let most = match members {
                 0..=5 => 6,
                 _ => 4,
             };
+            if together {
+                let (start, end) = palette.wide(rng);
+                let mut points = vec![start, end];
+                if rng.chance(1, 2) {
+                    points.push((end.0, palette.any(rng)));
+                }
+                if rng.chance(1, 3) {
+                    points.insert(0, (start.0, palette.any(rng)));
+                }
+                return points;
+            }
             palette.some_route(rng, most)
         })
         .collect::<Vec<_>>();
@@ -409,7 +489,10 @@ fn board(rng: &mut Rng, seed: u64) -> Job {
         14 => boards::random(rng).job(&Scale::ONE),
         15 => boards::degenerate(rng).job(&Scale::ONE),
         16 => boards::nothing_common(rng).job(&Scale::ONE),
-        17 => families::clamp_job(rng),
+        17 => match rng.below(2) {
+            0 => families::clamp_job(rng),
+            _ => boards::narrow(rng).job(&Scale::ONE),
+        },
         _ => families::grants_job(seed, rng.below(10_000) as u64),
     }
 }

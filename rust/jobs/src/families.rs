@@ -21,7 +21,7 @@ impl Family {
     }
 }
 
-pub const FAMILIES: [Family; 12] = [
+pub const FAMILIES: [Family; 14] = [
     Family {
         name: "small",
         shows: "realistic, one or two bands, two or three members",
@@ -65,6 +65,12 @@ pub const FAMILIES: [Family; 12] = [
         make: nothing,
     },
     Family {
+        name: "narrow",
+        shows: "one chain on a board hardly wide enough: given up, limits, splits",
+        count: 8_000,
+        make: narrow,
+    },
+    Family {
         name: "clamp",
         shows: "the input split's clamp, at and around 13",
         count: 4_000,
@@ -87,6 +93,12 @@ pub const FAMILIES: [Family; 12] = [
         shows: "flipped bytes, extra bytes, fields out of range, ids twice or unknown",
         count: 40_000,
         make: damaged,
+    },
+    Family {
+        name: "limits",
+        shows: "each field of one small job at, inside and past its limits, one at a time",
+        count: LIMITS,
+        make: limits,
     },
     Family {
         name: "truncated",
@@ -288,6 +300,12 @@ fn degenerate(seed: u64, index: u64) -> Vec<u8> {
 fn nothing(seed: u64, index: u64) -> Vec<u8> {
     let mut rng = Rng::new("nothing", seed, index);
     let draft = boards::nothing_common(&mut rng);
+    finish(&mut rng, draft.job(&Scale::ONE))
+}
+
+fn narrow(seed: u64, index: u64) -> Vec<u8> {
+    let mut rng = Rng::new("narrow", seed, index);
+    let draft = boards::narrow(&mut rng);
     finish(&mut rng, draft.job(&Scale::ONE))
 }
 
@@ -616,6 +634,101 @@ fn damage_ids(rng: &mut Rng, job: &mut Job) {
             }
         }
         _ => {}
+    }
+}
+
+/// One node, one port, one edge of two points, one bundle of one member.
+fn one_of_each() -> Vec<u8> {
+    let mut draft = Draft {
+        stub: 5,
+        gap: 4,
+        ..Draft::default()
+    };
+    let node = draft.node(-10, -10, 10, 20);
+    let port = draft.port_at(node, EAST, 0);
+    let edge = draft.edge(port, port, vec![(0, 0), (40, 0)]);
+    draft.bundles.push(DraftBundle {
+        port,
+        role: INPUT,
+        width: 1,
+        members: vec![(edge, 0)],
+    });
+    draft.job(&Scale::ONE).encode()
+}
+
+// Where the fields of `one_of_each` stand.
+const BYTES: [usize; 4] = [4, 5, 106, 181]; // version, flags, side, role
+const NUMBERS: [usize; 14] = [
+    6, 14, 22, 30, 38, // the five options
+    66, 74, 82, 90,  // node
+    107, // offset
+    137, 145, 153, 161, // points
+];
+const GRANTS: [(usize, u32); 2] = [(46, 2_000_000), (50, 20_000_000)];
+const COUNTS: [(usize, u16); 7] = [
+    (54, 128),
+    (56, 256),
+    (58, 256),
+    (60, 32),
+    (135, 64),
+    (186, 64),
+    (192, 255), // the lane
+];
+const LIMITS: u64 = 4 * 256 + 14 * 22 + 2 * 5 + 7 * 6;
+
+fn limits(_: u64, index: u64) -> Vec<u8> {
+    let mut bytes = one_of_each();
+    let mut index = index as usize % LIMITS as usize;
+    if index < 4 * 256 {
+        bytes[BYTES[index / 256]] = (index % 256) as u8;
+        return bytes;
+    }
+    index -= 4 * 256;
+    if index < 14 * 22 {
+        let at = NUMBERS[index / 22];
+        let value = limit_number(index % 22);
+        bytes[at..at + 8].copy_from_slice(&value.to_bits().to_be_bytes());
+        return bytes;
+    }
+    index -= 14 * 22;
+    if index < 2 * 5 {
+        let (at, limit) = GRANTS[index / 5];
+        let value = [0, 1, limit, limit + 1, u32::MAX][index % 5];
+        bytes[at..at + 4].copy_from_slice(&value.to_be_bytes());
+        return bytes;
+    }
+    index -= 2 * 5;
+    let (at, limit) = COUNTS[index / 6];
+    let value = [0, 1, limit - 1, limit, limit + 1, u16::MAX][index % 6];
+    bytes[at..at + 2].copy_from_slice(&value.to_be_bytes());
+    bytes
+}
+
+fn limit_number(which: usize) -> f64 {
+    let (coordinate, option) = (LARGEST, power(20));
+    match which {
+        0 => 0.0,
+        1 => -0.0,
+        2 => 5e-324,
+        3 => -5e-324,
+        4 => coordinate,
+        5 => step(coordinate, 1),
+        6 => step(coordinate, -1),
+        7 => -coordinate,
+        8 => step(-coordinate, -1),
+        9 => step(-coordinate, 1),
+        10 => option,
+        11 => step(option, 1),
+        12 => step(option, -1),
+        13 => -option,
+        14 => f64::MAX,
+        15 => f64::MIN,
+        16 => f64::INFINITY,
+        17 => f64::NEG_INFINITY,
+        18 => f64::from_bits(0x7ff0_0000_0000_0001),
+        19 => f64::from_bits(0x7ff8_0000_0000_0000),
+        20 => f64::from_bits(0xffff_ffff_ffff_ffff),
+        _ => 1.5,
     }
 }
 

@@ -125,6 +125,23 @@ impl Palette {
         points
     }
 
+    /// A level run to the right from a low number to a high one.
+    pub fn wide(&self, rng: &mut Rng) -> ((f64, f64), (f64, f64)) {
+        let draw = |rng: &mut Rng| (self.any(rng), self.any(rng));
+        let ((a, b), (c, d)) = (draw(rng), draw(rng));
+        let y = self.any(rng);
+        ((a.min(b), y), (c.max(d), y))
+    }
+
+    /// The distance of two numbers, or one near it.
+    pub fn distance(&self, rng: &mut Rng) -> f64 {
+        let between = (self.any(rng) - self.any(rng)).abs();
+        match rng.below(3) {
+            0 => near(rng, between).abs(),
+            _ => plus(between.min(LARGEST)),
+        }
+    }
+
     /// A route of up to `most` points, of one kind or the other.
     pub fn some_route(&self, rng: &mut Rng, most: usize) -> Vec<(f64, f64)> {
         let count = match rng.below(10) {

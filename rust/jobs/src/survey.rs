@@ -6,7 +6,7 @@ use oracle::calls::{call, op};
 use oracle::job;
 use oracle::wire::{Reader, Short};
 
-use crate::cases::KINDS;
+use crate::cases::{KINDS, planned};
 use crate::families::{FAMILIES, every_short};
 
 /// What one job shows.
@@ -19,6 +19,9 @@ pub struct Shown {
     pub drawn: [u32; 4],
     /// Components with both roles, of these given up, splits, input limits, separations.
     pub events: [u32; 5],
+    /// Bundles with a planned x but mark 0, and with mark 1 but no planned x.
+    pub fallen: u32,
+    pub unplanned: u32,
     /// First searches with bounds present that found nothing, and those spent.
     pub nothing: u32,
     pub spent: u32,
@@ -44,15 +47,22 @@ pub fn look(bytes: &[u8]) -> (Vec<u8>, Shown) {
             .map(|bundle| bundle.role)
             .collect::<Vec<_>>();
         if shown.number == 0 {
-            shown.drawn = drawn(&answer, &roles).expect("the answer is whole");
+            let marks = marks(&answer, roles.len()).expect("the answer is whole");
+            let planned = planned(&job).expect("the job is accepted");
+            for ((&role, &mark), planned) in roles.iter().zip(&marks).zip(planned) {
+                shown.drawn[usize::from(role * 2 + mark)] += 1;
+                shown.fallen += u32::from(planned.is_some() && mark == 0);
+                shown.unplanned += u32::from(planned.is_none() && mark == 1);
+            }
         }
         plan_events(bytes, job.tap_visits, &mut shown).expect("the results are whole");
     }
     (answer, shown)
 }
 
-fn drawn(answer: &[u8], roles: &[u8]) -> Result<[u32; 4], Short> {
-    let mut counts = [0; 4];
+/// The interior marks of an answer.
+pub fn marks(answer: &[u8], bundles: usize) -> Result<Vec<u8>, Short> {
+    let mut marks = Vec::new();
     let mut from = Reader::new(answer);
     from.take(30)?;
     let (nodes, routes) = (from.u16()?, from.u16()?);
@@ -62,15 +72,14 @@ fn drawn(answer: &[u8], roles: &[u8]) -> Result<[u32; 4], Short> {
         let points = from.u16()?;
         from.take(usize::from(points) * 16)?;
     }
-    for &role in roles {
+    for _ in 0..bundles {
         from.u32()?;
-        let mark = from.u8()?;
-        counts[usize::from(role * 2 + mark)] += 1;
+        marks.push(from.u8()?);
         from.take(64)?;
         let taps = from.u16()?;
         from.take(usize::from(taps) * 20)?;
     }
-    Ok(counts)
+    Ok(marks)
 }
 
 fn result(operation: u8, before: &[u8], job: &[u8]) -> Vec<u8> {
@@ -112,10 +121,10 @@ fn plan_events(job: &[u8], grant: u32, shown: &mut Shown) -> Result<(), Short> {
 struct Tally {
     jobs: u64,
     numbers: [u64; 15],
-    features: [u64; 14],
+    features: [u64; 16],
 }
 
-const FEATURES: [&str; 14] = [
+const FEATURES: [&str; 16] = [
     "in rail",
     "in inter",
     "out rail",
@@ -130,6 +139,8 @@ const FEATURES: [&str; 14] = [
     "bit 0",
     "bit 1",
     "alone none",
+    "fallen",
+    "unplanned",
 ];
 
 impl Tally {
@@ -150,6 +161,8 @@ impl Tally {
         self.features[11] += u64::from(accepted && shown.separate);
         self.features[12] += u64::from(accepted && shown.crossings);
         self.features[13] += u64::from(lone_without_x(shown));
+        self.features[14] += u64::from(shown.fallen);
+        self.features[15] += u64::from(shown.unplanned);
     }
 
     fn join(&mut self, other: &Tally) {
