@@ -380,7 +380,10 @@ fn paid(job: &Job) -> Option<(u32, u32)> {
 /// somewhere below.
 pub fn grants_job(seed: u64, index: u64) -> Job {
     let mut rng = Rng::new("grants", seed, index / 10);
+    let mut tries = 0;
     let (mut job, tap, geometry) = loop {
+        tries += 1;
+        assert!(tries < 1_000, "no board is accepted");
         let draft = match rng.below(8) {
             0 => boards::nothing_common(&mut rng),
             1 => realistic_draft(&mut rng),

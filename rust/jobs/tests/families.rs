@@ -2,8 +2,11 @@
 
 use std::path::Path;
 
+use jobs::cases;
 use jobs::families::{FAMILIES, family};
 use jobs::survey::look;
+use oracle::calls::{call, op};
+use oracle::job::{self, Job};
 
 #[test]
 fn every_number_is_reached_and_a_third_accepted() {
@@ -43,4 +46,37 @@ fn patched_and_unpatched_plans_agree() {
 fn stored_answers_are_unchanged() {
     let folder = Path::new(env!("CARGO_MANIFEST_DIR")).join("../../stored");
     assert_eq!(jobs::stored::check(&folder), Ok(true));
+}
+
+/// The visits of a plan that never runs out are at most the sum of n * (n + 2), and a grant of
+/// that many leaves the plan as it is.
+#[test]
+fn a_sufficient_grant_spends_no_search() {
+    let kind = cases::kind("plans").expect("a kind");
+    let mut planned = 0;
+    for index in 0..2_000 {
+        let mut job = job::read(&kind.record(1, index)[1..]).expect("a job");
+        let result = |operation: u8, job: &Job| {
+            let record = [&[operation], &job.encode()[..]].concat();
+            call(&record).expect("a call")
+        };
+        let sufficient = result(op::SUFFICIENT, &job);
+        if sufficient[0] != 0 {
+            continue;
+        }
+        let long =
+            |at: usize| u64::from_be_bytes(sufficient[at..at + 8].try_into().expect("eight bytes"));
+        let (sum, visits) = (long(5), long(13));
+        assert!(visits <= sum, "case {index}");
+        let Ok(grant @ ..=job::MAX_TAP_VISITS) = u32::try_from(sum) else {
+            continue;
+        };
+        job.tap_visits = job::MAX_TAP_VISITS;
+        let free = result(op::PLAN, &job);
+        job.tap_visits = grant;
+        let bound = result(op::PLAN, &job);
+        assert_eq!(free[..free.len() - 4], bound[..bound.len() - 4]);
+        planned += 1;
+    }
+    assert!(planned > 1_500);
 }
