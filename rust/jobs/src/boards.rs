@@ -13,7 +13,7 @@ pub fn realistic(rng: &mut Rng, bands: usize, most_members: usize) -> Draft {
             3..=5 => board.one_role(rng, OUTPUT),
             6 | 7 => board.chain(rng, 1),
             8 | 9 => board.chain(rng, 2),
-            10 => board.fan(rng),
+            10 => board.fan(rng, 2),
             _ => board.plain(rng),
         }
     }
@@ -24,6 +24,15 @@ pub fn realistic(rng: &mut Rng, bands: usize, most_members: usize) -> Draft {
         board.obstacle(rng);
     }
     board.draft.shuffle(rng);
+    board.draft
+}
+
+/// One component: two or three bundles of one role that share edges with one of the other.
+pub fn fans(rng: &mut Rng) -> Draft {
+    let mut board = Banded::new(rng, 2, 3);
+    let bundles = 2 + rng.below(2);
+    board.fan(rng, bundles);
+    rng.shuffle(&mut board.draft.bundles);
     board.draft
 }
 
@@ -278,10 +287,10 @@ impl Banded {
         self.close_band(far[members - 1], members * row_sets);
     }
 
-    /// Two bundles of one role against one of the other.
-    fn fan(&mut self, rng: &mut Rng) {
-        let halves = [self.members(rng), self.members(rng)];
-        let members = halves[0] + halves[1];
+    /// Some bundles of one role against one of the other.
+    fn fan(&mut self, rng: &mut Rng, bundles: usize) {
+        let parts = (0..bundles).map(|_| self.members(rng)).collect::<Vec<_>>();
+        let members = parts.iter().sum::<usize>();
         let (first, row) = self.open_band(rng, 2 * members);
         let near = rows(first, row, members);
         let far = rows(near[members - 1] + row, row, members);
@@ -295,7 +304,10 @@ impl Banded {
         let wide_y = rng.pick(wide_rows);
         let wide = self.boundary_port(rng, wide_role, wide_y);
         let mut all = Vec::new();
-        for (range, count) in [(0..halves[0], halves[0]), (halves[0]..members, halves[1])] {
+        let mut first = 0;
+        for count in parts {
+            let range = first..first + count;
+            first += count;
             let narrow_y = narrow_rows[range.start + rng.below(count)];
             let narrow = self.boundary_port(rng, narrow_role, narrow_y);
             let (source, target) = if wide_role == INPUT {

@@ -390,6 +390,9 @@ fn some_place(rng: &mut Rng, palette: &Palette, points: &[(f64, f64)], length: f
 }
 
 fn search(rng: &mut Rng, _: u64) -> Vec<u8> {
+    if rng.chance(1, 40) {
+        return many_candidates(rng);
+    }
     let palette = Palette::new(rng);
     let operation = rng.pick(&[op::SEARCH, op::SEARCH, op::COMMON, op::PROMOTION]);
     let role = rng.below(2) as u8;
@@ -465,6 +468,37 @@ fn search(rng: &mut Rng, _: u64) -> Vec<u8> {
     }
 }
 
+/// A search of one or two members with up to 32 stretches each: more candidates than are kept.
+fn many_candidates(rng: &mut Rng) -> Vec<u8> {
+    let mut out = Writer::new();
+    let role = rng.below(2) as u8;
+    let promotion = rng.chance(3, 4);
+    out.u8(if promotion { op::PROMOTION } else { op::COMMON });
+    out.u8(role);
+    out.f64(2.0);
+    if promotion {
+        out.u8(1);
+    }
+    let desired = if role == 0 { 200.0 } else { 0.0 };
+    for bound in [0.0, desired, 200.0] {
+        out.f64(bound);
+    }
+    out.u32(oracle::job::MAX_TAP_VISITS);
+    let members = 1 + rng.below(2);
+    out.count(members);
+    let runs = 12 + rng.below(21);
+    for _ in 0..members {
+        out.count(2 * runs);
+        for run in 0..runs {
+            // Between the level runs the route goes back aslant.
+            let (low, high) = (rng.between(-10, 60), rng.between(70, 210));
+            put(&mut out, (low as f64, run as f64));
+            put(&mut out, (high as f64, run as f64));
+        }
+    }
+    out.bytes
+}
+
 /// A job of any family, whole or damaged.
 fn read(rng: &mut Rng, seed: u64) -> Vec<u8> {
     let family = loop {
@@ -487,12 +521,16 @@ fn board(rng: &mut Rng, seed: u64) -> Job {
         9..=10 => families::grid_job(rng),
         11..=13 => families::adversarial_job(rng),
         14 => boards::random(rng).job(&Scale::ONE),
-        15 => boards::degenerate(rng).job(&Scale::ONE),
+        15 => match rng.below(2) {
+            0 => boards::degenerate(rng).job(&Scale::ONE),
+            _ => families::depths_job(rng),
+        },
         16 => boards::nothing_common(rng).job(&Scale::ONE),
         17 => match rng.below(2) {
             0 => families::clamp_job(rng),
             _ => boards::narrow(rng).job(&Scale::ONE),
         },
+        18 => families::fans_job(rng),
         _ => families::grants_job(seed, rng.below(10_000) as u64),
     }
 }

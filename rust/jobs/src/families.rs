@@ -1,10 +1,11 @@
 //! The families of jobs. A job is fixed by its family, the seed and its place.
 
+use oracle::calls::{call, op};
 use oracle::job::Job;
 
 use crate::boards;
 use crate::draft::{Draft, DraftBundle, EAST, INPUT, OUTPUT, Scale, WEST, plus, rename};
-use crate::floats::{LARGEST, clean, near, power, step};
+use crate::floats::{LARGEST, Palette, clean, near, power, step};
 use crate::rng::Rng;
 
 /// A family and how many of its jobs the distribution runs.
@@ -21,7 +22,7 @@ impl Family {
     }
 }
 
-pub const FAMILIES: [Family; 14] = [
+pub const FAMILIES: [Family; 16] = [
     Family {
         name: "small",
         shows: "realistic, one or two bands, two or three members",
@@ -51,6 +52,12 @@ pub const FAMILIES: [Family; 14] = [
         shows: "subnormals, up to 2^30, differences near 1e-7, sums that round",
         count: 30_000,
         make: adversarial,
+    },
+    Family {
+        name: "depths",
+        shows: "several bundles of one role, widths and options that make depths round",
+        count: 10_000,
+        make: depths,
     },
     Family {
         name: "degenerate",
@@ -87,6 +94,12 @@ pub const FAMILIES: [Family; 14] = [
         shows: "tap and geometry grants one below, at and one above what is needed",
         count: 30_000,
         make: grants,
+    },
+    Family {
+        name: "fans",
+        shows: "one component of several bundles, tap grants somewhere below what is needed",
+        count: 20_000,
+        make: fans,
     },
     Family {
         name: "damaged",
@@ -208,6 +221,17 @@ pub fn adversarial_job(rng: &mut Rng) -> Job {
     for _ in 0..rng.below(4) {
         nudge(rng, &mut job);
     }
+    if rng.chance(1, 6) {
+        // Depths that follow one another with nothing between but rounding.
+        for bundle in &mut job.bundles {
+            if rng.chance(1, 2) {
+                bundle.members.clear();
+            }
+        }
+        for node in &mut job.nodes {
+            node.width = plus(scale.length(rng.between(0, 99)));
+        }
+    }
     within_limits(&mut job);
     job
 }
@@ -288,6 +312,70 @@ fn within_limits(job: &mut Job) {
 fn adversarial(seed: u64, index: u64) -> Vec<u8> {
     let mut rng = Rng::new("adversarial", seed, index);
     let job = adversarial_job(&mut rng);
+    finish(&mut rng, job)
+}
+
+/// Bundles of mostly one role with few members, so that depths build on one another.
+pub fn depths_job(rng: &mut Rng) -> Job {
+    let palette = Palette::new(rng);
+    let mut draft = Draft {
+        separate: rng.chance(1, 2),
+        crossings: rng.chance(1, 2),
+        ..Draft::default()
+    };
+    let most = rng.pick(&[INPUT, OUTPUT]);
+    for _ in 0..3 + rng.below(4) {
+        let node = draft.node(0, 0, 0, 0);
+        let role = if rng.chance(1, 6) { 1 - most } else { most };
+        let side = if role == INPUT { EAST } else { WEST };
+        let port = draft.port_at(node, side, 0);
+        let members = rng.pick(&[0, 0, 1, 1, 2]);
+        let members = (0..members)
+            .map(|_| {
+                let edge = draft.edge(port, port, Vec::new());
+                (edge, rng.below(4) as u16)
+            })
+            .collect::<Vec<_>>();
+        draft.bundles.push(DraftBundle {
+            port,
+            role,
+            width: members.len() as u32,
+            members,
+        });
+    }
+    let mut job = draft.job(&Scale::ONE);
+    for option in [
+        &mut job.port_stub,
+        &mut job.route_lane_gap,
+        &mut job.edge_node_clearance,
+        &mut job.minimum_parallel_wire_spacing,
+        &mut job.member_endpoint_reserve,
+    ] {
+        *option = match rng.below(3) {
+            0 => 0.0,
+            1 => palette.length(rng),
+            _ => palette.length(rng) / 3.0,
+        };
+    }
+    job.minimum_parallel_wire_spacing = 0.0;
+    for (place, node) in job.nodes.iter_mut().enumerate() {
+        // Far from one another, so that some of these are accepted.
+        node.y = place as f64 * power(24);
+        node.x = palette.any(rng);
+        node.width = palette.length(rng);
+    }
+    for edge in &mut job.edges {
+        let y = job.nodes[edge.source_node as usize].y;
+        let (low, high) = (-power(28), power(28));
+        edge.points = vec![(low, y), (high, y)];
+    }
+    within_limits(&mut job);
+    job
+}
+
+fn depths(seed: u64, index: u64) -> Vec<u8> {
+    let mut rng = Rng::new("depths", seed, index);
+    let job = depths_job(&mut rng);
     finish(&mut rng, job)
 }
 
@@ -413,6 +501,29 @@ pub fn grants_job(seed: u64, index: u64) -> Job {
 fn grants(seed: u64, index: u64) -> Vec<u8> {
     let mut rng = Rng::new("grants names", seed, index);
     finish(&mut rng, grants_job(seed, index))
+}
+
+/// The order of a component decides who pays, so this is where it shows.
+pub fn fans_job(rng: &mut Rng) -> Job {
+    let mut job = boards::fans(rng).job(&Scale::ONE);
+    let record = [&[op::SUFFICIENT], &job.encode()[..]].concat();
+    let result = call(&record).expect("a call");
+    if result[0] == 0 {
+        let visits = u64::from_be_bytes(result[13..21].try_into().expect("eight bytes"));
+        // Mostly enough for the first searches.
+        let short = match rng.below(4) {
+            0 => rng.below(visits as usize + 1),
+            _ => rng.below(visits as usize / 2 + 1),
+        };
+        job.tap_visits = visits as u32 - short as u32;
+    }
+    job
+}
+
+fn fans(seed: u64, index: u64) -> Vec<u8> {
+    let mut rng = Rng::new("fans", seed, index);
+    let job = fans_job(&mut rng);
+    finish(&mut rng, job)
 }
 
 fn damaged(seed: u64, index: u64) -> Vec<u8> {

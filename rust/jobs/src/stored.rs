@@ -356,20 +356,32 @@ fn largest() -> Vec<u8> {
     pair.bytes
 }
 
+/// Promotion candidates of which the limit of 32 cuts some off, or none just so.
+fn is_full(record: &[u8]) -> bool {
+    record[0] == op::PROMOTION
+        && call(record).is_ok_and(|result| result[0] == 1 && result[5..7] == [0, 32])
+}
+
 fn stored_cases(quota: &Quota, index: &mut String) -> (Vec<u8>, Vec<u8>) {
     let kind = cases::kind(quota.kind).expect("a kind");
     let (mut input, mut output) = (Writer::new(), Writer::new());
     let mut room = BTreeMap::<String, usize>::new();
     for place in 0..quota.tries {
         let record = kind.record(SEED, place);
-        if record.len() > quota.most_bytes {
+        let full = is_full(&record);
+        if record.len() > quota.most_bytes && !full {
             continue;
         }
         let result = call(&record).expect("a call");
-        let classes = classes(&record, &result);
+        let classes = if full {
+            vec!["op 22 32 kept".to_string()]
+        } else {
+            classes(&record, &result)
+        };
+        let each = if full { 4 } else { quota.each };
         let new = classes
             .iter()
-            .any(|class| room.get(class).is_none_or(|&kept| kept < quota.each));
+            .any(|class| room.get(class).is_none_or(|&kept| kept < each));
         if !new {
             continue;
         }
