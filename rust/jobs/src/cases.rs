@@ -573,16 +573,31 @@ fn range(rng: &mut Rng, seed: u64) -> Vec<u8> {
 }
 
 fn sheet(rng: &mut Rng, seed: u64) -> Vec<u8> {
-    let job = board(rng, seed);
-    let mut out = Writer::new();
-    out.u8(if rng.chance(1, 6) {
-        op::BUILD
-    } else {
-        op::SHEET
-    });
-    out.raw(&job.encode());
-    put_plan(rng, &mut out, &job);
-    out.bytes
+    let mut job = board(rng, seed);
+    let mut plan = Writer::new();
+    put_plan(rng, &mut plan, &job);
+    let record = |operation: u8, job: &Job| {
+        let mut out = Writer::new();
+        out.u8(operation);
+        out.raw(&job.encode());
+        out.raw(&plan.bytes);
+        out.bytes
+    };
+    if rng.chance(1, 6) {
+        return record(op::BUILD, &job);
+    }
+    if rng.chance(1, 4) {
+        // A grant about what the sheet pays until it is accepted or refused.
+        let result = call(&record(op::SHEET, &job)).expect("a call");
+        let left = u32::from_be_bytes(result[3..7].try_into().expect("visits left"));
+        let paid = job.geometry_visits - left;
+        job.geometry_visits = match rng.below(4) {
+            0 => paid,
+            1 => rng.below(paid as usize + 1) as u32,
+            _ => paid.saturating_sub(1),
+        };
+    }
+    record(op::SHEET, &job)
 }
 
 /// An x of the board, or near one.
