@@ -240,7 +240,7 @@ pub fn plus(value: f64) -> f64 {
 pub fn rename(job: &mut Job, rng: &mut Rng) {
     let mut names = |count: usize| {
         let step = rng.below(0x00ff_ffff) as u32 * 2 + 1;
-        let first = rng.next() as u32;
+        let first = rng.word() as u32;
         (0..count as u32)
             .map(|place| first.wrapping_add(place.wrapping_mul(step)))
             .collect::<Vec<_>>()

@@ -710,7 +710,7 @@ fn damage_ids(rng: &mut Rng, job: &mut Job) {
         job.edges.len(),
         job.bundles.len(),
     );
-    let strange = rng.next() as u32;
+    let strange = rng.word() as u32;
     match rng.below(13) {
         0 => job.nodes[rng.below(nodes)].id = job.nodes[rng.below(nodes)].id,
         1 if edges > 0 => job.edges[rng.below(edges)].id = job.edges[rng.below(edges)].id,

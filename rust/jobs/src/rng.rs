@@ -11,11 +11,11 @@ impl Rng {
             name = (name ^ u64::from(byte)).wrapping_mul(0x0000_0100_0000_01b3);
         }
         let mut rng = Rng(name ^ seed.wrapping_mul(0xd6e8_feb8_6659_fd93));
-        let mixed = rng.next() ^ index.wrapping_mul(0xa076_1d64_78bd_642f);
+        let mixed = rng.word() ^ index.wrapping_mul(0xa076_1d64_78bd_642f);
         Rng(mixed)
     }
 
-    pub fn next(&mut self) -> u64 {
+    pub fn word(&mut self) -> u64 {
         self.0 = self.0.wrapping_add(0x9e37_79b9_7f4a_7c15);
         let mut z = self.0;
         z = (z ^ (z >> 30)).wrapping_mul(0xbf58_476d_1ce4_e5b9);
@@ -25,7 +25,7 @@ impl Rng {
 
     /// From 0 to `limit` - 1.
     pub fn below(&mut self, limit: usize) -> usize {
-        let high = u128::from(self.next()) * (limit as u128);
+        let high = u128::from(self.word()) * (limit as u128);
         (high >> 64) as usize
     }
 
