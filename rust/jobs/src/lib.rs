@@ -1,0 +1,14 @@
+//! Seeded generator of jobs and of inner cases; the same on every machine.
+
+#![forbid(unsafe_code)]
+
+pub mod bench;
+pub mod boards;
+pub mod cases;
+pub mod check;
+pub mod draft;
+pub mod families;
+pub mod floats;
+pub mod rng;
+pub mod stored;
+pub mod survey;

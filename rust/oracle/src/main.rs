@@ -1,0 +1,94 @@
+//! The oracle as a program: standard input to standard output.
+
+#![forbid(unsafe_code)]
+
+use std::io::{self, BufReader, BufWriter, Read, Write};
+use std::process::ExitCode;
+
+const USAGE: &str = "oracle job     one job on standard input, its answer on standard output
+oracle batch   length-prefixed jobs in, length-prefixed answers out
+oracle calls   length-prefixed call records in, length-prefixed results out
+oracle show    one job on standard input, job and answer as text";
+
+fn main() -> ExitCode {
+    let words = std::env::args().skip(1).collect::<Vec<_>>();
+    let done = match words.iter().map(String::as_str).collect::<Vec<_>>()[..] {
+        ["job"] => one_job(),
+        ["batch"] => each_record(|record| Ok(oracle::answer_of(record))),
+        ["calls"] => each_record(|record| {
+            oracle::calls::call(record).map_err(|malformed| format!("{malformed:?}"))
+        }),
+        ["show"] => show(),
+        _ => Err(USAGE.to_string()),
+    };
+    match done {
+        Ok(()) => ExitCode::SUCCESS,
+        Err(message) => {
+            eprintln!("{message}");
+            ExitCode::from(2)
+        }
+    }
+}
+
+/// As the program sheet: at most 65,536 bytes of standard input are looked at.
+fn one_job() -> Result<(), String> {
+    let mut job = Vec::new();
+    io::stdin()
+        .lock()
+        .take(65_536)
+        .read_to_end(&mut job)
+        .map_err(text)?;
+    io::stdout()
+        .lock()
+        .write_all(&oracle::answer_of(&job))
+        .map_err(text)
+}
+
+fn show() -> Result<(), String> {
+    let mut job = Vec::new();
+    io::stdin().lock().read_to_end(&mut job).map_err(text)?;
+    io::stdout()
+        .lock()
+        .write_all(oracle::show(&job).as_bytes())
+        .map_err(text)
+}
+
+fn each_record(make: impl Fn(&[u8]) -> Result<Vec<u8>, String>) -> Result<(), String> {
+    let mut from = BufReader::new(io::stdin().lock());
+    let mut to = BufWriter::new(io::stdout().lock());
+    let mut at = 0_u64;
+    while let Some(record) =
+        next_record(&mut from).map_err(|error| format!("record {at}: {error}"))?
+    {
+        let made = make(&record).map_err(|error| format!("record {at}: {error}"))?;
+        to.write_all(&(made.len() as u32).to_be_bytes())
+            .map_err(text)?;
+        to.write_all(&made).map_err(text)?;
+        at += 1;
+    }
+    to.flush().map_err(text)
+}
+
+/// The next record, or none at the end of the input.
+fn next_record(from: &mut impl Read) -> io::Result<Option<Vec<u8>>> {
+    let mut first = [0];
+    if from.read(&mut first)? == 0 {
+        return Ok(None);
+    }
+    let mut rest = [0; 3];
+    from.read_exact(&mut rest)?;
+    let length = u32::from_be_bytes([first[0], rest[0], rest[1], rest[2]]);
+    let mut record = Vec::new();
+    from.take(u64::from(length)).read_to_end(&mut record)?;
+    if record.len() != length as usize {
+        return Err(io::Error::new(
+            io::ErrorKind::UnexpectedEof,
+            "the input ends inside a record",
+        ));
+    }
+    Ok(Some(record))
+}
+
+fn text(error: io::Error) -> String {
+    error.to_string()
+}

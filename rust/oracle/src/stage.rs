@@ -1,0 +1,104 @@
+//! The stage in document 01's order: 2, 1, 3, 4 to 7, 8, 9, the plan (13), the sheet bundle by
+//! bundle (10, 12, 11, 14), normalize_layout, the answer.
+
+use crate::board::Board;
+use crate::patched::harness::{Failed, Prepared, normalize};
+use crate::records::Layout;
+use crate::{answer, job};
+
+/// Smallest answer buffer that 2 lets through.
+pub const BUFFER: usize = 65_536;
+
+/// Writes the answer or the notice to the front of `answer` and says how many bytes that is;
+/// 0 and nothing written where the buffer is too short (2).
+pub fn stage(job: &[u8], buffer: &mut [u8]) -> usize {
+    if buffer.len() < BUFFER {
+        return 0;
+    }
+    let bytes = answer_of(job);
+    buffer[..bytes.len()].copy_from_slice(&bytes);
+    bytes.len()
+}
+
+/// The bytes of the answer or the notice, given a buffer that 2 lets through.
+pub fn answer_of(job: &[u8]) -> Vec<u8> {
+    match sheet(job) {
+        Ok(bytes) => bytes,
+        Err(number) => answer::notice(number),
+    }
+}
+
+/// The number in an answer or a notice.
+pub fn number(answer: &[u8]) -> u8 {
+    answer[5]
+}
+
+fn sheet(bytes: &[u8]) -> Result<Vec<u8>, u8> {
+    let board = Board::new(&job::read(bytes)?);
+    let graph = board.graph();
+    let prepared = board.prepare(&graph);
+    let mut tap_visits = board.tap_visits as usize;
+    let planned = prepared
+        .plan(&board.routes, board.separate, &mut tap_visits)
+        .ok_or(13)?;
+    let mut geometry_visits = board.geometry_visits as usize;
+    let mut layout = board.layout();
+    let interior = draw(
+        &board,
+        &prepared,
+        &planned,
+        &mut layout,
+        &mut geometry_visits,
+    )
+    .map_err(|refused| refused.number)?;
+    normalize(&mut layout);
+    Ok(answer::write(
+        &layout,
+        &interior,
+        tap_visits as u32,
+        geometry_visits as u32,
+    ))
+}
+
+/// A refusal of the drawing or its grant, with the bundle at whose turn it came.
+#[derive(Clone, Copy, Debug, Eq, PartialEq)]
+pub(crate) struct Refused {
+    pub(crate) number: u8,
+    pub(crate) bundle: usize,
+}
+
+/// Draws every bundle in job order; `layout` is then the sheet before the shift. The result has
+/// the interior mark of each bundle.
+pub(crate) fn draw(
+    board: &Board,
+    prepared: &Prepared<'_, '_>,
+    planned: &[Option<f64>],
+    layout: &mut Layout,
+    visits: &mut usize,
+) -> Result<Vec<bool>, Refused> {
+    let mut interior = Vec::with_capacity(planned.len());
+    for (bundle, &x) in planned.iter().enumerate() {
+        let refused = |unsatisfied: u8| {
+            move |failed: Failed| Refused {
+                number: match failed {
+                    Failed::Unsatisfied => unsatisfied,
+                    Failed::Spent => 14,
+                },
+                bundle,
+            }
+        };
+        let geometry = prepared.build(bundle, &layout.edges, x);
+        let mark = prepared
+            .rewrite(bundle, &geometry, &mut layout.edges)
+            .map_err(refused(10))?;
+        layout.boundary_bundles.push(geometry);
+        prepared
+            .verify_interiors(bundle, layout, visits)
+            .map_err(refused(12))?;
+        prepared
+            .verify_contacts(bundle, layout, board.crossings, visits)
+            .map_err(refused(11))?;
+        interior.push(mark);
+    }
+    Ok(interior)
+}
