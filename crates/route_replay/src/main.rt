@@ -227,32 +227,28 @@ fn answer(record: &[u8], points: &mut [f64], scratch: &mut [f64], out: &mut [u8]
     rewrite_call(op, record, &mut points[..], &mut scratch[..], &mut out[..])
 }
 
-// One record after the other.
-fn replay(space: &mut [u8], points: &mut [f64], scratch: &mut [f64], out: &mut [u8])
+// Reads one record and writes its result; answers whether there was one.
+fn replay_one(space: &mut [u8], points: &mut [f64], scratch: &mut [f64], out: &mut [u8]) -> bool
     requires { ⌜ (4096 ≤ length (now space)) × (136 ≤ length (now points)) × (136 ≤ length (now scratch)) × (2048 ≤ length (now out)) ⌝ }
 {
-    let mut turn: u32 = 0;
-    while turn < 4000000000 {
-        turn += 1;
-        let got = io::read_full(0, &mut space[..4]);
-        if got < 4 {
-            return;
-        }
-        let n = wire::be32(&space[..], 0) as usize;
-        if n > 4096 {
-            return;
-        }
-        let had = io::read_full(0, &mut space[..n]);
-        if had < n {
-            return;
-        }
-        let m = answer(&space[..n], &mut points[..], &mut scratch[..], &mut out[..]);
-        if m < 4 {
-            return;
-        }
-        wire::put32(&mut out[..], 0, (m - 4) as u32);
-        io::write_all(1, &out[..m]);
+    let got = io::read_full(0, &mut space[..4]);
+    if got < 4 {
+        return false;
     }
+    let n = wire::be32(&space[..], 0) as usize;
+    if n > 4096 {
+        return false;
+    }
+    let had = io::read_full(0, &mut space[..n]);
+    if had < n {
+        return false;
+    }
+    let m = answer(&space[..n], &mut points[..], &mut scratch[..], &mut out[..]);
+    if m < 4 {
+        return false;
+    }
+    wire::put32(&mut out[..], 0, (m - 4) as u32);
+    io::write_all(1, &out[..m])
 }
 
 fn main() {
@@ -260,5 +256,11 @@ fn main() {
     let mut points = [0.0; 136];
     let mut scratch = [0.0; 136];
     let mut out = [0u8; 2048];
-    replay(&mut space, &mut points, &mut scratch, &mut out);
+    let mut turn: u32 = 0;
+    while turn < 4000000000 {
+        if !replay_one(&mut space, &mut points, &mut scratch, &mut out) {
+            return;
+        }
+        turn += 1;
+    }
 }
