@@ -189,9 +189,9 @@ module _ (b : Board) (routes : List Route) (limits : Limits b routes) where
       let end = rail-corner b u in
       let d = sub binary64 (number (m .«tap_lane»)) middle in
       let s : Within 9 d = sub-within 8 (number (m .«tap_lane»)) middle (omega arith) (number-small (m .«tap_lane») (omega arith)) w in
-      let p : Small 29 (mul binary64 d (parting-pitch b)) = (mul-within 9 20 d (parting-pitch b) (omega arith) s (pitch-small b routes good .0), mul-fits binary64 d (parting-pitch b)) in
-      ( wider 32 1002 (end .x) (omega arith) (corner-x u)
-      , ok 32 (add binary64 (end .y) (mul binary64 d (parting-pitch b))) (omega arith) (add-small 31 29 31 (end .y) (mul binary64 d (parting-pitch b)) (omega arith) (omega arith) (omega arith) (corner-y u) p)
+      let p : Small 29 (mul binary64 d (parting-pitch b)) = (mul-within 9 20 d (parting-pitch b) (omega arith) s (pitch-small b routes good .0), mul-fits binary64 d (parting-pitch b)) in (
+        wider 32 1002 (end .x) (omega arith) (corner-x u),
+        ok 32 (add binary64 (end .y) (mul binary64 d (parting-pitch b))) (omega arith) (add-small 31 29 31 (end .y) (mul binary64 d (parting-pitch b)) (omega arith) (omega arith) (omega arith) (corner-y u) p),
       )
 
   rail-taps-ok : (u : Bundle) (middle : Float) (ms : List Member) → Within 8 middle → Every (λ (m : Member). m .«tap_lane» ≤ 255) ms → Every OkTap (rail-taps (rail-corner b u) middle (pitch-of b u) ms)
@@ -212,7 +212,8 @@ module _ (b : Board) (routes : List Route) (limits : Limits b routes) where
         collector-end = (x, rail-high-ok ts (c .y) y e);
         spine-start = endpoint-ok u;
         spine-end = (x, y);
-        taps = e }
+        taps = e;
+      }
 
   inside-ok : (u : Bundle) (x : Float) (ts : List TapOn) → Small 1002 x → Every OkTap ts → OkDrawn (drawn-inside b u x ts)
   unfolding drawn-inside drawn-as
@@ -224,7 +225,8 @@ module _ (b : Board) (routes : List Route) (limits : Limits b routes) where
         collector-end = (k, highest-ok (end .y) ts (endpoint-ok u .1) e);
         spine-start = endpoint-ok u;
         spine-end = (k, endpoint-ok u .1);
-        taps = e }
+        taps = e;
+      }
 
   -- the taps on the members' trunks
   tap-ok : (role : Role) (pitch x : Float) (r : Route) (k : ℕ) (p : Point) → Small 1002 x → OkRoute r → trunk-met role pitch x r ≡ On k p → Small 1002 (p .x) × Ok (p .y)
@@ -331,7 +333,8 @@ module _ (b : Board) (routes : List Route) (limits : Limits b routes) where
       let d : OkDrawn (drawn-at b t s) = build-ok (t .bundle) (t .planned) (s .routes) (k .0) (h .present) in
       record {
         present = all-ok (drawn-at b t s .interior) (t .bundle) (t .offset) (drawn-at b t s .taps) (members-in b (t .bundle)) (s .routes) (u .routes) (d .taps) (k .1) (members-good b routes good (t .bundle)) (h .present) (w .rewritten);
-        bundles = subst (Every OkDrawn) (w .passing .drawn) (every-end (s .drawn) (drawn-at b t s) (h .bundles) d) }
+        bundles = subst (Every OkDrawn) (w .passing .drawn) (every-end (s .drawn) (drawn-at b t s) (h .bundles) d);
+      }
 
   turns-ok : (allow : Bool) (ts : List Turn) (s u : Progress) → Every OkTurn ts → OkSheet s → sheet-of b allow ts s ≡ going u → OkSheet u
   unfolding sheet-of

@@ -1,2 +1,4 @@
 pub mod Order
 pub mod Finite
+pub mod Demand3
+pub mod Joints
