@@ -2,3 +2,4 @@ pub mod Order
 pub mod Finite
 pub mod Demand3
 pub mod Joints
+pub mod Places
