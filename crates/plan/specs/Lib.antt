@@ -7,3 +7,4 @@ pub mod Visits
 pub mod Lone
 pub mod Numbers
 pub mod Planned
+pub mod Placed
