@@ -142,3 +142,198 @@ module _ (b : Board) (routes : List Route) (good : Numbers b routes) where
       go (outcome.Found x) c = common-within (u .role) x (members-in b u) (members-there u w h) c
       go outcome.Nothing c = tt
       go outcome.Spent c = tt
+
+  -- bounds that are present are those of a bundle with more than one member
+  bounds-count : (u : Bundle) (lower upper : Bound) (r : Bounds) → bounds-of b routes u lower upper ≡ Between r → 1 < u .count
+  unfolding bounds-of
+  bounds-count u lower upper r e = go (leb (u .width) 1) (leb (u .count) 1) refl (if-at (reach-all b routes (u .role) None (members-in b u)) Absent (between b u lower upper (u .role))) e
+    where
+      go : (s t : Bool) → leb (u .count) 1 ≡ t → (c : CollectorBounds) → cond s Absent (cond t Absent c) ≡ Between r → 1 < u .count
+      go true t f c e = let z : _≡_ {A = ℕ} 0 1 = cc in absurd (omega arith)
+      go false true f c e = let z : _≡_ {A = ℕ} 0 1 = cc in absurd (omega arith)
+      go false false f c e = omega (arith, leb-false)
+
+  seek-small : (u : Bundle) (lower upper : Bound) (v : ℕ) → Windowed b u → SmallX (found-x (seek search-of b routes u lower upper v .outcome))
+  seek-small u lower upper v w = go (bounds-of b routes u lower upper) refl
+    where
+      go : (c : CollectorBounds) → bounds-of b routes u lower upper ≡ c → SmallX (found-x (seek-in search-of b routes u c v .outcome))
+      go Absent e = tt
+      go (Between r) e = search-small u r v w (bounds-count u lower upper r e)
+
+  -- ---- the first pass
+  -- a bundle of the board, and its bounds, if present, those of a bundle with more than one member
+  abbrev OkRanged : Ranged → Type 0
+  OkRanged s = Windowed b (s .bundle) × (found? (s .bounds) ≡ true → 1 < s .bundle .count) × SmallX (initial-x s)
+
+  ranged-ok : (u : Bundle) (v : ℕ) → Windowed b u → OkRanged (ranged u (bounds-of b routes u None None) (seek search-of b routes u None None v .outcome))
+  ranged-ok u v w = go (bounds-of b routes u None None) refl
+    where
+      at : (r : Bounds) (o : Outcome) → 1 < u .count → SmallX (found-x o) → OkRanged (ranged u (Between r) o)
+      at r (outcome.Found x) h s = (w, (λ e. h), s)
+      at r outcome.Nothing h s = (w, (λ e. h), tt)
+      at r outcome.Spent h s = (w, (λ e. h), tt)
+
+      go : (c : CollectorBounds) → bounds-of b routes u None None ≡ c → OkRanged (ranged u c (seek-in search-of b routes u c v .outcome))
+      go Absent e = (w, (λ f. absurd (true≢false (sym f))), tt)
+      go (Between r) e = at r (search-of (u .role) r (trunks b routes u) v .outcome) (bounds-count u None None r e) (search-small u r v w (bounds-count u None None r e))
+
+  first-pass-ok : (us : List Bundle) (v : ℕ) → Every (Windowed b) us → Every OkRanged (first-pass search-of b routes us v .ranges)
+  unfolding first-pass
+  first-pass-ok [] v w = tt
+  first-pass-ok (u ∷ us) v w = (ranged-ok u v (w .0), first-pass-ok us (seek search-of b routes u None None v .left .0) (w .1))
+
+  first-pass-length : (us : List Bundle) (v : ℕ) → length (first-pass search-of b routes us v .ranges) ≡ length us
+  unfolding first-pass
+  first-pass-length [] v = refl
+  first-pass-length (u ∷ us) v = ap suc (first-pass-length us (seek search-of b routes u None None v .left .0))
+
+  -- ---- what every step keeps: so many x, each of them small
+  abbrev Shape : ℕ → List Bound → Type 0
+  Shape n xs = Every SmallX xs × (length xs ≡ n)
+
+  every-set : (xs : List Bound) (i : ℕ) (x : Bound) → SmallX x → Every SmallX xs → Every SmallX (set xs i x)
+  every-set [] i x s e = tt
+  every-set (y ∷ ys) zero x s e = (s, e .1)
+  every-set (y ∷ ys) (suc i) x s e = (e .0, every-set ys i x s (e .1))
+
+  set-length : (xs : List Bound) (i : ℕ) (x : Bound) → length (set xs i x) ≡ length xs
+  set-length [] i x = refl
+  set-length (y ∷ ys) zero x = refl
+  set-length (y ∷ ys) (suc i) x = ap suc (set-length ys i x)
+
+  shape-set : (n : ℕ) (xs : List Bound) (i : ℕ) (x : Bound) → SmallX x → Shape n xs → Shape n (set xs i x)
+  shape-set n xs i x s h = (every-set xs i x s (h .0), set-length xs i x ∙ h .1)
+
+  drop-shape : (n : ℕ) (is : List ℕ) (xs : List Bound) → Shape n xs → Shape n (drop-all is xs)
+  unfolding drop-all
+  drop-shape n [] xs h = h
+  drop-shape n (i ∷ is) xs h = drop-shape n is (set xs i None) (shape-set n xs i None tt h)
+
+  abbrev ShapeStep : ℕ → Step → Type 0
+  ShapeStep n (going p) = Shape n (p .xs)
+  ShapeStep n (refused v) = Unit {0}
+
+  then-shape : (n : ℕ) (s : Step) (g : Plan → Step) → ShapeStep n s → ((p : Plan) → Shape n (p .xs) → ShapeStep n (g p)) → ShapeStep n (then s g)
+  then-shape n (going p) g h k = k p h
+  then-shape n (refused v) g h k = tt
+
+  module _ (ranges : List Ranged) (fine : Every OkRanged ranges) (n : ℕ) where
+    bundle-fine : (i : ℕ) → Windowed b (ranged-at ranges i .bundle)
+    bundle-fine i = go ranges fine i
+      where
+        go : (l : List Ranged) → Every OkRanged l → (i : ℕ) → Windowed b (ranged-at l i .bundle)
+        go [] e i = omega arith
+        go (s ∷ l) e zero = e .0 .0
+        go (s ∷ l) e (suc i) = go l (e .1) i
+
+    again-shape : (lower upper : Bound → Bound) (is : List ℕ) (p : Plan) → Shape n (p .xs) → Shape n (again search-of b routes ranges lower upper is p .xs)
+    unfolding again
+    again-shape lower upper [] p h = h
+    again-shape lower upper (i ∷ is) p h =
+        let x = getD (p .xs) i None in
+        let s = seek search-of b routes (ranged-at ranges i .bundle) (lower x) (upper x) (p .left) in
+        again-shape lower upper is (record { xs = set (p .xs) i (found-x (s .outcome)); left = s .left .0 })
+        (shape-set n (p .xs) i (found-x (s .outcome)) (seek-small (ranged-at ranges i .bundle) (lower x) (upper x) (p .left) (bundle-fine i)) h)
+
+    limited-shape : (limit : Float) (inputs : List ℕ) (p : Plan) → Shape n (p .xs) → Shape n (limited search-of b routes ranges limit inputs p .xs)
+    limited-shape limit inputs p h = go (exceeds (required b routes ranges (p .xs) None inputs) limit)
+      where
+        go : (t : Bool) → Shape n (cond t (again search-of b routes ranges (λ x. None) (input-limit (parting-pitch b) limit) inputs p) p .xs)
+        go true = again-shape (λ x. None) (input-limit (parting-pitch b) limit) inputs p h
+        go false = h
+
+    split-shape : (low limit deepest earliest : Float) (inputs : List ℕ) (p : Plan) → Shape n (p .xs) → ShapeStep n (split search-of b routes ranges low limit deepest earliest inputs p)
+    split-shape low limit deepest earliest inputs p h = go (Ieee.lt earliest (deepest ⊕ parting-pitch b)) (Ieee.lt (limit ⊖ parting-pitch b) low)
+      where
+        go : (s t : Bool) → ShapeStep n (cond s (cond t (refused (p .left)) (going (again search-of b routes ranges (λ x. None) (λ x. At (input-split (parting-pitch b) low limit deepest earliest)) inputs p))) (going p))
+        go true true = tt
+        go true false = again-shape (λ x. None) (λ x. At (input-split (parting-pitch b) low limit deepest earliest)) inputs p h
+        go false t = h
+
+    settle-shape : (order : List ℕ) (low limit deepest earliest : Float) (inputs outputs : List ℕ) (p : Plan) → Shape n (p .xs) → ShapeStep n (settle search-of b routes ranges order low limit deepest earliest inputs outputs p)
+    settle-shape order low limit deepest earliest inputs outputs p h = go (Ieee.lt limit (low ⊕ parting-pitch b))
+      where
+        last : Plan → Step
+        last q = going (outputs-last search-of b routes ranges inputs outputs (limited search-of b routes ranges limit inputs q))
+
+        go : (t : Bool) → ShapeStep n (cond t (going (record { xs = drop-all order (p .xs); left = p .left })) (then (split search-of b routes ranges low limit deepest earliest inputs p) last))
+        go true = drop-shape n order (p .xs) h
+        go false =
+            then-shape n (split search-of b routes ranges low limit deepest earliest inputs p) last (split-shape low limit deepest earliest inputs p h)
+            (λ q k. again-shape (λ x. required b routes ranges (limited search-of b routes ranges limit inputs q .xs) None inputs) (λ x. None) outputs (limited search-of b routes ranges limit inputs q) (limited-shape limit inputs q k))
+
+    treat-shape : (order inputs outputs : List ℕ) (p : Plan) → Shape n (p .xs) → ShapeStep n (treat search-of b routes ranges order inputs outputs p)
+    treat-shape order [] outputs p h = h
+    treat-shape order (i ∷ is) [] p h = h
+    treat-shape order (i ∷ is) (o ∷ os) p h =
+        settle-shape order (largest (minimum-at ranges) (minimum-at ranges i) is) (smallest (maximum-at ranges) (maximum-at ranges o) os)
+        (largest (desired-at ranges) (desired-at ranges i) is) (smallest (desired-at ranges) (desired-at ranges o) os) (i ∷ is) (o ∷ os) p h
+
+    components-shape : (is : List ℕ) (seen : List Bool) (p : Plan) → Shape n (p .xs) → ShapeStep n (components search-of b routes ranges is seen p)
+    unfolding components
+    components-shape [] seen p h = h
+    components-shape (i ∷ is) seen p h =
+        let c = component-of b routes ranges i seen in
+        go (getD seen i true || not (found? (ranged-at ranges i .bounds))) (components search-of b routes ranges is seen p) (then (treated search-of b routes ranges (c .order) p) (components search-of b routes ranges is (c .seen)))
+        (components-shape is seen p h)
+        (then-shape n (treated search-of b routes ranges (c .order) p) (components search-of b routes ranges is (c .seen)) (treat-shape (c .order) (of-role Input ranges (c .order)) (of-role Output ranges (c .order)) p h) (components-shape is (c .seen)))
+      where
+        go : (t : Bool) (s u : Step) → ShapeStep n s → ShapeStep n u → ShapeStep n (cond t s u)
+        go true s u h k = h
+        go false s u h k = k
+
+  -- ---- the separation
+  beside-small : (s : Ranged) (x : Bound) (ys : List Float) (v : ℕ) → OkRanged s → SmallX x → SmallX (found-x (beside search-of b routes s x ys v .outcome))
+  beside-small s None ys v o h = tt
+  beside-small s (At x) ys v o h = go (clear (pitch-of b (s .bundle)) x ys)
+    where
+      look : (c : CollectorBounds) → (found? c ≡ true → 1 < s .bundle .count)
+          → SmallX (found-x (if-between c (answer outcome.Nothing v) (λ r. search-of (s .bundle .role) (cut-to (s .bundle .role) r (moved (pitch-of b (s .bundle)) (s .bundle .role) r x ys)) (trunks b routes (s .bundle)) v) .outcome))
+      look Absent f = tt
+      look (Between r) f = search-small (s .bundle) (cut-to (s .bundle .role) r (moved (pitch-of b (s .bundle)) (s .bundle .role) r x ys)) v (o .0) (f refl)
+
+      go : (t : Bool) → SmallX (found-x (cond t (answer (outcome.Found x) v) (look-beside search-of b routes s x ys v) .outcome))
+      go true = h
+      go false = look (s .bounds) (o .1)
+
+  clear-small : (pitch : Float) (x : Bound) (ys : List Float) → SmallX x → SmallX (if-clear pitch x ys)
+  clear-small pitch None ys h = tt
+  clear-small pitch (At x) ys h = go (clear pitch x ys)
+    where
+      go : (t : Bool) → SmallX (cond t (At x) None)
+      go true = h
+      go false = tt
+
+  separated-shape : (ss : List Ranged) (xs : List Bound) (l : Lanes) (v : ℕ) → length xs ≡ length ss → Every OkRanged ss → Every SmallX xs → Shape (length ss) (separated search-of b routes ss xs l v .xs)
+  unfolding separated
+  separated-shape [] xs l v e o h = (tt, refl)
+  separated-shape (s ∷ ss) [] l v e o h = absurd (omega (arith, e))
+  separated-shape (s ∷ ss) (x ∷ xs) l v e o h =
+      let ys = lanes-of (s .bundle .role) l in
+      let t = beside search-of b routes s x ys v in
+      let y = if-clear (pitch-of b (s .bundle)) (found-x (t .outcome)) ys in
+      let r = separated-shape ss xs (add-lane (s .bundle .role) y l) (t .left .0) (omega (arith, e)) (o .1) (h .1) in
+      ((clear-small (pitch-of b (s .bundle)) (found-x (t .outcome)) ys (beside-small s x ys v (o .0) (h .0)), r .0), ap suc (r .1))
+
+  -- ---- the whole plan
+  initial-shape : (ss : List Ranged) → Every OkRanged ss → Shape (length ss) (map initial-x ss)
+  initial-shape [] e = (tt, refl)
+  initial-shape (s ∷ ss) e = let r = initial-shape ss (e .1) in ((e .0 .2, r .0), ap suc (r .1))
+
+  -- THE RANGE AND THE SIZE of a plan
+  pub planned-shape : (separate : Bool) (v : ℕ) → Every (Windowed b) (b .bundles) → (p : Plan) → plan-of b routes separate v ≡ going p → Every SmallX (p .xs) × (length (p .xs) ≡ length (b .bundles))
+  planned-shape separate v w p e =
+      let f = first-pass search-of b routes (b .bundles) v in
+      let ok = first-pass-ok (b .bundles) v w in
+      let l = first-pass-length (b .bundles) v in
+      let whole : ShapeStep (length (f .ranges)) (plan-of b routes separate v) =
+      then-shape (length (f .ranges)) (components search-of b routes (f .ranges) (indices-from 0 (f .ranges)) (replicate (length (f .ranges)) false) (record { xs = map initial-x (f .ranges); left = f .left }))
+      (separated-if search-of b routes separate (f .ranges))
+      (components-shape (f .ranges) ok (length (f .ranges)) (indices-from 0 (f .ranges)) (replicate (length (f .ranges)) false) (record { xs = map initial-x (f .ranges); left = f .left }) (initial-shape (f .ranges) ok))
+      (λ q h. split-off separate (f .ranges) ok q h) in
+      let r = subst (ShapeStep (length (f .ranges))) e whole in
+      (r .0, r .1 ∙ l)
+    where
+      split-off : (t : Bool) (ss : List Ranged) → Every OkRanged ss → (q : Plan) → Shape (length ss) (q .xs) → ShapeStep (length ss) (separated-if search-of b routes t ss q)
+      split-off false ss o q h = h
+      split-off true ss o q h = separated-shape ss (q .xs) (record { input = []; output = [] }) (q .left) (h .1) o (h .0)
