@@ -11,10 +11,9 @@ use lib.Dec.{T, ltb, eqb}
 use lib.IntN.{pos}
 use lib.ListN.{length, getD, set}
 use lib.Ieee.{Float, fin, binary64, lt, fits, ofInt, add, sub, mul, div}
-use lib.Ieee.Fits.{add-fits, sub-fits, mul-fits}
 use borrow.Author.Tests.{eqb-true, eqb-false}
 use Rattle.binary64.specs.Order.{least, greatest}
-use Rattle.binary64.specs.Range.{Within, within-mono, mul-within, sub-within, half, half-within, div-two}
+use Rattle.binary64.specs.Range.{Within, within-mono, mul-within, add-within, sub-within, half, half-within, div-two}
 use Rattle.geometry.specs.declared.Point.{Point}
 use Rattle.geometry.specs.declared.Segment.{Segment}
 use Rattle.geometry.specs.declared.Side.{Side}
@@ -39,7 +38,7 @@ use Rattle.board.specs.Board.{Board, rail-depth}
 use Rattle.sorting.specs.Sorted.{Every}
 use Rattle.plan.specs.Depths.{number, inward, lane-count, no-port, no-node, port-of, node-of, endpoint-of, members-in, pitch-of, parting-pitch}
 use Rattle.plan.specs.Lone.{every-getD}
-use Rattle.plan.specs.Numbers.{Small, Numbers, small-real, wider, add-small, sub-small, pick, least-small, greatest-small, number-small, lane-count-small, members-good, pitch-small, rail-small, node-small, port-small, endpoint-small, inward-small, zero-small}
+use Rattle.plan.specs.Numbers.{Small, Numbers, pick, number-small, lane-count-small, members-good, pitch-small, rail-small, node-small, port-small, endpoint-small, inward-small, zero-small}
 use Rattle.drawing.specs.Build.{TapOn, Drawn, route-at, trunk-met, tap-then, trunk-taps, lowest, highest, center, rail-tap, rail-taps, rail-low, rail-high, drawn-as, drawn-inside, rail-corner, railed, inside-or, build}
 use Rattle.drawing.specs.Rewrite.{rewritten, two-points, corridor-depth, rewrite-one, put-route, then-routes, rewrite-all}
 use Rattle.drawing.specs.Sheet.{Turn, Progress, Outcome, going, after-turn, drawn-at, rewritten-by, turn, sheet-of, blank}
@@ -50,7 +49,7 @@ use Rattle.drawing.specs.Assembly.{Turned, turned, turn-went}
 
 -- a number of the sheet
 abbrev pub Ok : Float → Type 0
-Ok x = Small 1010 x
+Ok x = Within 1010 x
 
 abbrev pub OkPoint : Point → Type 0
 OkPoint p = Ok (p .x) × Ok (p .y)
@@ -63,7 +62,7 @@ OkRoutes rs = (i : ℕ) → OkRoute (route-at rs i)
 
 -- a tap's x is a planned one or the rail's
 abbrev pub OkTap : TapOn → Type 0
-OkTap t = Small 1002 (t .place .x) × Ok (t .place .y)
+OkTap t = Within 1002 (t .place .x) × Ok (t .place .y)
 
 pub record OkDrawn (d : Drawn) : Type 0 where
   pub collector-start : OkPoint (d .collector .start)
@@ -80,18 +79,30 @@ pub record Limits (b : Board) (routes : List Route) : Type 0 where
 
 abbrev pub SmallPlan : Option Float → Type 0
 SmallPlan none = Unit {0}
-SmallPlan (some x) = Small 1002 x
+SmallPlan (some x) = Within 1002 x
 
 -- a turn's planned x and its offset
 abbrev pub OkTurn : Turn → Type 0
-OkTurn t = SmallPlan (t .planned) × Small 1000 (t .offset)
+OkTurn t = SmallPlan (t .planned) × Within 1000 (t .offset)
 
 pub record OkSheet (s : Progress) : Type 0 where
   pub present : OkRoutes (s .routes)
   pub bundles : Every OkDrawn (s .drawn)
 
-ok : (k : ℕ) (x : Float) → k ≤ 1010 → Small k x → Ok x
-ok k x h s = wider k 1010 x h s
+ok : (k : ℕ) (x : Float) → k ≤ 1010 → Within k x → Ok x
+ok k x h s = within-mono k 1010 x h s
+
+add-ok : (j k m : ℕ) (x y : Float) → m < 1023 → j ≤ m → k ≤ m → Within j x → Within k y → Within (suc m) (add binary64 x y)
+add-ok j k m x y h p q s t = add-within m x y h (within-mono j m x p s) (within-mono k m y q t)
+
+sub-ok : (j k m : ℕ) (x y : Float) → m < 1023 → j ≤ m → k ≤ m → Within j x → Within k y → Within (suc m) (sub binary64 x y)
+sub-ok j k m x y h p q s t = sub-within m x y h (within-mono j m x p s) (within-mono k m y q t)
+
+least-ok : (x y : Float) → Ok x → Ok y → Ok (least x y)
+least-ok x y s t = pick (lt y x) y x Ok t s
+
+greatest-ok : (x y : Float) → Ok x → Ok y → Ok (greatest x y)
+greatest-ok x y s t = pick (lt x y) y x Ok t s
 
 -- ---- taps on a trunk
 
@@ -116,22 +127,22 @@ trunk-tap Output pitch x r k p e =
 lowest-ok : (y : Float) (ts : List TapOn) → Ok y → Every OkTap ts → Ok (lowest y ts)
 unfolding lowest
 lowest-ok y [] s e = s
-lowest-ok y (t ∷ ts) s e = lowest-ok (least y (t .place .y)) ts (least-small 1010 y (t .place .y) s (e .0 .1)) (e .1)
+lowest-ok y (t ∷ ts) s e = lowest-ok (least y (t .place .y)) ts (least-ok y (t .place .y) s (e .0 .1)) (e .1)
 
 highest-ok : (y : Float) (ts : List TapOn) → Ok y → Every OkTap ts → Ok (highest y ts)
 unfolding highest
 highest-ok y [] s e = s
-highest-ok y (t ∷ ts) s e = highest-ok (greatest y (t .place .y)) ts (greatest-small 1010 y (t .place .y) s (e .0 .1)) (e .1)
+highest-ok y (t ∷ ts) s e = highest-ok (greatest y (t .place .y)) ts (greatest-ok y (t .place .y) s (e .0 .1)) (e .1)
 
 rail-low-ok : (ts : List TapOn) (y : Float) → Ok y → Every OkTap ts → Ok (rail-low ts y)
 unfolding rail-low
 rail-low-ok [] y s e = s
-rail-low-ok (t ∷ ts) y s e = least-small 1010 (t .place .y) y (e .0 .1) s
+rail-low-ok (t ∷ ts) y s e = least-ok (t .place .y) y (e .0 .1) s
 
 rail-high-ok : (ts : List TapOn) (y : Float) → Ok y → Every OkTap ts → Ok (rail-high ts y)
 unfolding rail-high
 rail-high-ok [] y s e = s
-rail-high-ok (t ∷ []) y s e = greatest-small 1010 (t .place .y) y (e .0 .1) s
+rail-high-ok (t ∷ []) y s e = greatest-ok (t .place .y) y (e .0 .1) s
 rail-high-ok (t ∷ u ∷ ts) y s e = rail-high-ok (u ∷ ts) y s (e .1)
 
 -- 2 is the float 2
@@ -155,7 +166,7 @@ module _ (b : Board) (routes : List Route) (limits : Limits b routes) where
   node-y : (u : Bundle) → Small 30 (node-of b u .body .corner .y) × Small 30 (node-of b u .body .height)
   node-y u = every-getD (λ (n : PlacedNode). Small 30 (n .body .corner .y) × Small 30 (n .body .height)) (b .nodes) no-node (port-of b u .node) (limits .node-ys) (zero-small 30, zero-small 30)
 
-  endpoint-y : (u : Bundle) → Small 31 (endpoint-of b u .y)
+  endpoint-y : (u : Bundle) → Within 31 (endpoint-of b u .y)
   unfolding good
   endpoint-y u = go (port-of b u .side)
     where
@@ -165,21 +176,21 @@ module _ (b : Board) (routes : List Route) (limits : Limits b routes) where
       p : Port
       p = port-of b u
 
-      go : (s : Side) → Small 31 (port-point (n .body) s (p .offset) .y)
-      go North = wider 30 31 (n .body .corner .y) (omega arith) (node-y u .0)
-      go East = add-small 30 30 30 (n .body .corner .y) (p .offset) (omega arith) (omega arith) (omega arith) (node-y u .0) (port-small b routes good u)
-      go South = add-small 30 30 30 (n .body .corner .y) (n .body .height) (omega arith) (omega arith) (omega arith) (node-y u .0) (node-y u .1)
-      go West = add-small 30 30 30 (n .body .corner .y) (p .offset) (omega arith) (omega arith) (omega arith) (node-y u .0) (port-small b routes good u)
+      go : (s : Side) → Within 31 (port-point (n .body) s (p .offset) .y)
+      go North = within-mono 30 31 (n .body .corner .y) (omega arith) (node-y u .0 .0)
+      go East = add-ok 30 30 30 (n .body .corner .y) (p .offset) (omega arith) (omega arith) (omega arith) (node-y u .0 .0) (port-small b routes good u .0)
+      go South = add-ok 30 30 30 (n .body .corner .y) (n .body .height) (omega arith) (omega arith) (omega arith) (node-y u .0 .0) (node-y u .1 .0)
+      go West = add-ok 30 30 30 (n .body .corner .y) (p .offset) (omega arith) (omega arith) (omega arith) (node-y u .0 .0) (port-small b routes good u .0)
 
   endpoint-ok : (u : Bundle) → OkPoint (endpoint-of b u)
   unfolding good
-  endpoint-ok u = (ok 31 (endpoint-of b u .x) (omega arith) (endpoint-small b routes good u), ok 31 (endpoint-of b u .y) (omega arith) (endpoint-y u))
+  endpoint-ok u = (ok 31 (endpoint-of b u .x) (omega arith) (endpoint-small b routes good u .0), ok 31 (endpoint-of b u .y) (omega arith) (endpoint-y u))
 
-  corner-x : (u : Bundle) → Small 32 (rail-corner b u .x)
+  corner-x : (u : Bundle) → Within 32 (rail-corner b u .x)
   unfolding good rail-corner
-  corner-x u = inward-small b routes good (u .role) 31 21 31 (endpoint-of b u .x) (rail-depth (b .options)) (omega arith) (omega arith) (omega arith) (endpoint-small b routes good u) (rail-small b routes good)
+  corner-x u = inward-small b routes good (u .role) 31 21 31 (endpoint-of b u .x) (rail-depth (b .options)) (omega arith) (omega arith) (omega arith) (endpoint-small b routes good u) (rail-small b routes good) .0
 
-  corner-y : (u : Bundle) → Small 31 (rail-corner b u .y)
+  corner-y : (u : Bundle) → Within 31 (rail-corner b u .y)
   unfolding rail-corner
   corner-y u = endpoint-y u
 
@@ -189,9 +200,9 @@ module _ (b : Board) (routes : List Route) (limits : Limits b routes) where
       let end = rail-corner b u in
       let d = sub binary64 (number (m .«tap_lane»)) middle in
       let s : Within 9 d = sub-within 8 (number (m .«tap_lane»)) middle (omega arith) (number-small (m .«tap_lane») (omega arith)) w in
-      let p : Small 29 (mul binary64 d (parting-pitch b)) = (mul-within 9 20 d (parting-pitch b) (omega arith) s (pitch-small b routes good .0), mul-fits binary64 d (parting-pitch b)) in (
-        wider 32 1002 (end .x) (omega arith) (corner-x u),
-        ok 32 (add binary64 (end .y) (mul binary64 d (parting-pitch b))) (omega arith) (add-small 31 29 31 (end .y) (mul binary64 d (parting-pitch b)) (omega arith) (omega arith) (omega arith) (corner-y u) p),
+      let p : Within 29 (mul binary64 d (parting-pitch b)) = mul-within 9 20 d (parting-pitch b) (omega arith) s (pitch-small b routes good .0) in (
+        within-mono 32 1002 (end .x) (omega arith) (corner-x u),
+        ok 32 (add binary64 (end .y) (mul binary64 d (parting-pitch b))) (omega arith) (add-ok 31 29 31 (end .y) (mul binary64 d (parting-pitch b)) (omega arith) (omega arith) (omega arith) (corner-y u) p),
       )
 
   rail-taps-ok : (u : Bundle) (middle : Float) (ms : List Member) → Within 8 middle → Every (λ (m : Member). m .«tap_lane» ≤ 255) ms → Every OkTap (rail-taps (rail-corner b u) middle (pitch-of b u) ms)
@@ -215,7 +226,7 @@ module _ (b : Board) (routes : List Route) (limits : Limits b routes) where
         taps = e;
       }
 
-  inside-ok : (u : Bundle) (x : Float) (ts : List TapOn) → Small 1002 x → Every OkTap ts → OkDrawn (drawn-inside b u x ts)
+  inside-ok : (u : Bundle) (x : Float) (ts : List TapOn) → Within 1002 x → Every OkTap ts → OkDrawn (drawn-inside b u x ts)
   unfolding drawn-inside drawn-as
   inside-ok u x ts s e =
       let end = endpoint-of b u in
@@ -229,18 +240,18 @@ module _ (b : Board) (routes : List Route) (limits : Limits b routes) where
       }
 
   -- the taps on the members' trunks
-  tap-ok : (role : Role) (pitch x : Float) (r : Route) (k : ℕ) (p : Point) → Small 1002 x → OkRoute r → trunk-met role pitch x r ≡ On k p → Small 1002 (p .x) × Ok (p .y)
+  tap-ok : (role : Role) (pitch x : Float) (r : Route) (k : ℕ) (p : Point) → Within 1002 x → OkRoute r → trunk-met role pitch x r ≡ On k p → Within 1002 (p .x) × Ok (p .y)
   tap-ok role pitch x r k p s h e =
       let t = trunk-tap role pitch x r k p e in
-      (subst (Small 1002) (sym (t .0)) s, subst Ok (sym (t .1 .2)) (h (t .1 .0) (t .1 .1) .1))
+      (subst (Within 1002) (sym (t .0)) s, subst Ok (sym (t .1 .2)) (h (t .1 .0) (t .1 .1) .1))
 
-  taps-ok : (role : Role) (pitch x : Float) (ms : List Member) (rs : List Route) (ts : List TapOn) → Small 1002 x → OkRoutes rs → trunk-taps role pitch x ms rs ≡ some ts → Every OkTap ts
+  taps-ok : (role : Role) (pitch x : Float) (ms : List Member) (rs : List Route) (ts : List TapOn) → Within 1002 x → OkRoutes rs → trunk-taps role pitch x ms rs ≡ some ts → Every OkTap ts
   unfolding trunk-taps tap-then
   taps-ok role pitch x [] rs ts s h e = let z : [] ≡ ts = cc in subst (Every OkTap) z tt
   taps-ok role pitch x (m ∷ ms) rs ts s h e =
       go (trunk-met role pitch x (route-at rs (m .edge))) refl (trunk-taps role pitch x ms rs) (taps-ok role pitch x ms rs) e
     where
-      go : (c : Crossing) → trunk-met role pitch x (route-at rs (m .edge)) ≡ c → (o : Option (List TapOn)) → ((us : List TapOn) → Small 1002 x → OkRoutes rs → o ≡ some us → Every OkTap us)
+      go : (c : Crossing) → trunk-met role pitch x (route-at rs (m .edge)) ≡ c → (o : Option (List TapOn)) → ((us : List TapOn) → Within 1002 x → OkRoutes rs → o ≡ some us → Every OkTap us)
           → tap-then c (m .edge) o ≡ some ts → Every OkTap ts
       go Nowhere c o f g = let z : _≡_ {A = ℕ} 0 1 = cc in absurd (omega arith)
       go (On k p) c none f g = let z : _≡_ {A = ℕ} 0 1 = cc in absurd (omega arith)
@@ -259,19 +270,19 @@ module _ (b : Board) (routes : List Route) (limits : Limits b routes) where
 
   -- ---- what is rewritten
 
-  depth-small : (offset : Float) (u : Bundle) (m : Member) → Small 1000 offset → m .«tap_lane» ≤ 255 → Small 1001 (corridor-depth offset (pitch-of b u) m)
+  depth-small : (offset : Float) (u : Bundle) (m : Member) → Within 1000 offset → m .«tap_lane» ≤ 255 → Within 1001 (corridor-depth offset (pitch-of b u) m)
   unfolding good corridor-depth
   depth-small offset u m s h =
       let l = mul binary64 (number (suc (m .«tap_lane»))) (parting-pitch b) in
-      let w : Small 28 l = (mul-within 8 20 (number (suc (m .«tap_lane»))) (parting-pitch b) (omega arith) (number-small (suc (m .«tap_lane»)) (omega arith)) (pitch-small b routes good .0), mul-fits binary64 (number (suc (m .«tap_lane»))) (parting-pitch b)) in
-      add-small 1000 28 1000 offset l (omega arith) (omega arith) (omega arith) s w
+      let w : Within 28 l = mul-within 8 20 (number (suc (m .«tap_lane»))) (parting-pitch b) (omega arith) (number-small (suc (m .«tap_lane»)) (omega arith)) (pitch-small b routes good .0) in
+      add-ok 1000 28 1000 offset l (omega arith) (omega arith) (omega arith) s w
 
-  corridor-ok : (role : Role) (tap : Point) (depth : Float) → Small 1002 (tap .x) → Small 1001 depth → Ok (corridor-x role tap depth)
+  corridor-ok : (role : Role) (tap : Point) (depth : Float) → Within 1002 (tap .x) → Within 1001 depth → Ok (corridor-x role tap depth)
   unfolding corridor-x
-  corridor-ok Input tap depth s t = ok 1003 (add binary64 (tap .x) depth) (omega arith) (add-small 1002 1001 1002 (tap .x) depth (omega arith) (omega arith) (omega arith) s t)
-  corridor-ok Output tap depth s t = ok 1003 (sub binary64 (tap .x) depth) (omega arith) (sub-small 1002 1001 1002 (tap .x) depth (omega arith) (omega arith) (omega arith) s t)
+  corridor-ok Input tap depth s t = ok 1003 (add binary64 (tap .x) depth) (omega arith) (add-ok 1002 1001 1002 (tap .x) depth (omega arith) (omega arith) (omega arith) s t)
+  corridor-ok Output tap depth s t = ok 1003 (sub binary64 (tap .x) depth) (omega arith) (sub-ok 1002 1001 1002 (tap .x) depth (omega arith) (omega arith) (omega arith) s t)
 
-  rewritten-ok : (inside : Bool) (role : Role) (pitch depth : Float) (tap : Point) (r q : Route) → Small 1002 (tap .x) → Ok (tap .y) → Small 1001 depth → OkRoute r → rewritten inside role pitch depth tap r ≡ some q → OkRoute q
+  rewritten-ok : (inside : Bool) (role : Role) (pitch depth : Float) (tap : Point) (r q : Route) → Within 1002 (tap .x) → Ok (tap .y) → Within 1001 depth → OkRoute r → rewritten inside role pitch depth tap r ≡ some q → OkRoute q
   unfolding rewritten
   rewritten-ok true Input pitch depth tap r q s t d h e = let x = ok 1002 (tap .x) (omega arith) s in remade-coordinates Ok (remade-input-trunk r q tap pitch e) h x t x
   rewritten-ok true Output pitch depth tap r q s t d h e = let x = ok 1002 (tap .x) (omega arith) s in remade-coordinates Ok (remade-output-trunk r q tap pitch e) h x t x
@@ -289,7 +300,7 @@ module _ (b : Board) (routes : List Route) (limits : Limits b routes) where
       go true f = let z : _≡_ {A = ℕ} 0 1 = cc in absurd (omega arith)
       go false f = f
 
-  one-ok : (inside : Bool) (u : Bundle) (offset : Float) (t : TapOn) (m : Member) (r q : Route) → OkTap t → Small 1000 offset → m .«tap_lane» ≤ 255 → OkRoute r
+  one-ok : (inside : Bool) (u : Bundle) (offset : Float) (t : TapOn) (m : Member) (r q : Route) → OkTap t → Within 1000 offset → m .«tap_lane» ≤ 255 → OkRoute r
       → rewrite-one inside (u .role) (pitch-of b u) offset (t .place) m r ≡ some q → OkRoute q
   unfolding rewrite-one
   one-ok inside u offset t m r q s o l h e =
@@ -309,7 +320,7 @@ module _ (b : Board) (routes : List Route) (limits : Limits b routes) where
   put-ok none j rs qs h k e = let z : _≡_ {A = ℕ} 0 1 = cc in absurd (omega arith)
   put-ok (some r) j rs qs h k e = let z : set rs j r ≡ qs = cc in subst OkRoutes z (set-ok rs j r h (k r refl))
 
-  all-ok : (inside : Bool) (u : Bundle) (offset : Float) (ts : List TapOn) (ms : List Member) (rs qs : List Route) → Every OkTap ts → Small 1000 offset → Every (λ (m : Member). m .«tap_lane» ≤ 255) ms → OkRoutes rs
+  all-ok : (inside : Bool) (u : Bundle) (offset : Float) (ts : List TapOn) (ms : List Member) (rs qs : List Route) → Every OkTap ts → Within 1000 offset → Every (λ (m : Member). m .«tap_lane» ≤ 255) ms → OkRoutes rs
       → rewrite-all inside (u .role) (pitch-of b u) offset ts ms rs ≡ some qs → OkRoutes qs
   unfolding rewrite-all
   all-ok inside u offset [] ms rs qs s o l h e = let z : rs ≡ qs = cc in subst OkRoutes z h
@@ -350,7 +361,7 @@ module _ (b : Board) (routes : List Route) (limits : Limits b routes) where
   given-points (p ∷ r) e f a m = go (List·Memᴰ·cases-cons m) (given-points r (e .1) (f .1) a)
     where
       go : (a ≡ p) ⊎ List·Memᴰ a r → (List·Memᴰ a r → OkPoint a) → OkPoint a
-      go (inl z) g = subst OkPoint (sym z) (ok 30 (p .x) (omega arith) (e .0), ok 30 (p .y) (omega arith) (f .0))
+      go (inl z) g = subst OkPoint (sym z) (ok 30 (p .x) (omega arith) (e .0 .0), ok 30 (p .y) (omega arith) (f .0 .0))
       go (inr n) g = g n
 
   given-ok : OkRoutes routes

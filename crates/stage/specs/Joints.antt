@@ -35,7 +35,7 @@ use Rattle.stage.specs.Finite.{Ok, OkPoint, OkTap, OkDrawn, OkTurn, OkSh
 use Rattle.stage.specs.Demand3.{SegmentOf, its-collector, its-spine, OnBoth, AtTapAndEnd, OnlyAtTap, StaysOut, NoFalseJoint}
 
 finite : (p : Point) → OkPoint p → Finite p
-finite p k = record { x = k .0 .0 .is-finite; y = k .1 .0 .is-finite }
+finite p k = record { x = k .0 .is-finite; y = k .1 .is-finite }
 
 -- ---- the tap that is permitted is one that is listed
 
@@ -45,7 +45,7 @@ tap-finite [] i e = tt
 tap-finite (t ∷ ts) i e = go (eqb (t .edge) i) (tap-finite ts i (e .1))
   where
     go : (k : Bool) → FiniteTap (tap-of ts i) → FiniteTap (cond k (At (t .place)) (tap-of ts i))
-    go true h = record { x = e .0 .0 .0 .is-finite; y = e .0 .1 .0 .is-finite }
+    go true h = record { x = e .0 .0 .is-finite; y = e .0 .1 .is-finite }
     go false h = h
 
 pub record Listed (ts : List TapOn) (i : ℕ) (p : Exact) : Type 0 where
@@ -148,18 +148,18 @@ module _ (b : Board) (routes : List Route) (limits : Limits b routes) (ts : List
     where
       go : (d c : Drawn) → OkDrawn d → OkDrawn c → Free (b .options) false (c .collector) Absent (d .collector) → Free (b .options) false (c .spine) Absent (d .collector) → Free (b .options) false (c .collector) Absent (d .spine) → Free (b .options) false (c .spine) Absent (d .spine)
           → SegmentOf d s → SegmentOf c t → HasLength (s .start) (s .end) → (p : Exact) → OnBoth s t p → ⊥
-      go d c D C cc sc cs ss (its-collector x) (its-collector y) =
+      go d c D C both-collectors later-spine earlier-spine both-spines (its-collector x) (its-collector y) =
           subst (λ (z : Segment). HasLength (z .start) (z .end) → (p : Exact) → OnBoth z t p → ⊥) (sym x)
-          (subst (λ (z : Segment). HasLength (d .collector .start) (d .collector .end) → (p : Exact) → OnBoth (d .collector) z p → ⊥) (sym y) (apart (d .collector) (c .collector) (D .collector-start) (D .collector-end) (C .collector-start) (C .collector-end) cc))
-      go d c D C cc sc cs ss (its-collector x) (its-spine y) =
+          (subst (λ (z : Segment). HasLength (d .collector .start) (d .collector .end) → (p : Exact) → OnBoth (d .collector) z p → ⊥) (sym y) (apart (d .collector) (c .collector) (D .collector-start) (D .collector-end) (C .collector-start) (C .collector-end) both-collectors))
+      go d c D C both-collectors later-spine earlier-spine both-spines (its-collector x) (its-spine y) =
           subst (λ (z : Segment). HasLength (z .start) (z .end) → (p : Exact) → OnBoth z t p → ⊥) (sym x)
-          (subst (λ (z : Segment). HasLength (d .collector .start) (d .collector .end) → (p : Exact) → OnBoth (d .collector) z p → ⊥) (sym y) (apart (d .collector) (c .spine) (D .collector-start) (D .collector-end) (C .spine-start) (C .spine-end) sc))
-      go d c D C cc sc cs ss (its-spine x) (its-collector y) =
+          (subst (λ (z : Segment). HasLength (d .collector .start) (d .collector .end) → (p : Exact) → OnBoth (d .collector) z p → ⊥) (sym y) (apart (d .collector) (c .spine) (D .collector-start) (D .collector-end) (C .spine-start) (C .spine-end) later-spine))
+      go d c D C both-collectors later-spine earlier-spine both-spines (its-spine x) (its-collector y) =
           subst (λ (z : Segment). HasLength (z .start) (z .end) → (p : Exact) → OnBoth z t p → ⊥) (sym x)
-          (subst (λ (z : Segment). HasLength (d .spine .start) (d .spine .end) → (p : Exact) → OnBoth (d .spine) z p → ⊥) (sym y) (apart (d .spine) (c .collector) (D .spine-start) (D .spine-end) (C .collector-start) (C .collector-end) cs))
-      go d c D C cc sc cs ss (its-spine x) (its-spine y) =
+          (subst (λ (z : Segment). HasLength (d .spine .start) (d .spine .end) → (p : Exact) → OnBoth (d .spine) z p → ⊥) (sym y) (apart (d .spine) (c .collector) (D .spine-start) (D .spine-end) (C .collector-start) (C .collector-end) earlier-spine))
+      go d c D C both-collectors later-spine earlier-spine both-spines (its-spine x) (its-spine y) =
           subst (λ (z : Segment). HasLength (z .start) (z .end) → (p : Exact) → OnBoth z t p → ⊥) (sym x)
-          (subst (λ (z : Segment). HasLength (d .spine .start) (d .spine .end) → (p : Exact) → OnBoth (d .spine) z p → ⊥) (sym y) (apart (d .spine) (c .spine) (D .spine-start) (D .spine-end) (C .spine-start) (C .spine-end) ss))
+          (subst (λ (z : Segment). HasLength (d .spine .start) (d .spine .end) → (p : Exact) → OnBoth (d .spine) z p → ⊥) (sym y) (apart (d .spine) (c .spine) (D .spine-start) (D .spine-end) (C .spine-start) (C .spine-end) both-spines))
 
   -- THE THEOREM, with crossings forbidden, for every plan whose numbers are finite; that each bundle has its turn is asked for
   pub no-false-joint : ((v : Bundle) → List·Memᴰ v (b .bundles) → (t : Turn) × List·Memᴰ t ts × (t .bundle ≡ v)) → NoFalseJoint b (u .routes) (u .drawn)

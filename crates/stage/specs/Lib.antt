@@ -3,3 +3,4 @@ pub mod Finite
 pub mod Demand3
 pub mod Joints
 pub mod Places
+pub mod Whole

@@ -165,7 +165,7 @@ module _ (b : Board) (given : List Route) where
 abbrev pub no-bundle : Bundle
 no-bundle = record { id = 0; port = 0; role = Input; width = 0; first = 0; count = 0 }
 
-offsets-length : (b : Board) (us : List Bundle) (w : Used) → length (offsets-from b us w) ≡ length us
+pub offsets-length : (b : Board) (us : List Bundle) (w : Used) → length (offsets-from b us w) ≡ length us
 unfolding offsets-from
 offsets-length b [] w = refl
 offsets-length b (u ∷ us) w = ap suc (offsets-length b us (used-after b u w))
