@@ -50,7 +50,7 @@ returns c =
     let a = c .before .before .before .before .before .before .before .before .before .args in
     let l = c .before .before .before .before .before .before .before .loop in
     let w = rw (c .before .before .before .before .before .point-at .ensures, c .before .before .before .before .point-at2 .ensures) at (sym (c .before .before .before .line-on-run .ensures) ∙ c .before .h .given .1) in
-    sym (first-hit (meets (a .line) (a .x)) (now (a .points)) (a .start) (a .count) (l .i) _ (c .before .before .before .before .before .before .loop-test .taken) w) ∙ l .inv .2
+    sym (first-hit (meets (a .line) (a .x)) (now (a .points)) (a .start) (a .count) (l .i) _ (omega arith) w) ∙ l .inv .2
 
 enum-told : tie.Need-enum-told Inv-loop μ-loop
 enum-told c = search needs
@@ -66,13 +66,13 @@ loop-again c =
     let a = c .before .before .before .before .before .before .before .before .args in
     let l = c .before .before .before .before .before .before .loop in
     let w = rw (c .before .before .before .before .point-at .ensures, c .before .before .before .point-at2 .ensures) at (sym (c .before .before .line-on-run .ensures) ∙ c .enum-told .given .1) in
-    (omega arith, l .inv .1, first-miss (meets (a .line) (a .x)) (now (a .points)) (a .start) (a .count) (l .i) (c .before .before .before .before .before .loop-test .taken) w ∙ l .inv .2)
+    (omega arith, l .inv .1, first-miss (meets (a .line) (a .x)) (now (a .points)) (a .start) (a .count) (l .i) (omega arith) w ∙ l .inv .2)
 
 returns-2 : tie.Need-returns-2 Inv-loop μ-loop
 returns-2 c =
     let a = c .before .before .before .args in
     let l = c .before .loop in
-    sym (first-end (meets (a .line) (a .x)) (now (a .points)) (a .start) (a .count) (l .i) (c .loop-test .left)) ∙ l .inv .2
+    sym (first-end (meets (a .line) (a .x)) (now (a .points)) (a .start) (a .count) (l .i) (omega arith)) ∙ l .inv .2
 
 pub first-crossing-spec : {M : Type 1} → statement M
 first-crossing-spec =
