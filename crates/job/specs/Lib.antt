@@ -1,0 +1,9 @@
+pub mod Keys
+pub mod Job
+pub mod Told
+pub mod Laws
+pub mod Heads
+pub mod Reads
+pub mod Lookups
+pub mod Whole
+pub mod Steps
