@@ -10,7 +10,7 @@ use Rattle.wire.specs.Read.{Read, refused, got, many}
 use Rattle.geometry.specs.declared.Point.{Point}
 use Rattle.board.specs.declared.PlacedNode.{PlacedNode}
 use Rattle.board.specs.declared.Nodes.{Nodes}
-use Rattle.route.specs.Route.{points-from}
+use Rattle.geometry.specs.Points.{points-from}
 use Rattle.job.specs.declared.Keys as k
 use Rattle.job.specs.declared.RawPort.{RawPort}
 use Rattle.job.specs.declared.NodesRead.{NodesRead}

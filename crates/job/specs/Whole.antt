@@ -7,7 +7,7 @@ use mathlib.Core.List.{List, map}
 use lib.Ieee.{Float}
 use lib.ListN.{take}
 use Rattle.geometry.specs.declared.Point.{Point}
-use Rattle.route.specs.Route.{points-from}
+use Rattle.geometry.specs.Points.{points-from}
 use Rattle.job.specs.declared.Header.{Header}
 use Rattle.job.specs.declared.NodesRead.{NodesRead}
 use Rattle.job.specs.declared.PortsRead.{PortsRead}

@@ -11,7 +11,7 @@ ghost use Prim.Native.Nat.{ℕ, _+_, _*_, _-_, _<_, _≤_};
 ghost use lib.Ieee.{Float};
 ghost use lib.ListN.{length, take, drop};
 ghost use Rattle.wire.specs.Read.{after, field, many, told};
-ghost use Rattle.route.specs.Route.{put-point, points-from};
+ghost use Rattle.geometry.specs.Points.{put-point, points-from};
 ghost use Rattle.geometry.specs.Port.{role-number};
 ghost use Rattle.job.specs.Keys.{twice, place-from, each};
 ghost use Rattle.job.specs.Job.{flags-of, side-of, role-of, options, grants, counts, header, node, port, point, member, push, within-total, edge-head, bundle-head, port-of, edge-of, bundle-of, member-of, settled, tables, outcome, read-job};
@@ -885,15 +885,6 @@ pub fn read_ports(s: &[u8], from: usize, count: usize) -> PortsRead
     }
 }
 
-// A point at its place among the points of all routes.
-fn put_point(points: &mut [f64], i: usize, p: Point)
-    requires { ⌜ 2 * i + 1 < length (now points) ⌝ }
-    ensures { λ _. ⌜ now (points .exit) ≡ put-point (now (points .entry)) i p ⌝ }
-{
-    points[2 * i] = p.x;
-    points[2 * i + 1] = p.y;
-}
-
 // The points of one route, total points standing before them.
 fn read_points(s: &[u8], from: usize, count: usize, total: usize, points: &mut [f64]) -> Ended
     requires { ⌜ (from < 60000) × (count ≤ 64) × (total + count ≤ 2048) × (length (now points) ≡ 4096) ⌝ }
@@ -909,7 +900,7 @@ fn read_points(s: &[u8], from: usize, count: usize, total: usize, points: &mut [
             }
             PointRead::Good(v) => v,
         };
-        put_point(&mut points[..], total + i, p);
+        geometry::put_point(&mut points[..], total + i, p);
         at += 16;
         i += 1;
     }

@@ -10,7 +10,7 @@ use Rattle.job.specs.Told.{told-edge}
 use Rattle.job.specs.Laws.{keys, keyed, begun, done, edge-turn, edge-head-refused, edge-points-refused}
 use Rattle.job.specs.Heads.{edge-window}
 use Rattle.job.specs.Reads.{read-as, stopped-as, well-as}
-use Rattle.route.specs.Route.{points-from}
+use Rattle.geometry.specs.Points.{points-from}
 use Rattle.route.specs.Window.{points-length}
 use borrow.Author.Needs.{needs}
 use Rattle.job.proofs.read_edges.Statement.{statement}

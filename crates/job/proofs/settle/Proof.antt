@@ -4,7 +4,7 @@ use mathlib.Core.Path.{sym, _∙_}
 use denote.Ref.{now}
 use lib.ListN.{take}
 use borrow.Author.Tests.{not-true, not-false}
-use Rattle.route.specs.Route.{points-from}
+use Rattle.geometry.specs.Points.{points-from}
 use Rattle.job.specs.Whole.{told-job}
 use Rattle.job.specs.Steps.{known-good, known-bad, eight, port-nine, edge-nine, bundle-nine, member-nine, all-known}
 use borrow.Author.Needs.{needs}
