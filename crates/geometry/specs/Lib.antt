@@ -5,10 +5,3 @@ pub mod Stretch
 pub mod Points
 pub mod Line
 pub mod Port
-pub mod Exact
-pub mod Promise
-pub mod Between
-pub mod Near
-pub mod Meeting
-pub mod Theorem
-pub mod Outside
