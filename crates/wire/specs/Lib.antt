@@ -1,0 +1,4 @@
+pub mod Bytes
+pub mod Read
+pub mod Accept
+pub mod Bits
