@@ -11,7 +11,7 @@ use lib.ListN.{length, getD, take, drop, drop-of-length-le, length-append, lengt
 use lib.Seq.{drop-cons, take-take, take-all, take-nil, length-take-le}
 use lib.Ieee.{Float, nan}
 use borrow.Author.Tests.{leb-true, lt-leb, le-leb, lt-ltb, le-ltb, ltb-true, ltb-false, ne-eqb}
-use Rattle.binary64.specs.Kind.{coordinate}
+use Rattle.binary64.specs.Kind.{is-coordinate}
 use Rattle.binary64.specs.Sign.{zero64}
 use Rattle.geometry.specs.declared.Point.{Point}
 use Rattle.geometry.specs.declared.Role.{Role}
@@ -85,7 +85,7 @@ module _ (counts : List ℕ) (room m : ℕ) where
 -- ---- points
 module _ (points : List Float) (at n : ℕ) where
   pub points-next : 0 < n → points-fit (points-from points at n)
-      ≡ ((coordinate (point-at points at .x) && coordinate (point-at points at .y)) && points-fit (points-from points (at + 1) (n - 1)))
+      ≡ ((is-coordinate (point-at points at .x) && is-coordinate (point-at points at .y)) && points-fit (points-from points (at + 1) (n - 1)))
   unfolding points-fit points-from
   points-next h = let e : n ≡ suc (n - 1) = omega arith in ap (λ (k : ℕ). points-fit (points-from points at k)) e ∙ rw (add-one at)
 

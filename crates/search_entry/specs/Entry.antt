@@ -7,7 +7,7 @@ use Prim.Native.Nat.{ℕ, _+_, _-_, _*_}
 use lib.Dec.{leb, eqb}
 use lib.ListN.{length, take, drop}
 use lib.Ieee.{Float}
-use Rattle.binary64.specs.Kind.{coordinate, option}
+use Rattle.binary64.specs.Kind.{is-coordinate, is-option}
 use Rattle.binary64.specs.Sign.{zero64}
 use Rattle.geometry.specs.declared.Point.{Point}
 use Rattle.geometry.specs.declared.Role.{Role}
@@ -39,7 +39,7 @@ counts-fit room (count ∷ counts) = leb count 64 && leb (count - 1) room && cou
 -- 7: a coordinate that is not accepted as one
 unfoldable pub points-fit : List Point → Bool
 points-fit [] = true
-points-fit (p ∷ ps) = coordinate (p .x) && coordinate (p .y) && points-fit ps
+points-fit (p ∷ ps) = is-coordinate (p .x) && is-coordinate (p .y) && points-fit ps
 
 unfoldable pub routes-fit : List (List Point) → Bool
 unfolding points-fit
@@ -47,7 +47,7 @@ routes-fit [] = true
 routes-fit (r ∷ rs) = points-fit r && routes-fit rs
 
 abbrev pub bounds-fit : Bounds → Bool
-bounds-fit b = coordinate (b .minimum) && coordinate (b .desired) && coordinate (b .maximum)
+bounds-fit b = is-coordinate (b .minimum) && is-coordinate (b .desired) && is-coordinate (b .maximum)
 
 -- bounds that are absent are not looked at
 abbrev pub collector-bounds-fit : CollectorBounds → Bool
@@ -61,7 +61,7 @@ refusal room points starts counts role pitch bounds granted =
     (cond (not (places-fit points starts counts)) 4
     (cond (not (leb (length starts) 64 && counts-fit 2047 counts && leb granted 2000000)) 5
     (cond (not (leb role 1)) 6
-    (cond (not (routes-fit (routes points starts counts) && option pitch && bounds)) 7 0))))
+    (cond (not (routes-fit (routes points starts counts) && is-option pitch && bounds)) 7 0))))
 
 -- document 01's roles
 abbrev pub role-of : ℕ → Role

@@ -14,7 +14,7 @@ ghost use mathlib.Core.Bool.{_&&_, cond};
 ghost use Prim.Native.Nat.{_+_, _*_, _-_, _≤_, _<_};
 ghost use lib.Dec.{leb, ltb};
 ghost use lib.ListN.{length};
-ghost use Rattle.binary64.specs.Kind.{coordinate};
+ghost use Rattle.binary64.specs.Kind.{is-coordinate};
 ghost use Rattle.geometry.specs.Points.{points-from};
 ghost use Rattle.search.specs.Stretches.{routes, Windows};
 ghost use Rattle.search.specs.Search.{Fits, told};
@@ -89,7 +89,7 @@ fn counts_fit(counts: &[usize]) -> bool
 }
 
 fn is_point(p: Point) -> bool
-    ensures { λ r. ⌜ r ≡ coordinate (p .x) && coordinate (p .y) ⌝ }
+    ensures { λ r. ⌜ r ≡ is-coordinate (p .x) && is-coordinate (p .y) ⌝ }
 {
     let x = binary64::is_coordinate(p.x);
     let y = binary64::is_coordinate(p.y);
