@@ -7,3 +7,5 @@ pub mod Visits
 pub mod Lone
 pub mod Numbers
 pub mod Planned
+pub mod Tables
+pub mod Stack

@@ -2,6 +2,27 @@
 //
 // Ported from cachanova/schemweave, commit c4a1a2c60a, crates/schemweave/src/boundary_bundles.rs
 // (Apache-2.0, see NOTICE).
+ghost use mathlib.Core.Path.{_≡_};
+ghost use mathlib.Core.Bool.{true};
+ghost use mathlib.Core.List.{List, [], _∷_};
+ghost use Rattle.board.specs.declared.Edge.{Edge};
+ghost use Prim.Native.Nat.{ℕ, _+_, _*_, _≤_, _<_};
+ghost use lib.ListN.{length, take, drop, set, getD};
+ghost use Rattle.plan.specs.Depths.{past, lanes-past, further, used-by, used, inward};
+ghost use Rattle.plan.specs.Depths.{lane-count, offsets-of};
+ghost use Rattle.plan.specs.Tables.{deeper, board-of, no-member, Sound};
+ghost use Rattle.plan.specs.Bounds.{raised, lowered, clamped, tighter, reach-x, map-bound, unless-crossed, span-of};
+ghost use Rattle.plan.specs.Plan.{push-all, walk};
+ghost use Rattle.plan.specs.Stack.{row-of, walk-of, component-from, room};
+use board::Bundle;
+use board::Bundles;
+use board::Members;
+use board::Nodes;
+use board::Options;
+use board::Ports;
+use geometry::Role;
+use search::Bounds;
+use search::CollectorBounds;
 
 // A bound that may be absent, where the Rust has an infinity; also a planned x that may be.
 pub enum Bound {
@@ -19,4 +40,327 @@ pub struct Used {
 pub struct Deeper {
     pub offset: f64,
     pub used: Used,
+}
+
+// A number for each bundle.
+pub struct Offsets {
+    pub rows: [f64; 32],
+}
+
+// Bundles to come, the next on top, and those that were put there at some time.
+pub struct Stack {
+    pub pending: [usize; 32],
+    pub top: usize,
+    pub seen: [bool; 32],
+}
+
+// A component in the order of its walk, and the bundles seen so far.
+pub struct Walked {
+    pub order: [usize; 32],
+    pub count: usize,
+    pub seen: [bool; 32],
+}
+
+// ---- numbers
+
+// Away from the boundary.
+fn inward(role: Role, x: f64, d: f64) -> f64
+    ensures { λ r. ⌜ r ≡ inward role x d ⌝ }
+{
+    match role {
+        Role::Input => x + d,
+        Role::Output => x - d,
+    }
+}
+
+fn raise(x: f64, b: Bound) -> f64
+    ensures { λ r. ⌜ r ≡ raised x b ⌝ }
+{
+    match b {
+        Bound::None => x,
+        Bound::At(y) => binary64::max(x, y),
+    }
+}
+
+fn lower(x: f64, b: Bound) -> f64
+    ensures { λ r. ⌜ r ≡ lowered x b ⌝ }
+{
+    match b {
+        Bound::None => x,
+        Bound::At(y) => binary64::min(x, y),
+    }
+}
+
+fn clamp(x: f64, low: f64, high: f64) -> f64
+    ensures { λ r. ⌜ r ≡ clamped x low high ⌝ }
+{
+    binary64::min(binary64::max(x, low), high)
+}
+
+// The further of what was used, or asked, and d.
+fn furthest(before: Bound, d: f64) -> Bound
+    ensures { λ r. ⌜ r ≡ further before d ⌝ }
+{
+    match before {
+        Bound::None => Bound::At(d),
+        Bound::At(u) => Bound::At(binary64::max(u, d)),
+    }
+}
+
+// ---- corridor_depth_offsets
+
+// The offset past the depth in use.
+fn offset_past(pitch: f64, depth: f64, before: Bound) -> f64
+    ensures { λ r. ⌜ r ≡ past pitch depth before ⌝ }
+{
+    match before {
+        Bound::None => 0.0,
+        Bound::At(u) => binary64::max((u + pitch) - (depth + pitch), 0.0),
+    }
+}
+
+// So many lanes past a depth.
+fn lanes_past(pitch: f64, depth: f64, offset: f64, lanes: u32) -> f64
+    ensures { λ r. ⌜ r ≡ lanes-past pitch depth offset lanes ⌝ }
+{
+    (depth + offset) + lanes as f64 * pitch
+}
+
+fn used_by(role: Role, w: Used) -> Bound
+    ensures { λ r. ⌜ r ≡ used-by role w ⌝ }
+{
+    match role {
+        Role::Input => w.input,
+        Role::Output => w.output,
+    }
+}
+
+// What the role uses, changed.
+fn use_up(role: Role, d: Bound, w: Used) -> Used
+    ensures { λ r. ⌜ r ≡ used role d w ⌝ }
+{
+    match role {
+        Role::Input => {
+            let o = w.output;
+            Used { input: d, output: o }
+        }
+        Role::Output => {
+            let i = w.input;
+            Used { input: i, output: d }
+        }
+    }
+}
+
+// One bundle's offset, and what its role then uses.
+fn deepen(pitch: f64, depth: f64, lanes: u32, role: Role, w: Used) -> Deeper
+    ensures { λ r. ⌜ r ≡ deeper pitch depth lanes role w ⌝ }
+{
+    let before = used_by(role, w);
+    let offset = offset_past(pitch, depth, before);
+    let last = lanes_past(pitch, depth, offset, lanes);
+    let d = furthest(before, last);
+    let next = use_up(role, d, w);
+    Deeper {
+        offset: offset,
+        used: next,
+    }
+}
+
+// The lane after the last member's, or 0.
+fn lane_count(members: Members, u: Bundle) -> u32
+    requires { ⌜ (members .count ≤ 256) × (u .first + u .count ≤ members .count) ⌝ }
+    requires { ⌜ ((i : ℕ) → i < members .count → getD (members .rows) i no-member .«tap_lane» ≤ 255) ⌝ }
+    ensures { λ r. ⌜ r ≡ lane-count (take (u .count) (drop (u .first) (take (members .count) (members .rows)))) ⌝ }
+{
+    let k = u.count;
+    if k == 0 {
+        return 0;
+    }
+    let at = u.first + k - 1;
+    let m = members.rows[at];
+    m.tap_lane + 1
+}
+
+// Additional depth of each bundle's corridors.
+pub fn corridor_depth_offsets(
+    o: Options,
+    nodes: Nodes,
+    ports: Ports,
+    bundles: Bundles,
+    members: Members,
+) -> Offsets
+    requires { ⌜ Sound nodes ports bundles members ⌝ }
+    ensures { λ r. ⌜ ((edges : List Edge) → take (bundles .count) (r .rows) ≡ offsets-of (board-of o nodes ports edges bundles members)) ⌝ }
+{
+    let rail = board::boundary_bundle_rail_depth(o);
+    let mut rows = [0.0; 32];
+    let mut w = Used {
+        input: Bound::None,
+        output: Bound::None,
+    };
+    let n = bundles.count;
+    let mut i: usize = 0;
+    while i < n {
+        let u = bundles.rows[i];
+        let at = u.port;
+        let p = ports.rows[at];
+        let on = p.node;
+        let node = nodes.rows[on];
+        let body = node.body;
+        let depth = body.width + rail;
+        let lanes = lane_count(members, u);
+        let pitch = board::pitch_of_bundle(o, u);
+        let role = u.role;
+        let d = deepen(pitch, depth, lanes, role, w);
+        rows[i] = d.offset;
+        w = d.used;
+        i += 1;
+    }
+    Offsets { rows: rows }
+}
+
+// ---- interior_collector_bounds
+
+// How far a member lets the collector go, from the end of its route.
+fn reach_x(role: Role, reserve: f64, corridor: Bound, x: f64) -> f64
+    ensures { λ r. ⌜ r ≡ reach-x role reserve corridor x ⌝ }
+{
+    match role {
+        Role::Input => lower(x - reserve, corridor),
+        Role::Output => raise(x + reserve, corridor),
+    }
+}
+
+// The same, if its route has an end.
+fn member_reach(role: Role, reserve: f64, corridor: Bound, end: Bound) -> Bound
+    ensures { λ r. ⌜ r ≡ map-bound (reach-x role reserve corridor) end ⌝ }
+{
+    match end {
+        Bound::None => Bound::None,
+        Bound::At(x) => Bound::At(reach_x(role, reserve, corridor, x)),
+    }
+}
+
+// The nearer to the port of what was reached and x.
+fn tighten(role: Role, d: Bound, x: f64) -> f64
+    ensures { λ r. ⌜ r ≡ tighter role d x ⌝ }
+{
+    match d {
+        Bound::None => x,
+        Bound::At(y) => match role {
+            Role::Input => binary64::min(y, x),
+            Role::Output => binary64::max(y, x),
+        },
+    }
+}
+
+fn unless_crossed(low: f64, desired: f64, high: f64) -> CollectorBounds
+    ensures { λ r. ⌜ r ≡ unless-crossed low desired high ⌝ }
+{
+    if low > high {
+        return CollectorBounds::Absent;
+    }
+    let x = clamp(desired, low, high);
+    CollectorBounds::Between(Bounds {
+        minimum: low,
+        desired: x,
+        maximum: high,
+    })
+}
+
+// From the port's side to the members' side.
+fn span_of(
+    role: Role,
+    endpoint: f64,
+    rail: f64,
+    pitch: f64,
+    least: Bound,
+    most: Bound,
+    d: f64,
+) -> CollectorBounds
+    ensures { λ r. ⌜ r ≡ span-of role endpoint rail pitch least most d ⌝ }
+{
+    match role {
+        Role::Input => {
+            let low = raise(endpoint + rail + pitch, least);
+            let high = lower(d, most);
+            unless_crossed(low, d, high)
+        }
+        Role::Output => {
+            let low = raise(d, least);
+            let high = lower(endpoint - rail - pitch, most);
+            unless_crossed(low, d, high)
+        }
+    }
+}
+
+// ---- components
+
+// The neighbours of i that were not seen are put on the stack, in rising order.
+fn push_near(adjacent: &[bool; 1024], n: usize, i: usize, s: Stack) -> Stack
+    requires { ⌜ (n ≤ 32) × (i < 32) × (room n s ≤ n) ⌝ }
+    ensures { λ r. ⌜ (walk-of n r ≡ push-all (row-of (now (adjacent .entry)) n i) (walk-of n s)) × (room n r ≡ room n s) ⌝ }
+{
+    let mut pending = s.pending;
+    let mut top = s.top;
+    let mut seen = s.seen;
+    let mut j: usize = 0;
+    while j < n {
+        let at = j;
+        j += 1;
+        if adjacent[i * 32 + at] {
+            if !seen[at] {
+                seen[at] = true;
+                pending[top] = at;
+                top += 1;
+            }
+        }
+    }
+    Stack {
+        pending: pending,
+        top: top,
+        seen: seen,
+    }
+}
+
+// The component of `start`.
+fn component(adjacent: &[bool; 1024], n: usize, start: usize, before: [bool; 32]) -> Walked
+    requires { ⌜ (n ≤ 32) × (start < n) ⌝ }
+    ensures { λ r. ⌜ (r .count ≤ n) × (component-from n r ≡ walk (row-of (now (adjacent .entry)) n) n (take n (set before start true)) (start ∷ [])) ⌝ }
+{
+    let mut seen = before;
+    seen[start] = true;
+    let mut pending = [0; 32];
+    pending[0] = start;
+    let mut s = Stack {
+        pending: pending,
+        top: 1,
+        seen: seen,
+    };
+    let mut order = [0; 32];
+    let mut count: usize = 0;
+    while 0 < s.top {
+        let top = s.top - 1;
+        let stack = s.pending;
+        let i = stack[top];
+        order[count] = i;
+        count += 1;
+        let marked = s.seen;
+        s = push_near(
+            adjacent,
+            n,
+            i,
+            Stack {
+                pending: stack,
+                top: top,
+                seen: marked,
+            },
+        );
+    }
+    let marked = s.seen;
+    Walked {
+        order: order,
+        count: count,
+        seen: marked,
+    }
 }
