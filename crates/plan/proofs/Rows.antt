@@ -16,10 +16,11 @@ use Rattle.board.specs.declared.PlacedNode.{PlacedNode}
 use Rattle.board.specs.declared.Port.{Port}
 use Rattle.board.specs.declared.Bundle.{Bundle}
 use Rattle.board.specs.declared.Member.{Member}
-use Rattle.board.specs.Board.{Board, rail-depth}
+use Rattle.geometry.specs.declared.Point.{Point}
+use Rattle.board.specs.Board.{Board, rail-depth, endpoint}
 use Rattle.plan.specs.declared.Used.{Used}
 use Rattle.plan.specs.declared.Deeper.{Deeper}
-use Rattle.plan.specs.Depths.{no-port, no-node, port-of, node-of, members-in, pitch-of, lane-count, boundary-depth, offset-of, used-after, offsets-from}
+use Rattle.plan.specs.Depths.{inward, endpoint-of, no-port, no-node, port-of, node-of, members-in, pitch-of, lane-count, boundary-depth, offset-of, used-after, offsets-from}
 use Rattle.plan.specs.Tables.{deeper, no-bundle, no-member}
 
 -- what a read outside a table would give
@@ -130,3 +131,10 @@ offsets-turn b l n i rows w p d k x h m r ep ed ek ex =
 pub offsets-end : (b : Board) (l : List Bundle) (n i : ℕ) (rows : List Float) (w : Used) → n ≤ i → n ≤ length l → take i rows ≡ take i rows ++ offsets-from b (drop i (take n l)) w
 unfolding offsets-from
 offsets-end b l n i rows w h m = sym (ap (λ (z : List Bundle). take i rows ++ offsets-from b z w) (part-none l n i h m) ∙ append-nil (take i rows))
+
+-- ---- a bundle's tap, before its offset
+pub tap-is : (b : Board) (u : Bundle) (n : PlacedNode) (p : Port) (end : Point) (rail : Float) → n ≡ node-of b u → p ≡ port-of b u → end ≡ endpoint n p → rail ≡ rail-depth (b .options)
+    → inward (u .role) (end .x) rail ≡ inward (u .role) (endpoint-of b u .x) (rail-depth (b .options))
+tap-is b u n p end rail en ep ee er =
+    ap (λ (z : Point). inward (u .role) (z .x) rail) (ee ∙ ap (λ (m : PlacedNode). endpoint m p) en ∙ ap (endpoint (node-of b u)) ep)
+    ∙ ap (inward (u .role) (endpoint-of b u .x)) er

@@ -18,18 +18,21 @@ use Rattle.board.specs.declared.Bundles.{Bundles}
 use Rattle.board.specs.declared.Members.{Members}
 use Rattle.board.specs.Board.{Board}
 use Rattle.plan.specs.declared.Used.{Used}
+use Rattle.plan.specs.declared.Bound.{Bound}
+use Rattle.plan.specs.declared.Bound.the-variants.{None}
+use Rattle.plan.specs.declared.Corridor.{Corridor}
 use Rattle.plan.specs.declared.Deeper.{Deeper}
 use Rattle.plan.specs.Depths.{no-port, past, used-by, used, further, lanes-past}
 
 abbrev pub board-of : Options → Nodes → Ports → List Edge → Bundles → Members → Board
 board-of o nodes ports edges bundles members =
-    record
-    { options = o
-    ; nodes = take (nodes .count) (nodes .rows)
-    ; ports = take (ports .count) (ports .rows)
-    ; edges = edges
-    ; bundles = take (bundles .count) (bundles .rows)
-    ; members = take (members .count) (members .rows)
+    record {
+      options = o;
+      nodes = take (nodes .count) (nodes .rows);
+      ports = take (ports .count) (ports .rows);
+      edges = edges;
+      bundles = take (bundles .count) (bundles .rows);
+      members = take (members .count) (members .rows);
     }
 
 -- an edge's given route, a window of the points in a slice of coordinates
@@ -64,6 +67,7 @@ pub record Sound (nodes : Nodes) (ports : Ports) (bundles : Bundles) (members : 
   pub members-few : members .count ≤ 256
   pub ports-on : (i : ℕ) → i < ports .count → getD (ports .rows) i no-port .node < nodes .count
   pub bundles-on : (i : ℕ) → i < bundles .count → Resolved ports members (getD (bundles .rows) i no-bundle)
+  pub edges-low : (i : ℕ) → i < members .count → getD (members .rows) i no-member .edge < 256
   pub lanes-few : (i : ℕ) → i < members .count → getD (members .rows) i no-member .«tap_lane» ≤ 255
 
 -- members name edges, and the given routes lie in the slice of coordinates
@@ -76,7 +80,14 @@ pub record Routed (points : List Float) (edges : Edges) (members : Members) : Ty
 -- one bundle's offset, and what its role then uses
 abbrev pub deeper : Float → Float → ℕ → Role → Used → Deeper
 deeper pitch depth lanes role w =
-    record
-    { offset = past pitch depth (used-by role w)
-    ; used = used role (further (used-by role w) (lanes-past pitch depth (past pitch depth (used-by role w)) lanes)) w
+    record {
+      offset = past pitch depth (used-by role w);
+      used = used role (further (used-by role w) (lanes-past pitch depth (past pitch depth (used-by role w)) lanes)) w;
     }
+
+-- the corridor of an edge in a table
+abbrev pub no-corridor : Corridor
+no-corridor = record { x = None }
+
+abbrev pub corridor-at : List Corridor → ℕ → Bound
+corridor-at rows e = getD rows e no-corridor .x

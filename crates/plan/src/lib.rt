@@ -9,8 +9,12 @@ ghost use Rattle.board.specs.declared.Edge.{Edge};
 ghost use Prim.Native.Nat.{ℕ, _+_, _*_, _≤_, _<_};
 ghost use lib.ListN.{length, take, drop, set, getD};
 ghost use Rattle.plan.specs.Depths.{past, lanes-past, further, used-by, used, inward};
-ghost use Rattle.plan.specs.Depths.{lane-count, offsets-of};
-ghost use Rattle.plan.specs.Tables.{deeper, board-of, no-member, Sound};
+ghost use Rattle.plan.specs.Depths.{lane-count, offsets-of, _⊕_, number, first-of, endpoint-of, pitch-of, same-role, corridor-among, corridor-from};
+ghost use Rattle.plan.specs.Tables.{deeper, board-of, no-member, Sound, corridor-at};
+ghost use Rattle.plan.specs.declared.Bound.the-variants.{At};
+ghost use Rattle.board.specs.Board.{Board, rail-depth};
+ghost use lib.Ieee as Ieee;
+ghost use lib.Ieee.{binary64};
 ghost use Rattle.plan.specs.Bounds.{raised, lowered, clamped, tighter, reach-x, map-bound, unless-crossed, span-of};
 ghost use Rattle.plan.specs.Plan.{push-all, walk};
 ghost use Rattle.plan.specs.Stack.{row-of, walk-of, component-from, room};
@@ -45,6 +49,16 @@ pub struct Deeper {
 // A number for each bundle.
 pub struct Offsets {
     pub rows: [f64; 32],
+}
+
+// The corridor of an edge, if it has one.
+pub struct Corridor {
+    pub x: Bound,
+}
+
+// The corridors of the edges, for bundles of one role.
+pub struct Corridors {
+    pub rows: [Corridor; 256],
 }
 
 // Bundles to come, the next on top, and those that were put there at some time.
@@ -142,11 +156,17 @@ fn use_up(role: Role, d: Bound, w: Used) -> Used
     match role {
         Role::Input => {
             let o = w.output;
-            Used { input: d, output: o }
+            Used {
+                input: d,
+                output: o,
+            }
         }
         Role::Output => {
             let i = w.input;
-            Used { input: i, output: d }
+            Used {
+                input: i,
+                output: d,
+            }
         }
     }
 }
@@ -217,6 +237,111 @@ pub fn corridor_depth_offsets(
         i += 1;
     }
     Offsets { rows: rows }
+}
+
+// ---- fallback_corridors_by_edge
+
+fn first_of(b: Bound, x: f64) -> Bound
+    ensures { λ r. ⌜ r ≡ first-of b (At x) ⌝ }
+{
+    match b {
+        Bound::None => Bound::At(x),
+        Bound::At(y) => Bound::At(y),
+    }
+}
+
+// The corridor of a member on a lane, from the tap's side on.
+fn corridor_x(role: Role, tap: f64, offset: f64, pitch: f64, lane: u32) -> f64
+    requires { ⌜ lane ≤ 255 ⌝ }
+    ensures { λ r. ⌜ r ≡ inward role tap (offset ⊕ Ieee.mul binary64 (number (lane + 1)) pitch) ⌝ }
+{
+    let d = offset + (lane + 1) as f64 * pitch;
+    inward(role, tap, d)
+}
+
+// The corridors of a bundle's members, put beside those in hand.
+fn add_corridors(
+    tap: f64,
+    offset: f64,
+    pitch: f64,
+    members: Members,
+    u: Bundle,
+    before: Corridors,
+) -> Corridors
+    requires { ⌜ (members .count ≤ 256) × (u .first + u .count ≤ members .count) ⌝ }
+    requires { ⌜ ((i : ℕ) → i < members .count → getD (members .rows) i no-member .«tap_lane» ≤ 255) ⌝ }
+    requires { ⌜ ((i : ℕ) → i < members .count → getD (members .rows) i no-member .edge < 256) ⌝ }
+    ensures { λ r. ⌜ ((b : Board) (e : ℕ) → tap ≡ inward (u .role) (endpoint-of b u .x) (rail-depth (b .options)) → pitch ≡ pitch-of b u → corridor-at (r .rows) e ≡ first-of (corridor-at (before .rows) e) (corridor-among b u offset e (take (u .count) (drop (u .first) (take (members .count) (members .rows)))))) ⌝ }
+{
+    let role = u.role;
+    let first = u.first;
+    let n = u.count;
+    let mut rows = before.rows;
+    let mut i: usize = 0;
+    while i < n {
+        let m = members.rows[first + i];
+        let at = m.edge;
+        let x = corridor_x(role, tap, offset, pitch, m.tap_lane);
+        let old = rows[at];
+        let known = old.x;
+        let next = first_of(known, x);
+        rows[at] = Corridor { x: next };
+        i += 1;
+    }
+    Corridors { rows: rows }
+}
+
+fn is_same_role(a: Role, b: Role) -> bool
+    ensures { λ r. ⌜ r ≡ same-role a b ⌝ }
+{
+    match a {
+        Role::Input => match b {
+            Role::Input => true,
+            Role::Output => false,
+        },
+        Role::Output => match b {
+            Role::Input => false,
+            Role::Output => true,
+        },
+    }
+}
+
+// The corridors of the edges for one role, given each bundle's offset.
+pub fn fallback_corridors_by_edge(
+    role: Role,
+    o: Options,
+    nodes: Nodes,
+    ports: Ports,
+    bundles: Bundles,
+    members: Members,
+    offsets: Offsets,
+) -> Corridors
+    requires { ⌜ Sound nodes ports bundles members ⌝ }
+    ensures { λ r. ⌜ ((edges : List Edge) (e : ℕ) → corridor-at (r .rows) e ≡ corridor-from (board-of o nodes ports edges bundles members) role e (take (bundles .count) (bundles .rows)) (take (bundles .count) (offsets .rows))) ⌝ }
+{
+    let rail = board::boundary_bundle_rail_depth(o);
+    let mut table = Corridors {
+        rows: [Corridor { x: Bound::None }; 256],
+    };
+    let n = bundles.count;
+    let mut i: usize = 0;
+    while i < n {
+        let u = bundles.rows[i];
+        let offset = offsets.rows[i];
+        i += 1;
+        let mine = u.role;
+        if is_same_role(mine, role) {
+            let at = u.port;
+            let p = ports.rows[at];
+            let on = p.node;
+            let node = nodes.rows[on];
+            let end = board::endpoint_of(node, p);
+            let tap = inward(mine, end.x, rail);
+            let pitch = board::pitch_of_bundle(o, u);
+            table = add_corridors(tap, offset, pitch, members, u, table);
+        }
+    }
+    table
 }
 
 // ---- interior_collector_bounds

@@ -32,11 +32,11 @@ loop-holds c =
     let zs : List ℕ = replicate 31 0 in
     let k : length (a .before) ≡ 32 = search needs in
     let h : a .start < a .n = omega arith in
-    let near : ℕ → List ℕ = row-of (a .adjacent .now) (a .n) in
-    ( omega (arith, laws.marked-room (a .before) (a .n) (a .start) h (omega arith))
-    , refl
-    , laws.below-one (a .n) (a .start) zs h
-    , laws.walk-start near (a .n) [] (take (a .n) (set (a .before) (a .start) true)) (down-from (a .start ∷ zs) 1)
+    let near : ℕ → List ℕ = row-of (a .adjacent .now) (a .n) in (
+      omega (arith, laws.marked-room (a .before) (a .n) (a .start) h (omega arith)),
+      refl,
+      laws.below-one (a .n) (a .start) zs h,
+      laws.walk-start near (a .n) [] (take (a .n) (set (a .before) (a .start) true)) (down-from (a .start ∷ zs) 1),
     )
 
 sub-top : tie.Need-sub-top Inv-loop μ-loop
@@ -78,11 +78,11 @@ loop-again c =
     let e = c .push-near .ensures in
     let arg : Walk = record { seen = take (a .n) (l .s .seen); pending = down-from (l .s .pending) (l .s .top - 1) } in
     let h : l .count < a .n = omega arith in
-    let k : l .count < length (l .order) = omega arith in
-    ( omega (arith, e .1)
-    , length-set (l .order) (l .count) i ∙ l .inv .1
-    , subst (λ (w : Walk). laws.Below (a .n) (w .pending)) (sym (e .0)) (laws.near-below adj i (a .n) arg (b .1))
-    , laws.walk-turn (row-of adj (a .n)) (a .n) (l .count) (l .s .top) (l .order) (l .s .pending) (take (a .n) (l .s .seen)) (walk-of (a .n) (c .push-near .result)) h k t (e .0) ∙ l .inv .3
+    let k : l .count < length (l .order) = omega arith in (
+      omega (arith, e .1),
+      length-set (l .order) (l .count) i ∙ l .inv .1,
+      subst (λ (w : Walk). laws.Below (a .n) (w .pending)) (sym (e .0)) (laws.near-below adj i (a .n) arg (b .1)),
+      laws.walk-turn (row-of adj (a .n)) (a .n) (l .count) (l .s .top) (l .order) (l .s .pending) (take (a .n) (l .s .seen)) (walk-of (a .n) (c .push-near .result)) h k t (e .0) ∙ l .inv .3,
     )
 
 returns : tie.Need-returns Inv-loop μ-loop
@@ -90,11 +90,11 @@ returns c =
     let l = c .before .before .before .loop in
     let a = c .before .before .before .before .args in
     let near : ℕ → List ℕ = row-of (a .adjacent .now) (a .n) in
-    let zs : List ℕ = replicate 31 0 in
-    ( omega arith
-    , laws.walk-end near (a .n - l .count) (l .s .top) (take (l .count) (l .order)) (l .s .pending) (take (a .n) (l .s .seen)) (c .before .if1 .left)
-      ∙ l .inv .3
-      ∙ ap (walk near (a .n) (take (a .n) (set (a .before) (a .start) true))) (laws.down-one (a .start) zs)
+    let zs : List ℕ = replicate 31 0 in (
+      omega arith,
+      laws.walk-end near (a .n - l .count) (l .s .top) (take (l .count) (l .order)) (l .s .pending) (take (a .n) (l .s .seen)) (c .before .if1 .left)
+          ∙ l .inv .3
+          ∙ ap (walk near (a .n) (take (a .n) (set (a .before) (a .start) true))) (laws.down-one (a .start) zs),
     )
 
 pub component-spec : {M : Type 1} → statement M

@@ -116,16 +116,16 @@ loop-again c =
     let q : a .t4 .count ≤ length (a .t4 .rows) = omega (arith, s .pre .bundles-few) in
     let qp : a .t3 .count ≤ length (a .t3 .rows) = omega (arith, s .pre .ports-few) in
     let qn : a .t2 .count ≤ length (a .t2 .rows) = omega (arith, s .pre .nodes-few) in
-    let g : l .i < length (l .rows) = omega (arith, s .pre .bundles-few) in
-    ( omega arith
-    , length-set (l .rows) (l .i) (d .result .offset) ∙ l .inv .1
-    , λ edges.
-      let b : Board = board-of (a .o) (a .t2) (a .t3) edges (a .t4) (a .members) in
-      let u = getD (a .t4 .rows) (l .i) no-bundle in
-      let n = laws.node-read b (a .t3 .rows) (a .t3 .count) refl qp u (r .port-in) (a .t2 .rows) (a .t2 .count) refl qn (s .pre .ports-on (u .port) (r .port-in)) in
-      laws.offsets-turn b (a .t4 .rows) (a .t4 .count) (l .i) (l .rows) (l .w) (p .result) _ (m .result) (d .result) h q g
-      (p .ensures) (laws.depth-is b u (getD (a .t2 .rows) (getD (a .t3 .rows) (u .port) laws.null-port .node) laws.null-node) (rail .result) n (rail .ensures)) (m .ensures) (d .ensures)
-      ∙ l .inv .2 edges
+    let g : l .i < length (l .rows) = omega (arith, s .pre .bundles-few) in (
+      omega arith,
+      length-set (l .rows) (l .i) (d .result .offset) ∙ l .inv .1,
+      λ edges.
+          let b : Board = board-of (a .o) (a .t2) (a .t3) edges (a .t4) (a .members) in
+          let u = getD (a .t4 .rows) (l .i) no-bundle in
+          let n = laws.node-read b (a .t3 .rows) (a .t3 .count) refl qp u (r .port-in) (a .t2 .rows) (a .t2 .count) refl qn (s .pre .ports-on (u .port) (r .port-in)) in
+          laws.offsets-turn b (a .t4 .rows) (a .t4 .count) (l .i) (l .rows) (l .w) (p .result) _ (m .result) (d .result) h q g
+          (p .ensures) (laws.depth-is b u (getD (a .t2 .rows) (getD (a .t3 .rows) (u .port) laws.null-port .node) laws.null-node) (rail .result) n (rail .ensures)) (m .ensures) (d .ensures)
+          ∙ l .inv .2 edges,
     )
 
 returns : tie.Need-returns Inv-loop μ-loop

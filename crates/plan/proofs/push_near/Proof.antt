@@ -76,7 +76,7 @@ loop-again c =
       length-set (l .pending) (l .top) (l .j) ∙ l .inv .1,
       length-set (l .seen) (l .j) true ∙ l .inv .2,
       omega arith,
-      laws.pushed a i n (l .j) (l .seen) (l .pending) (l .top) t e f h ∙ l .inv .4
+      laws.pushed a i n (l .j) (l .seen) (l .pending) (l .top) t e f h ∙ l .inv .4,
     )
 
 loop-less-2 : tie.Need-loop-less-2 Inv-loop μ-loop
