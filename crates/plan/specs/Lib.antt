@@ -9,3 +9,4 @@ pub mod Numbers
 pub mod Planned
 pub mod Tables
 pub mod Stack
+pub mod Prepared

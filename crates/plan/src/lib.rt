@@ -14,7 +14,12 @@ ghost use Rattle.plan.specs.Tables.{deeper, board-of, no-member, Sound, 
 ghost use Rattle.plan.specs.declared.Bound.the-variants.{At};
 ghost use Rattle.board.specs.Board.{Board, rail-depth};
 ghost use lib.Ieee as Ieee;
-ghost use lib.Ieee.{binary64};
+ghost use lib.Ieee.{Float, binary64};
+ghost use Rattle.geometry.specs.Points.{Route, points-from};
+ghost use Rattle.plan.specs.declared.Bound.the-variants.{None};
+ghost use Rattle.plan.specs.Depths.{members-in};
+ghost use Rattle.plan.specs.Bounds.{reach-all, bounds-of};
+ghost use Rattle.plan.specs.Prepared.{other, end-x, Inside, Windowed, Cornered, Tells};
 ghost use Rattle.plan.specs.Bounds.{raised, lowered, clamped, tighter, reach-x, map-bound, unless-crossed, span-of};
 ghost use Rattle.plan.specs.Plan.{push-all, walk};
 ghost use Rattle.plan.specs.Stack.{row-of, walk-of, component-from, room};
@@ -59,6 +64,19 @@ pub struct Corridor {
 // The corridors of the edges, for bundles of one role.
 pub struct Corridors {
     pub rows: [Corridor; 256],
+}
+
+// The windows of the members' given routes: so many points from a point of the slice on.
+pub struct Windows {
+    pub starts: [usize; 256],
+    pub counts: [usize; 256],
+}
+
+// A bundle, where its port stands, and how far its members let its collector go.
+pub struct Reached {
+    pub bundle: Bundle,
+    pub endpoint: f64,
+    pub reached: Bound,
 }
 
 // Bundles to come, the next on top, and those that were put there at some time.
@@ -379,6 +397,70 @@ fn tighten(role: Role, d: Bound, x: f64) -> f64
     }
 }
 
+// The end of a route that the collector is kept away from.
+fn end_x(role: Role, points: &[f64], start: usize, count: usize) -> Bound
+    requires { ⌜ 2 * (start + count) ≤ length (now points) ⌝ }
+    ensures { λ r. ⌜ r ≡ end-x role (points-from (now (points .entry)) start count) ⌝ }
+{
+    if count == 0 {
+        return Bound::None;
+    }
+    match role {
+        Role::Input => {
+            let p = geometry::point_at(points, start + count - 1);
+            Bound::At(p.x)
+        }
+        Role::Output => {
+            let p = geometry::point_at(points, start);
+            Bound::At(p.x)
+        }
+    }
+}
+
+// How far all members of a bundle let the collector go.
+fn reach_all(
+    role: Role,
+    reserve: f64,
+    points: &[f64],
+    starts: &[usize; 256],
+    counts: &[usize; 256],
+    corridors: Corridors,
+    members: Members,
+    u: Bundle,
+) -> Bound
+    requires { ⌜ (members .count ≤ 256) × (u .first + u .count ≤ members .count) ⌝ }
+    requires { ⌜ ((i : ℕ) → i < members .count → getD (members .rows) i no-member .edge < 256) ⌝ }
+    requires { ⌜ Inside (now points) (now starts) (now counts) (members .count) ⌝ }
+    ensures { λ r. ⌜ ((b : Board) (given : List Route) → reserve ≡ b .options .«member_endpoint_reserve» → Windowed b given (now (points .entry)) (now (starts .entry)) (now (counts .entry)) members → Cornered b (other role) (corridors .rows) → r ≡ reach-all b given role None (members-in b u)) ⌝ }
+{
+    let first = u.first;
+    let n = u.count;
+    let mut d = Bound::None;
+    let mut i: usize = 0;
+    while i < n {
+        let k = first + i;
+        let m = members.rows[k];
+        let at = m.edge;
+        let c = corridors.rows[at];
+        let corridor = c.x;
+        let start = starts[k];
+        let count = counts[k];
+        let end = end_x(role, points, start, count);
+        i += 1;
+        let r = member_reach(role, reserve, corridor, end);
+        match r {
+            Bound::None => {
+                return Bound::None;
+            }
+            Bound::At(x) => {
+                let t = tighten(role, d, x);
+                d = Bound::At(t);
+            }
+        }
+    }
+    d
+}
+
 fn unless_crossed(low: f64, desired: f64, high: f64) -> CollectorBounds
     ensures { λ r. ⌜ r ≡ unless-crossed low desired high ⌝ }
 {
@@ -416,6 +498,32 @@ fn span_of(
             let high = lower(endpoint - rail - pitch, most);
             unless_crossed(low, d, high)
         }
+    }
+}
+
+// The bounds of a bundle's collector, between a lower and an upper bound.
+pub fn interior_collector_bounds(
+    r: Reached,
+    rail: f64,
+    pitch: f64,
+    lower: Bound,
+    upper: Bound,
+) -> CollectorBounds
+    ensures { λ s. ⌜ ((b : Board) (given : List Route) (points : List Float) (starts counts : List ℕ) → Tells b given points starts counts rail pitch r → s ≡ bounds-of b given (r .bundle) lower upper) ⌝ }
+{
+    let u = r.bundle;
+    if u.width <= 1 {
+        return CollectorBounds::Absent;
+    }
+    if u.count <= 1 {
+        return CollectorBounds::Absent;
+    }
+    let role = u.role;
+    let x = r.endpoint;
+    let reached = r.reached;
+    match reached {
+        Bound::None => CollectorBounds::Absent,
+        Bound::At(d) => span_of(role, x, rail, pitch, lower, upper, d),
     }
 }
 

@@ -1,0 +1,53 @@
+-- What the plan's functions hand to one another, told in the words of the definitions: the window of each member's route, how far a bundle's members let its collector go. What their contracts say; no reader of the plan needs it. Definitions only.
+-- Assumes nothing.
+use mathlib.Core.Path.{_≡_}
+use mathlib.Core.List.{List, [], map}
+use Prim.Native.Nat.{ℕ, _+_, _*_, _≤_, _<_}
+use lib.ListN.{length, getD, take}
+use lib.Ieee.{Float}
+use Rattle.geometry.specs.declared.Role.{Role}
+use Rattle.geometry.specs.declared.Role.the-variants.{Input, Output}
+use Rattle.geometry.specs.Points.{Route, points-from}
+use Rattle.board.specs.declared.Bundle.{Bundle}
+use Rattle.board.specs.declared.Member.{Member}
+use Rattle.board.specs.declared.Members.{Members}
+use Rattle.board.specs.Board.{Board, window, rail-depth}
+use Rattle.search.specs.Stretches.{routes}
+use Rattle.plan.specs.declared.Bound.{Bound}
+use Rattle.plan.specs.declared.Bound.the-variants.{None}
+use Rattle.plan.specs.declared.Corridor.{Corridor}
+use Rattle.plan.specs.declared.Reached.{Reached}
+use Rattle.plan.specs.Depths.{endpoint-of, corridor-of, members-in, pitch-of}
+use Rattle.plan.specs.Bounds.{first-x, last-x, route-of, reach-all}
+use Rattle.plan.specs.Tables.{no-member, corridor-at}
+
+abbrev pub other : Role → Role
+other Input = Output
+other Output = Input
+
+-- the end of a route that the collector of a role is kept away from
+abbrev pub end-x : Role → Route → Bound
+end-x Input ps = last-x ps
+end-x Output ps = first-x ps
+
+-- the routes of the members lie in the slice, and none has more than 64 points
+pub record Inside (points : List Float) (starts counts : List ℕ) (n : ℕ) : Type 0 where
+  pub inside : (i : ℕ) → i < n → 2 * (getD starts i 0 + getD counts i 0) ≤ length points
+  pub short : (i : ℕ) → i < n → getD counts i 0 ≤ 64
+
+-- the windows are those of the members' given routes
+pub record Windowed (b : Board) (given : List Route) (points : List Float) (starts counts : List ℕ) (members : Members) : Type 0 where
+  pub members-are : b .members ≡ take (members .count) (members .rows)
+  pub routes-are : (i : ℕ) → i < members .count → points-from points (getD starts i 0) (getD counts i 0) ≡ route-of b given (getD (members .rows) i no-member)
+
+-- a table of the corridors of one role
+pub record Cornered (b : Board) (role : Role) (corridors : List Corridor) : Type 0 where
+  pub are : (e : ℕ) → corridor-at corridors e ≡ corridor-of b role e
+
+-- what was worked out about a bundle once and for all
+pub record Tells (b : Board) (given : List Route) (points : List Float) (starts counts : List ℕ) (rail pitch : Float) (r : Reached) : Type 0 where
+  pub rail-is : rail ≡ rail-depth (b .options)
+  pub pitch-is : pitch ≡ pitch-of b (r .bundle)
+  pub endpoint-is : r .endpoint ≡ endpoint-of b (r .bundle) .x
+  pub reached-is : r .reached ≡ reach-all b given (r .bundle .role) None (members-in b (r .bundle))
+  pub routes-are : routes points (window (r .bundle .first) (r .bundle .count) starts) (window (r .bundle .first) (r .bundle .count) counts) ≡ map (route-of b given) (members-in b (r .bundle))
