@@ -35,6 +35,18 @@ pub record Inside (points : List Float) (starts counts : List ℕ) (n : ℕ) : T
   pub inside : (i : ℕ) → i < n → 2 * (getD starts i 0 + getD counts i 0) ≤ length points
   pub short : (i : ℕ) → i < n → getD counts i 0 ≤ 64
 
+-- what the search asks: windows in the slice, and room for its numbers
+pub record Searchable (points : List Float) (starts counts : List ℕ) (xs scratch : List Float) : Type 0 where
+  pub paired : length starts ≡ length counts
+  pub windows : Inside points starts counts (length starts)
+  pub room : 4096 < length xs
+  pub scratch-room : length xs ≤ length scratch
+
+-- a bundle's members lie among the windows
+pub record Among (starts : List ℕ) (u : Bundle) : Type 0 where
+  pub fits : u .first + u .count ≤ length starts
+  pub few : u .count ≤ 64
+
 -- the windows are those of the members' given routes
 pub record Windowed (b : Board) (given : List Route) (points : List Float) (starts counts : List ℕ) (members : Members) : Type 0 where
   pub members-are : b .members ≡ take (members .count) (members .rows)
@@ -44,10 +56,14 @@ pub record Windowed (b : Board) (given : List Route) (points : List Float) (star
 pub record Cornered (b : Board) (role : Role) (corridors : List Corridor) : Type 0 where
   pub are : (e : ℕ) → corridor-at corridors e ≡ corridor-of b role e
 
+-- the windows of a bundle's members are their given routes
+pub record Routed (b : Board) (given : List Route) (points : List Float) (starts counts : List ℕ) (u : Bundle) : Type 0 where
+  pub routes-are : routes points (window (u .first) (u .count) starts) (window (u .first) (u .count) counts) ≡ map (route-of b given) (members-in b u)
+
 -- what was worked out about a bundle once and for all
 pub record Tells (b : Board) (given : List Route) (points : List Float) (starts counts : List ℕ) (rail pitch : Float) (r : Reached) : Type 0 where
   pub rail-is : rail ≡ rail-depth (b .options)
   pub pitch-is : pitch ≡ pitch-of b (r .bundle)
   pub endpoint-is : r .endpoint ≡ endpoint-of b (r .bundle) .x
   pub reached-is : r .reached ≡ reach-all b given (r .bundle .role) None (members-in b (r .bundle))
-  pub routes-are : routes points (window (r .bundle .first) (r .bundle .count) starts) (window (r .bundle .first) (r .bundle .count) counts) ≡ map (route-of b given) (members-in b (r .bundle))
+  pub routed : Routed b given points starts counts (r .bundle)

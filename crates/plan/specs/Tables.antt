@@ -71,7 +71,7 @@ pub record Sound (nodes : Nodes) (ports : Ports) (bundles : Bundles) (members : 
   pub lanes-few : (i : ℕ) → i < members .count → getD (members .rows) i no-member .«tap_lane» ≤ 255
 
 -- members name edges, and the given routes lie in the slice of coordinates
-pub record Routed (points : List Float) (edges : Edges) (members : Members) : Type 0 where
+pub record RoutesIn (points : List Float) (edges : Edges) (members : Members) : Type 0 where
   pub edges-few : edges .count ≤ 256
   pub members-on : (i : ℕ) → i < members .count → getD (members .rows) i no-member .edge < edges .count
   pub routes-short : (i : ℕ) → i < edges .count → getD (edges .rows) i no-edge .count ≤ 64

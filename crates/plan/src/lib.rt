@@ -19,7 +19,9 @@ ghost use Rattle.geometry.specs.Points.{Route, points-from};
 ghost use Rattle.plan.specs.declared.Bound.the-variants.{None};
 ghost use Rattle.plan.specs.Depths.{members-in};
 ghost use Rattle.plan.specs.Bounds.{reach-all, bounds-of};
-ghost use Rattle.plan.specs.Prepared.{other, end-x, Inside, Windowed, Cornered, Tells};
+ghost use Rattle.plan.specs.Prepared.{other, end-x, Inside, Searchable, Among, Routed, Windowed, Cornered, Tells};
+ghost use Rattle.plan.specs.Plan.{seek-in, seek};
+ghost use Rattle.search.specs.Search.{search-of};
 ghost use Rattle.plan.specs.Bounds.{raised, lowered, clamped, tighter, reach-x, map-bound, unless-crossed, span-of};
 ghost use Rattle.plan.specs.Plan.{push-all, walk};
 ghost use Rattle.plan.specs.Stack.{row-of, walk-of, component-from, room};
@@ -32,6 +34,9 @@ use board::Ports;
 use geometry::Role;
 use search::Bounds;
 use search::CollectorBounds;
+use search::Outcome;
+use search::Searched;
+use search::TapVisits;
 
 // A bound that may be absent, where the Rust has an infinity; also a planned x that may be.
 pub enum Bound {
@@ -525,6 +530,79 @@ pub fn interior_collector_bounds(
         Bound::None => CollectorBounds::Absent,
         Bound::At(d) => span_of(role, x, rail, pitch, lower, upper, d),
     }
+}
+
+// The search for a collector between bounds.
+fn search_between(
+    points: &[f64],
+    starts: &[usize],
+    counts: &[usize],
+    pitch: f64,
+    u: Bundle,
+    bounds: CollectorBounds,
+    granted: TapVisits,
+    xs: &mut [f64],
+    scratch: &mut [f64],
+) -> Searched
+    requires { ⌜ Searchable (now points) (now starts) (now counts) (now xs) (now scratch) ⌝ }
+    requires { ⌜ Among (now starts) u ⌝ }
+    ensures { λ r. ⌜ ((b : Board) (given : List Route) → pitch ≡ pitch-of b u → Routed b given (now (points .entry)) (now (starts .entry)) (now (counts .entry)) u → r ≡ seek-in search-of b given u bounds (granted .0)) ⌝ }
+{
+    match bounds {
+        CollectorBounds::Absent => Searched {
+            outcome: Outcome::Nothing,
+            left: granted,
+        },
+        CollectorBounds::Between(s) => {
+            let first = u.first;
+            let end = first + u.count;
+            let role = u.role;
+            search::common_horizontal_collector_x(
+                points,
+                &starts[first..end],
+                &counts[first..end],
+                role,
+                pitch,
+                s,
+                granted,
+                xs,
+                scratch,
+            )
+        }
+    }
+}
+
+// The search for a collector between a lower and an upper bound, each search paid for.
+pub fn interior_collector_range_bounded(
+    points: &[f64],
+    starts: &[usize],
+    counts: &[usize],
+    rail: f64,
+    pitch: f64,
+    r: Reached,
+    lower: Bound,
+    upper: Bound,
+    granted: TapVisits,
+    xs: &mut [f64],
+    scratch: &mut [f64],
+) -> Searched
+    requires { ⌜ Searchable (now points) (now starts) (now counts) (now xs) (now scratch) ⌝ }
+    requires { ⌜ Among (now starts) (r .bundle) ⌝ }
+    ensures { λ s. ⌜ ((b : Board) (given : List Route) → Tells b given (now (points .entry)) (now (starts .entry)) (now (counts .entry)) rail pitch r → s ≡ seek search-of b given (r .bundle) lower upper (granted .0)) ⌝ }
+{
+    let bounds = interior_collector_bounds(r, rail, pitch, lower, upper);
+    let u = r.bundle;
+    search_between(
+        points,
+        starts,
+        counts,
+        pitch,
+        u,
+        bounds,
+        granted,
+        xs,
+        scratch,
+    )
 }
 
 // ---- components
