@@ -1,5 +1,6 @@
 pub mod Rows
 pub mod Among
-pub mod Reaches
+pub mod Bounding
 pub mod Seeks
+pub mod Passes
 pub mod Walks

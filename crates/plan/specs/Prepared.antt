@@ -4,7 +4,7 @@ use mathlib.Core.Path.{_≡_}
 use mathlib.Core.List.{List, [], map}
 use Prim.Native.Nat.{ℕ, _+_, _*_, _≤_, _<_}
 use lib.ListN.{length, getD, take}
-use lib.Ieee.{Float}
+use lib.Ieee.{Float, nan}
 use Rattle.geometry.specs.declared.Role.{Role}
 use Rattle.geometry.specs.declared.Role.the-variants.{Input, Output}
 use Rattle.geometry.specs.Points.{Route, points-from}
@@ -17,9 +17,15 @@ use Rattle.plan.specs.declared.Bound.{Bound}
 use Rattle.plan.specs.declared.Bound.the-variants.{None}
 use Rattle.plan.specs.declared.Corridor.{Corridor}
 use Rattle.plan.specs.declared.Reached.{Reached}
+use Rattle.plan.specs.declared.Reaches.{Reaches}
+use Rattle.plan.specs.declared.Range.{Range}
+use Rattle.plan.specs.declared.Ranging.{Ranging}
+use Rattle.plan.specs.declared.Ranges.{Ranges}
+use Rattle.search.specs.Search.{search-of}
+use Rattle.plan.specs.Plan.{Ranged, ranged, seek, FirstPass}
 use Rattle.plan.specs.Depths.{endpoint-of, corridor-of, members-in, pitch-of}
-use Rattle.plan.specs.Bounds.{first-x, last-x, route-of, reach-all}
-use Rattle.plan.specs.Tables.{no-member, corridor-at}
+use Rattle.plan.specs.Bounds.{first-x, last-x, route-of, reach-all, bounds-of}
+use Rattle.plan.specs.Tables.{no-bundle, no-member, corridor-at}
 
 abbrev pub other : Role → Role
 other Input = Output
@@ -67,3 +73,36 @@ pub record Tells (b : Board) (given : List Route) (points : List Float) (starts 
   pub endpoint-is : r .endpoint ≡ endpoint-of b (r .bundle) .x
   pub reached-is : r .reached ≡ reach-all b given (r .bundle .role) None (members-in b (r .bundle))
   pub routed : Routed b given points starts counts (r .bundle)
+
+-- ---- tables of bundles
+abbrev pub no-reached : Reached
+no-reached = record { bundle = no-bundle; endpoint = nan; reached = None }
+
+abbrev pub bundle-of : Reached → Bundle
+bundle-of r = r .bundle
+
+abbrev pub reached-at : Reaches → ℕ → Reached
+reached-at t i = getD (t .rows) i no-reached
+
+-- what was worked out about every bundle of the board
+pub record AllTell (b : Board) (given : List Route) (points : List Float) (starts counts : List ℕ) (rail pitch : Float) (t : Reaches) : Type 0 where
+  pub bundles-are : b .bundles ≡ map bundle-of (take (t .count) (t .rows))
+  pub each : (i : ℕ) → i < t .count → Tells b given points starts counts rail pitch (reached-at t i)
+
+-- the members of every bundle lie among the windows
+pub record AllAmong (starts : List ℕ) (t : Reaches) : Type 0 where
+  pub bundles-few : t .count ≤ 32
+  pub each : (i : ℕ) → i < t .count → Among starts (reached-at t i .bundle)
+
+-- a row of the first pass, as the definition has it
+abbrev pub ranged-from : Range → Ranged
+ranged-from r = record { bundle = r .bundle; bounds = r .bounds }
+
+-- what the first search of a bundle says
+pub record RangedBy (b : Board) (given : List Route) (u : Bundle) (v : ℕ) (r : Ranging) : Type 0 where
+  pub range-is : ranged-from (r .range) ≡ ranged u (bounds-of b given u None None) (seek search-of b given u None None v .outcome)
+  pub left-is : r .left .0 ≡ seek search-of b given u None None v .left .0
+
+-- the first pass, as the definition has it
+abbrev pub passed : ℕ → Ranges → FirstPass
+passed n r = record { ranges = map ranged-from (take n (r .rows)); left = r .left .0 }

@@ -19,8 +19,8 @@ ghost use Rattle.geometry.specs.Points.{Route, points-from};
 ghost use Rattle.plan.specs.declared.Bound.the-variants.{None};
 ghost use Rattle.plan.specs.Depths.{members-in};
 ghost use Rattle.plan.specs.Bounds.{reach-all, bounds-of};
-ghost use Rattle.plan.specs.Prepared.{other, end-x, Inside, Searchable, Among, Routed, Windowed, Cornered, Tells};
-ghost use Rattle.plan.specs.Plan.{seek-in, seek};
+ghost use Rattle.plan.specs.Prepared.{other, end-x, Inside, Searchable, Among, Routed, Windowed, Cornered, Tells, AllTell, AllAmong, RangedBy, passed};
+ghost use Rattle.plan.specs.Plan.{seek-in, seek, narrowed, first-pass};
 ghost use Rattle.search.specs.Search.{search-of};
 ghost use Rattle.plan.specs.Bounds.{raised, lowered, clamped, tighter, reach-x, map-bound, unless-crossed, span-of};
 ghost use Rattle.plan.specs.Plan.{push-all, walk};
@@ -82,6 +82,30 @@ pub struct Reached {
     pub bundle: Bundle,
     pub endpoint: f64,
     pub reached: Bound,
+}
+
+// The same of every bundle.
+pub struct Reaches {
+    pub rows: [Reached; 32],
+    pub count: usize,
+}
+
+// A bundle with its bounds and, as the desired x, the x that its first search found.
+pub struct Range {
+    pub bundle: Bundle,
+    pub bounds: CollectorBounds,
+}
+
+// The same, with the visits left.
+pub struct Ranging {
+    pub range: Range,
+    pub left: TapVisits,
+}
+
+// The same of every bundle.
+pub struct Ranges {
+    pub rows: [Range; 32],
+    pub left: TapVisits,
 }
 
 // Bundles to come, the next on top, and those that were put there at some time.
@@ -603,6 +627,122 @@ pub fn interior_collector_range_bounded(
         xs,
         scratch,
     )
+}
+
+// ---- the first pass
+
+// The bounds with the x that the search found, if it did, as the desired one.
+fn narrow(b: CollectorBounds, o: Outcome) -> CollectorBounds
+    ensures { λ r. ⌜ r ≡ narrowed b o ⌝ }
+{
+    match o {
+        Outcome::Found(x) => match b {
+            CollectorBounds::Absent => CollectorBounds::Absent,
+            CollectorBounds::Between(s) => CollectorBounds::Between(Bounds {
+                minimum: s.minimum,
+                desired: x,
+                maximum: s.maximum,
+            }),
+        },
+        Outcome::Nothing => CollectorBounds::Absent,
+        Outcome::Spent => CollectorBounds::Absent,
+    }
+}
+
+// The first search of one bundle.
+fn interior_collector_range(
+    points: &[f64],
+    starts: &[usize],
+    counts: &[usize],
+    rail: f64,
+    pitch: f64,
+    r: Reached,
+    granted: TapVisits,
+    xs: &mut [f64],
+    scratch: &mut [f64],
+) -> Ranging
+    requires { ⌜ Searchable (now points) (now starts) (now counts) (now xs) (now scratch) ⌝ }
+    requires { ⌜ Among (now starts) (r .bundle) ⌝ }
+    ensures { λ s. ⌜ ((b : Board) (given : List Route) → Tells b given (now (points .entry)) (now (starts .entry)) (now (counts .entry)) rail pitch r → RangedBy b given (r .bundle) (granted .0) s) ⌝ }
+{
+    let bounds = interior_collector_bounds(r, rail, pitch, Bound::None, Bound::None);
+    let u = r.bundle;
+    let s = search_between(
+        points,
+        starts,
+        counts,
+        pitch,
+        u,
+        bounds,
+        granted,
+        xs,
+        scratch,
+    );
+    let o = s.outcome;
+    let found = narrow(bounds, o);
+    let left = s.left;
+    Ranging {
+        range: Range {
+            bundle: u,
+            bounds: found,
+        },
+        left: left,
+    }
+}
+
+// The first search of each bundle, in order.
+fn first_pass(
+    points: &[f64],
+    starts: &[usize],
+    counts: &[usize],
+    rail: f64,
+    pitch: f64,
+    t: Reaches,
+    granted: TapVisits,
+    xs: &mut [f64],
+    scratch: &mut [f64],
+) -> Ranges
+    requires { ⌜ Searchable (now points) (now starts) (now counts) (now xs) (now scratch) ⌝ }
+    requires { ⌜ AllAmong (now starts) t ⌝ }
+    ensures { λ r. ⌜ ((b : Board) (given : List Route) → AllTell b given (now (points .entry)) (now (starts .entry)) (now (counts .entry)) rail pitch t → passed (t .count) r ≡ first-pass search-of b given (b .bundles) (granted .0)) ⌝ }
+{
+    let none = Bundle {
+        id: 0,
+        port: 0,
+        role: Role::Input,
+        width: 0,
+        first: 0,
+        count: 0,
+    };
+    let mut rows = [Range {
+        bundle: none,
+        bounds: CollectorBounds::Absent,
+    }; 32];
+    let mut left = granted;
+    let n = t.count;
+    let mut i: usize = 0;
+    while i < n {
+        let r = t.rows[i];
+        let s = interior_collector_range(
+            points,
+            starts,
+            counts,
+            rail,
+            pitch,
+            r,
+            left,
+            &mut xs[..],
+            &mut scratch[..],
+        );
+        let found = s.range;
+        rows[i] = found;
+        left = s.left;
+        i += 1;
+    }
+    Ranges {
+        rows: rows,
+        left: left,
+    }
 }
 
 // ---- components

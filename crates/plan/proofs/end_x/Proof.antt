@@ -7,7 +7,7 @@ use Rattle.geometry.specs.declared.Role.{Role}
 use Rattle.geometry.specs.Points.{points-from}
 use Rattle.plan.specs.declared.Bound.the-variants.{At}
 use Rattle.plan.specs.Prepared.{end-x}
-use Rattle.plan.proofs.Reaches as laws
+use Rattle.plan.proofs.Bounding as laws
 use borrow.Author.Needs.{needs}
 use Rattle.plan.proofs.end_x.Statement.{statement}
 use Rattle.plan.proofs.end_x.Tie as tie

@@ -2,7 +2,7 @@
 use mathlib.Core.Path.{_≡_, sym, _∙_, ap}
 use Prim.Native.Nat.{ℕ, _≤_, _<_}
 use native.Mathlib.Omega.{arith}
-use Rattle.plan.proofs.Reaches as laws
+use Rattle.plan.proofs.Bounding as laws
 use borrow.Author.Needs.{needs}
 use Rattle.plan.proofs.interior_collector_bounds.Statement.{statement}
 use Rattle.plan.proofs.interior_collector_bounds.Tie as tie

@@ -13,7 +13,7 @@ use Rattle.plan.specs.Bounds.{reach-all}
 use Rattle.plan.specs.Tables.{no-member}
 use Rattle.plan.specs.Prepared.{other, end-x, Windowed, Cornered}
 use Rattle.plan.proofs.Rows as rows
-use Rattle.plan.proofs.Reaches as laws
+use Rattle.plan.proofs.Bounding as laws
 use borrow.Author.Needs.{needs}
 use Rattle.plan.proofs.reach_all.Statement.{statement}
 use Rattle.plan.proofs.reach_all.Tie as tie
