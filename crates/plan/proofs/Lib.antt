@@ -3,4 +3,5 @@ pub mod Among
 pub mod Bounding
 pub mod Seeks
 pub mod Passes
+pub mod Ends
 pub mod Walks

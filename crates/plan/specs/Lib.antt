@@ -10,3 +10,4 @@ pub mod Planned
 pub mod Tables
 pub mod Stack
 pub mod Prepared
+pub mod Over

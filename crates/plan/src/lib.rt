@@ -12,7 +12,7 @@ ghost use Rattle.plan.specs.Depths.{past, lanes-past, further, used-by, 
 ghost use Rattle.plan.specs.Depths.{lane-count, offsets-of, _⊕_, number, first-of, endpoint-of, pitch-of, same-role, corridor-among, corridor-from};
 ghost use Rattle.plan.specs.Tables.{deeper, board-of, no-member, Sound, corridor-at};
 ghost use Rattle.plan.specs.declared.Bound.the-variants.{At};
-ghost use Rattle.board.specs.Board.{Board, rail-depth};
+ghost use Rattle.board.specs.Board.{Board, window, rail-depth};
 ghost use lib.Ieee as Ieee;
 ghost use lib.Ieee.{Float, binary64};
 ghost use Rattle.geometry.specs.Points.{Route, points-from};
@@ -20,7 +20,9 @@ ghost use Rattle.plan.specs.declared.Bound.the-variants.{None};
 ghost use Rattle.plan.specs.Depths.{members-in};
 ghost use Rattle.plan.specs.Bounds.{reach-all, bounds-of};
 ghost use Rattle.plan.specs.Prepared.{other, end-x, Inside, Searchable, Among, Routed, Windowed, Cornered, Tells, AllTell, AllAmong, RangedBy, passed};
-ghost use Rattle.plan.specs.Plan.{seek-in, seek, narrowed, first-pass};
+ghost use Rattle.plan.specs.Over.{divergence-over, has, meet};
+ghost use Rattle.search.specs.Stretches.{routes};
+ghost use Rattle.plan.specs.Plan.{diverges-at, seek-in, seek, narrowed, first-pass};
 ghost use Rattle.search.specs.Search.{search-of};
 ghost use Rattle.plan.specs.Bounds.{raised, lowered, clamped, tighter, reach-x, map-bound, unless-crossed, span-of};
 ghost use Rattle.plan.specs.Plan.{push-all, walk};
@@ -745,7 +747,96 @@ fn first_pass(
     }
 }
 
+// ---- required_output_collector_x
+
+// The end of a route's first run whose stretch holds x.
+fn run_end(role: Role, pitch: f64, x: f64, points: &[f64], start: usize, count: usize) -> Bound
+    requires { ⌜ 2 * (start + count) ≤ length (now points) ⌝ }
+    ensures { λ r. ⌜ r ≡ diverges-at role pitch x (points-from (now (points .entry)) start count) ⌝ }
+{
+    let mut i: usize = 0;
+    while i + 1 < count {
+        let a = geometry::point_at(points, start + i);
+        let b = geometry::point_at(points, start + i + 1);
+        let s = geometry::shared_trunk_horizontal_range(a, b, role, pitch);
+        i += 1;
+        if geometry::stretch_holds(s, x) {
+            return Bound::At(b.x);
+        }
+    }
+    Bound::None
+}
+
+// The furthest of the members' ends; absent where a member has none.
+fn input_shared_trunk_divergence_x(
+    points: &[f64],
+    starts: &[usize],
+    counts: &[usize],
+    pitch: f64,
+    u: Bundle,
+    x: f64,
+) -> Bound
+    requires { ⌜ length (now starts) ≡ length (now counts) ⌝ }
+    requires { ⌜ Inside (now points) (now starts) (now counts) (length (now starts)) ⌝ }
+    requires { ⌜ u .first + u .count ≤ length (now starts) ⌝ }
+    ensures { λ r. ⌜ r ≡ divergence-over (u .role) pitch x None (routes (now (points .entry)) (window (u .first) (u .count) (now (starts .entry))) (window (u .first) (u .count) (now (counts .entry)))) ⌝ }
+{
+    let role = u.role;
+    let first = u.first;
+    let n = u.count;
+    let mut d = Bound::None;
+    let mut i: usize = 0;
+    while i < n {
+        let k = first + i;
+        let start = starts[k];
+        let count = counts[k];
+        i += 1;
+        let e = run_end(role, pitch, x, points, start, count);
+        match e {
+            Bound::None => {
+                return Bound::None;
+            }
+            Bound::At(y) => {
+                d = furthest(d, y);
+            }
+        }
+    }
+    d
+}
+
 // ---- components
+
+// Whether e is among count edges from first on.
+fn has_edge(edges: &[usize], first: usize, count: usize, e: usize) -> bool
+    requires { ⌜ first + count ≤ length (now edges) ⌝ }
+    ensures { λ r. ⌜ r ≡ has e (window first count (now (edges .entry))) ⌝ }
+{
+    let mut i: usize = 0;
+    while i < count {
+        let f = edges[first + i];
+        i += 1;
+        if f == e {
+            return true;
+        }
+    }
+    false
+}
+
+// Whether two windows of edges have one in common.
+fn share_edge(edges: &[usize], first: usize, count: usize, other: usize, others: usize) -> bool
+    requires { ⌜ (first + count ≤ length (now edges)) × (other + others ≤ length (now edges)) ⌝ }
+    ensures { λ r. ⌜ r ≡ meet (window first count (now (edges .entry))) (window other others (now (edges .entry))) ⌝ }
+{
+    let mut i: usize = 0;
+    while i < count {
+        let e = edges[first + i];
+        i += 1;
+        if has_edge(edges, other, others, e) {
+            return true;
+        }
+    }
+    false
+}
 
 // The neighbours of i that were not seen are put on the stack, in rising order.
 fn push_near(adjacent: &[bool; 1024], n: usize, i: usize, s: Stack) -> Stack
