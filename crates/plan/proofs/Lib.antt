@@ -4,4 +4,5 @@ pub mod Bounding
 pub mod Seeks
 pub mod Passes
 pub mod Ends
+pub mod Agains
 pub mod Walks

@@ -14,15 +14,19 @@ use Rattle.board.specs.declared.Members.{Members}
 use Rattle.board.specs.Board.{Board, window, rail-depth}
 use Rattle.search.specs.Stretches.{routes}
 use Rattle.plan.specs.declared.Bound.{Bound}
-use Rattle.plan.specs.declared.Bound.the-variants.{None}
+use Rattle.plan.specs.declared.Bound.the-variants.{None, At}
 use Rattle.plan.specs.declared.Corridor.{Corridor}
 use Rattle.plan.specs.declared.Reached.{Reached}
 use Rattle.plan.specs.declared.Reaches.{Reaches}
 use Rattle.plan.specs.declared.Range.{Range}
 use Rattle.plan.specs.declared.Ranging.{Ranging}
+use Rattle.plan.specs.declared.Planned.{Planned}
+use Rattle.plan.specs.declared.Planning.{Planning}
+use Rattle.plan.specs.declared.Upper.{Upper}
+use Rattle.plan.specs.declared.Upper.the-variants as upper
 use Rattle.plan.specs.declared.Ranges.{Ranges}
 use Rattle.search.specs.Search.{search-of}
-use Rattle.plan.specs.Plan.{Ranged, ranged, seek, FirstPass}
+use Rattle.plan.specs.Plan.{Ranged, ranged, ranged-at, seek, FirstPass, Plan, input-limit}
 use Rattle.plan.specs.Depths.{endpoint-of, corridor-of, members-in, pitch-of}
 use Rattle.plan.specs.Bounds.{first-x, last-x, route-of, reach-all, bounds-of}
 use Rattle.plan.specs.Tables.{no-bundle, no-member, corridor-at}
@@ -106,3 +110,29 @@ pub record RangedBy (b : Board) (given : List Route) (u : Bundle) (v : ℕ) (r :
 -- the first pass, as the definition has it
 abbrev pub passed : ℕ → Ranges → FirstPass
 passed n r = record { ranges = map ranged-from (take n (r .rows)); left = r .left .0 }
+
+-- ---- planned x
+abbrev pub no-planned : Planned
+no-planned = record { x = None }
+
+abbrev pub x-of : Planned → Bound
+x-of p = p .x
+
+-- the planned x of the first n bundles, as the definition has them
+abbrev pub plan-in : ℕ → Planning → Plan
+plan-in n p = record { xs = map x-of (take n (p .rows)); left = p .left .0 }
+
+-- ranges of the table's bundles
+pub record SameBundles (ranges : List Ranged) (t : Reaches) : Type 0 where
+  pub same : (i : ℕ) → i < t .count → ranged-at ranges i .bundle ≡ reached-at t i .bundle
+
+-- count places in a table of bundles
+pub record Listing (which : List ℕ) (count n : ℕ) : Type 0 where
+  pub count-in : count ≤ length which
+  pub each : (k : ℕ) → k < count → getD which k 0 < n
+
+-- the upper bound of a search anew, which may hang on the planned x
+abbrev pub upper-at : Float → Upper → Bound → Bound
+upper-at pitch upper.Never x = None
+upper-at pitch (upper.Fixed s) x = At s
+upper-at pitch (upper.Below limit) x = input-limit pitch limit x

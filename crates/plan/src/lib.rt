@@ -4,7 +4,7 @@
 // (Apache-2.0, see NOTICE).
 ghost use mathlib.Core.Path.{_≡_};
 ghost use mathlib.Core.Bool.{true};
-ghost use mathlib.Core.List.{List, [], _∷_};
+ghost use mathlib.Core.List.{List, [], _∷_, map};
 ghost use Rattle.board.specs.declared.Edge.{Edge};
 ghost use Prim.Native.Nat.{ℕ, _+_, _*_, _≤_, _<_};
 ghost use lib.ListN.{length, take, drop, set, getD};
@@ -18,11 +18,11 @@ ghost use lib.Ieee.{Float, binary64};
 ghost use Rattle.geometry.specs.Points.{Route, points-from};
 ghost use Rattle.plan.specs.declared.Bound.the-variants.{None};
 ghost use Rattle.plan.specs.Depths.{members-in};
-ghost use Rattle.plan.specs.Bounds.{reach-all, bounds-of};
-ghost use Rattle.plan.specs.Prepared.{other, end-x, Inside, Searchable, Among, Routed, Windowed, Cornered, Tells, AllTell, AllAmong, RangedBy, passed};
+ghost use Rattle.plan.specs.Bounds.{if-at, reach-all, bounds-of};
+ghost use Rattle.plan.specs.Prepared.{other, end-x, Inside, Searchable, Among, Routed, Windowed, Cornered, Tells, AllTell, AllAmong, RangedBy, passed, Listing, SameBundles, x-of, plan-in, upper-at};
 ghost use Rattle.plan.specs.Over.{divergence-over, has, meet};
 ghost use Rattle.search.specs.Stretches.{routes};
-ghost use Rattle.plan.specs.Plan.{diverges-at, seek-in, seek, narrowed, first-pass};
+ghost use Rattle.plan.specs.Plan.{diverges-at, seek-in, seek, narrowed, first-pass, Ranged, asked, required, found-x, again};
 ghost use Rattle.search.specs.Search.{search-of};
 ghost use Rattle.plan.specs.Bounds.{raised, lowered, clamped, tighter, reach-x, map-bound, unless-crossed, span-of};
 ghost use Rattle.plan.specs.Plan.{push-all, walk};
@@ -108,6 +108,24 @@ pub struct Ranging {
 pub struct Ranges {
     pub rows: [Range; 32],
     pub left: TapVisits,
+}
+
+// The planned x of a bundle, if it has one.
+pub struct Planned {
+    pub x: Bound,
+}
+
+// The same of every bundle, with the visits left.
+pub struct Planning {
+    pub rows: [Planned; 32],
+    pub left: TapVisits,
+}
+
+// The upper bound of a search anew: none, an x, or the planned x but below a limit.
+pub enum Upper {
+    Never,
+    Fixed(f64),
+    Below(f64),
 }
 
 // Bundles to come, the next on top, and those that were put there at some time.
@@ -802,6 +820,147 @@ fn input_shared_trunk_divergence_x(
         }
     }
     d
+}
+
+// What one input asks of the outputs.
+fn ask(points: &[f64], starts: &[usize], counts: &[usize], pitch: f64, u: Bundle, x: Bound) -> Bound
+    requires { ⌜ length (now starts) ≡ length (now counts) ⌝ }
+    requires { ⌜ Inside (now points) (now starts) (now counts) (length (now starts)) ⌝ }
+    requires { ⌜ u .first + u .count ≤ length (now starts) ⌝ }
+    ensures { λ r. ⌜ ((b : Board) (given : List Route) → pitch ≡ pitch-of b u → Routed b given (now (points .entry)) (now (starts .entry)) (now (counts .entry)) u → r ≡ asked b given u x) ⌝ }
+{
+    match x {
+        Bound::None => Bound::None,
+        Bound::At(c) => {
+            let d = input_shared_trunk_divergence_x(points, starts, counts, pitch, u, c);
+            match d {
+                Bound::None => Bound::None,
+                Bound::At(y) => Bound::At(binary64::max(c + pitch, y + pitch)),
+            }
+        }
+    }
+}
+
+fn further_of(r: Bound, a: Bound) -> Bound
+    ensures { λ s. ⌜ s ≡ if-at a r (further r) ⌝ }
+{
+    match a {
+        Bound::None => r,
+        Bound::At(y) => furthest(r, y),
+    }
+}
+
+// What the inputs in a list ask of the outputs.
+fn required_output_collector_x(
+    points: &[f64],
+    starts: &[usize],
+    counts: &[usize],
+    pitch: f64,
+    t: Reaches,
+    which: &[usize],
+    count: usize,
+    p: Planning,
+) -> Bound
+    requires { ⌜ length (now starts) ≡ length (now counts) ⌝ }
+    requires { ⌜ Inside (now points) (now starts) (now counts) (length (now starts)) ⌝ }
+    requires { ⌜ AllAmong (now starts) t ⌝ }
+    requires { ⌜ Listing (now which) count (t .count) ⌝ }
+    ensures { λ r. ⌜ ((b : Board) (given : List Route) (rail : Float) (ranges : List Ranged) → AllTell b given (now (points .entry)) (now (starts .entry)) (now (counts .entry)) rail pitch t → SameBundles ranges t → r ≡ required b given ranges (map x-of (take (t .count) (p .rows))) None (take count (now (which .entry)))) ⌝ }
+{
+    let mut r = Bound::None;
+    let mut k: usize = 0;
+    while k < count {
+        let i = which[k];
+        let row = t.rows[i];
+        let u = row.bundle;
+        let old = p.rows[i];
+        let x = old.x;
+        k += 1;
+        let a = ask(points, starts, counts, pitch, u, x);
+        r = further_of(r, a);
+    }
+    r
+}
+
+// ---- searches anew
+
+fn found_x(o: Outcome) -> Bound
+    ensures { λ r. ⌜ r ≡ found-x o ⌝ }
+{
+    match o {
+        Outcome::Found(x) => Bound::At(x),
+        Outcome::Nothing => Bound::None,
+        Outcome::Spent => Bound::None,
+    }
+}
+
+// The upper bound for a bundle with a planned x.
+fn upper_at(pitch: f64, upper: Upper, x: Bound) -> Bound
+    ensures { λ r. ⌜ r ≡ upper-at pitch upper x ⌝ }
+{
+    match upper {
+        Upper::Never => Bound::None,
+        Upper::Fixed(s) => Bound::At(s),
+        Upper::Below(limit) => match x {
+            Bound::None => Bound::At(binary64::min(limit, limit - pitch)),
+            Bound::At(y) => Bound::At(binary64::min(y, limit - pitch)),
+        },
+    }
+}
+
+// The bundles in a list are searched anew, in order.
+fn search_again(
+    points: &[f64],
+    starts: &[usize],
+    counts: &[usize],
+    rail: f64,
+    pitch: f64,
+    t: Reaches,
+    which: &[usize],
+    count: usize,
+    lower: Bound,
+    upper: Upper,
+    p: Planning,
+    xs: &mut [f64],
+    scratch: &mut [f64],
+) -> Planning
+    requires { ⌜ Searchable (now points) (now starts) (now counts) (now xs) (now scratch) ⌝ }
+    requires { ⌜ AllAmong (now starts) t ⌝ }
+    requires { ⌜ Listing (now which) count (t .count) ⌝ }
+    ensures { λ r. ⌜ ((b : Board) (given : List Route) (ranges : List Ranged) → AllTell b given (now (points .entry)) (now (starts .entry)) (now (counts .entry)) rail pitch t → SameBundles ranges t → plan-in (t .count) r ≡ again search-of b given ranges (λ x. lower) (upper-at pitch upper) (take count (now (which .entry))) (plan-in (t .count) p)) ⌝ }
+{
+    let mut rows = p.rows;
+    let mut left = p.left;
+    let mut k: usize = 0;
+    while k < count {
+        let i = which[k];
+        let row = t.rows[i];
+        let old = rows[i];
+        let known = old.x;
+        let most = upper_at(pitch, upper, known);
+        let s = interior_collector_range_bounded(
+            points,
+            starts,
+            counts,
+            rail,
+            pitch,
+            row,
+            lower,
+            most,
+            left,
+            &mut xs[..],
+            &mut scratch[..],
+        );
+        let o = s.outcome;
+        let x = found_x(o);
+        rows[i] = Planned { x: x };
+        left = s.left;
+        k += 1;
+    }
+    Planning {
+        rows: rows,
+        left: left,
+    }
 }
 
 // ---- components
