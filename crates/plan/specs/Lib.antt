@@ -8,3 +8,7 @@ pub mod Lone
 pub mod Numbers
 pub mod Planned
 pub mod Placed
+pub mod Tables
+pub mod Stack
+pub mod Prepared
+pub mod Over

@@ -1,0 +1,19 @@
+-- `plan::first_of` meets its contract. Assumes nothing.
+use borrow.Author.Needs.{needs}
+use Rattle.plan.proofs.first_of.Statement.{statement}
+use Rattle.plan.proofs.first_of.Tie as tie
+
+enum-told : tie.Need-enum-told
+enum-told c = search needs
+
+enum-known-b : tie.Need-enum-known-b
+enum-known-b c = search needs
+
+returns : tie.Need-returns
+returns c = rw (c .enum-told .given .1)
+
+returns-2 : tie.Need-returns-2
+returns-2 c = rw (c .before .b .given .1)
+
+pub first-of-spec : {M : Type 1} → statement M
+first-of-spec = tie.close (tie.spec enum-told enum-known-b returns returns-2)
