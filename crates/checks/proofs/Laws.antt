@@ -11,6 +11,7 @@ use lib.ListN.{length, getD, take, drop, drop-of-length-le, length-map}
 use lib.Seq.{drop-cons, getD-take, length-take-le}
 use lib.Ieee.{Float}
 use borrow.Author.Tests.{eq-eqb, ne-eqb}
+use Rattle.geometry.specs.declared.Point.{Point}
 use Rattle.geometry.specs.declared.Segment.{Segment}
 use Rattle.geometry.specs.declared.Tap.{Tap}
 use Rattle.geometry.specs.declared.Tap.the-variants.{Absent, At}
@@ -20,13 +21,17 @@ use Rattle.route.specs.Slots.{routes-from, routes-of}
 use Rattle.sorting.specs.Sorted.{Every}
 use Rattle.board.specs.declared.Options.{Options}
 use Rattle.board.specs.declared.DrawnBundle.{DrawnBundle}
+use Rattle.board.specs.declared.PlacedNode.{PlacedNode}
+use Rattle.board.specs.declared.Edge.{Edge}
 use Rattle.drawing.specs.declared.GeometryVisits.{GeometryVisits}
 use Rattle.drawing.specs.declared.Verdict.{Verdict}
 use Rattle.drawing.specs.declared.Verdict.the-variants.{Clean, Refused}
-use Rattle.drawing.specs.Build.{tap-of}
-use Rattle.drawing.specs.Check.{Test, due, clean, walk, clash, run-tests, over-routes, drawn-tests, pair-tests, prior-tests}
+use Rattle.geometry.specs.Contact.{slanted}
+use Rattle.geometry.specs.Enters.{passes-inside}
+use Rattle.drawing.specs.Build.{seg, tap-of}
+use Rattle.drawing.specs.Check.{Test, due, barred, clean, walk, own, node-tests, inside-tests, no-edge, clash, run-tests, over-routes, drawn-tests, pair-tests, prior-tests}
 use Rattle.drawing.specs.Laws.{walk-on, walk-off}
-use Rattle.checks.specs.Rows.{taps-from, drawn-of, Tabled, AllTabled}
+use Rattle.checks.specs.Rows.{taps-from, drawn-of, inside-route, Tabled, AllTabled}
 
 -- ---- one test
 
@@ -183,3 +188,79 @@ module _ (o : Options) (allow : Bool) (new : DrawnBundle) (changed : ℕ → Boo
   pub prior-end : (i k : ℕ) → n ≤ i → n ≤ length l → walk 11 (priors-at i) k ≡ clean k
   unfolding prior-tests walk
   prior-end i k h m = rw (part-none l n i h m)
+
+-- ---- node after node, and then the tests that are left
+
+module _ (e : Edge) (s : Segment) (l : List PlacedNode) (n : ℕ) (rest : List Test) where
+  abbrev pub nodes-at : ℕ → List Test
+  nodes-at j = node-tests e s (drop j (take n l)) j ++ rest
+
+  abbrev look-at : ℕ → PlacedNode → Test
+  look-at j d = due (passes-inside (s .start) (s .end) (getD l j d .body))
+
+  own-next : (j : ℕ) (d : PlacedNode) → j < n → n ≤ length l → own e j ≡ true → nodes-at j ≡ nodes-at (j + 1)
+  unfolding node-tests
+  own-next j d h k o = let z : suc j ≡ j + 1 = omega arith in rw (part-cons l n j d h k, z, o)
+
+  due-next : (j : ℕ) (d : PlacedNode) → j < n → n ≤ length l → own e j ≡ false → nodes-at j ≡ look-at j d ∷ nodes-at (j + 1)
+  unfolding node-tests
+  due-next j d h k o = let z : suc j ≡ j + 1 = omega arith in rw (part-cons l n j d h k, z, o)
+
+  pub node-own : (j : ℕ) (d : PlacedNode) (k : ℕ) → j < n → n ≤ length l → own e j ≡ true → walk 12 (nodes-at (j + 1)) k ≡ walk 12 (nodes-at j) k
+  node-own j d k h m o = sym (ap (λ (x : List Test). walk 12 x k) (own-next j d h m o))
+
+  pub node-spent : (j : ℕ) (d : PlacedNode) (k : ℕ) → j < n → n ≤ length l → own e j ≡ false → k ≡ 0 → walk 12 (nodes-at j) k ≡ Refused 14
+  node-spent j d k h m o z = ap (λ (x : List Test). walk 12 x k) (due-next j d h m o) ∙ due-spent 12 _ (nodes-at (j + 1)) k z
+
+  pub node-hit : (j : ℕ) (d : PlacedNode) (k : ℕ) → j < n → n ≤ length l → own e j ≡ false → (k ≡ 0 → ⊥) → passes-inside (s .start) (s .end) (getD l j d .body) ≡ true → walk 12 (nodes-at j) k ≡ Refused 12
+  node-hit j d k h m o z x = ap (λ (x : List Test). walk 12 x k) (due-next j d h m o) ∙ due-hit 12 _ (nodes-at (j + 1)) k z x
+
+  pub node-clean : (j : ℕ) (d : PlacedNode) (k : ℕ) → j < n → n ≤ length l → own e j ≡ false → (k ≡ 0 → ⊥) → passes-inside (s .start) (s .end) (getD l j d .body) ≡ false → walk 12 (nodes-at (j + 1)) (k - 1) ≡ walk 12 (nodes-at j) k
+  node-clean j d k h m o z x = sym (ap (λ (x : List Test). walk 12 x k) (due-next j d h m o) ∙ due-clean 12 _ (nodes-at (j + 1)) k z x)
+
+  pub node-end : (j k : ℕ) → n ≤ j → n ≤ length l → walk 12 (nodes-at j) k ≡ walk 12 rest k
+  unfolding node-tests
+  node-end j k h m = rw (part-none l n j h m)
+
+-- ---- run after run against the nodes
+
+module _ (ns : List PlacedNode) (e : Edge) (s : List Float) (start n : ℕ) where
+  abbrev pub inside-at : ℕ → List Test
+  inside-at i = inside-tests ns e (runs (points-from s (start + i) (n - i)))
+
+  pub inside-start : (k : ℕ) → walk 12 (inside-at 0) k ≡ walk 12 (inside-tests ns e (runs (points-from s start n))) k
+  inside-start k =
+      let a : start + 0 ≡ start = omega arith in
+      let b : n - 0 ≡ n = omega arith in
+      rw (a, b)
+
+  inside-next : (i : ℕ) → i + 1 < n → inside-at i ≡ cond (slanted (point-at s (start + i)) (point-at s (start + i + 1))) (barred ∷ []) (node-tests e (run-at s (start + i)) ns 0) ++ inside-at (i + 1)
+  unfolding inside-tests
+  inside-next i h = rw (runs-next s start n i h)
+
+  pub inside-slanted : (i k : ℕ) → i + 1 < n → slanted (point-at s (start + i)) (point-at s (start + i + 1)) ≡ true → walk 12 (inside-at i) k ≡ Refused 12
+  unfolding walk
+  inside-slanted i k h x = ap (λ (l : List Test). walk 12 l k) (inside-next i h) ∙ ap (λ (b : Bool). walk 12 (cond b (barred ∷ []) (node-tests e (run-at s (start + i)) ns 0) ++ inside-at (i + 1)) k) x
+
+  pub inside-straight : (i k : ℕ) (a b : Point) → i + 1 < n → a ≡ point-at s (start + i) → b ≡ point-at s (start + i + 1) → slanted a b ≡ false → walk 12 (node-tests e (seg a b) ns 0 ++ inside-at (i + 1)) k ≡ walk 12 (inside-at i) k
+  inside-straight i k a b h p q x =
+      let y : slanted (point-at s (start + i)) (point-at s (start + i + 1)) ≡ false = rw (p, q) at x in
+      let z : node-tests e (seg a b) ns 0 ≡ node-tests e (run-at s (start + i)) ns 0 = rw (p, q) in
+      ap (λ (l : List Test). walk 12 (l ++ inside-at (i + 1)) k) z
+      ∙ sym (ap (λ (l : List Test). walk 12 l k) (inside-next i h) ∙ ap (λ (b : Bool). walk 12 (cond b (barred ∷ []) (node-tests e (run-at s (start + i)) ns 0) ++ inside-at (i + 1)) k) y)
+
+  pub inside-end : (i k : ℕ) → n ≤ i + 1 → walk 12 (inside-at i) k ≡ clean k
+  unfolding inside-tests walk
+  inside-end i k h = let g : n - i ≤ 1 = omega arith in rw (runs-none s (start + i) (n - i) g)
+
+-- ---- what stands past the end of a table is never read
+
+pub getD-any : {A : Type 0} (l : List A) (i : ℕ) (d e : A) → i < length l → getD l i d ≡ getD l i e
+getD-any [] i d e h = absurd (omega arith)
+getD-any (x ∷ l) zero d e h = refl
+getD-any (x ∷ l) (suc i) d e h = getD-any l i d e (omega arith)
+
+pub edge-tests : (ns : List PlacedNode) (l : List Edge) (n k : ℕ) (d : Edge) (r : Route) (m : ℕ) → k < n → n ≤ length l → walk 12 (inside-route ns (take n l) k r) m ≡ walk 12 (inside-tests ns (getD l k d) (runs r)) m
+edge-tests ns l n k d r m h q =
+    let g : k < length l = omega arith in
+    ap (λ (e : Edge). walk 12 (inside-tests ns e (runs r)) m) (getD-take n l k no-edge h ∙ getD-any l k no-edge d g)

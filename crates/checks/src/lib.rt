@@ -320,3 +320,87 @@ pub fn verify_new_bundle_route_contacts(
         ),
     }
 }
+
+// ---- verify_one_bundle_route_node_interiors
+
+fn is_own(e: Edge, j: usize) -> bool
+    ensures { λ r. ⌜ r ≡ own e j ⌝ }
+{
+    (j == e.source) | (j == e.target)
+}
+
+// The runs of a route of count points from point start on, each against every node but the edge's
+// own.
+fn route_inside(
+    nodes: Nodes,
+    e: Edge,
+    points: &[f64],
+    start: usize,
+    count: usize,
+    visits: GeometryVisits,
+) -> Verdict
+    requires { ⌜ (nodes .count ≤ 128) × (2 * (start + count) ≤ length (now points)) ⌝ }
+    ensures { λ r. ⌜ r ≡ walk 12 (inside-tests (take (nodes .count) (nodes .rows)) e (runs (points-from (now (points .entry)) start count))) (visits .0) ⌝ }
+{
+    let n = nodes.count;
+    let mut left = visits;
+    let mut i: usize = 0;
+    while i + 1 < count {
+        let a = geometry::point_at(points, start + i);
+        let b = geometry::point_at(points, start + i + 1);
+        if geometry::is_slanted(a, b) {
+            return Verdict::Refused(12);
+        }
+        let mut j: usize = 0;
+        while j < n {
+            let k = j;
+            j += 1;
+            if is_own(e, k) {
+                continue;
+            }
+            let g = left.0;
+            if g == 0 {
+                return Verdict::Refused(14);
+            }
+            left = GeometryVisits(g - 1);
+            let row = nodes.rows[k];
+            if geometry::run_passes_inside(a, b, row.body) {
+                return Verdict::Refused(12);
+            }
+        }
+        i += 1;
+    }
+    Verdict::Clean(left)
+}
+
+// The routes that the mask chooses, in the order of the routes.
+pub fn verify_one_bundle_route_node_interiors(
+    nodes: Nodes,
+    edges: Edges,
+    mask: &[bool],
+    points: &[f64],
+    counts: &[usize],
+    visits: GeometryVisits,
+) -> Verdict
+    requires { ⌜ (nodes .count ≤ 128) × (edges .count ≤ 256) × (length (now counts) ≤ edges .count) × Slotted (now points) (now counts) (now mask) ⌝ }
+    ensures { λ r. ⌜ r ≡ walk 12 (over-routes (inside-route (take (nodes .count) (nodes .rows)) (take (edges .count) (edges .rows))) (chosen-by false (now (mask .entry))) (routes-of (now (points .entry)) (now (counts .entry))) 0) (visits .0) ⌝ }
+{
+    let mut left = visits;
+    let mut e: usize = 0;
+    while e < counts.len() {
+        let k = e;
+        e += 1;
+        if mask[k] {
+            let v = route_inside(nodes, edges.rows[k], points, 68 * k, counts[k], left);
+            match v {
+                Verdict::Refused(r) => {
+                    return Verdict::Refused(r);
+                }
+                Verdict::Clean(q) => {
+                    left = q;
+                }
+            }
+        }
+    }
+    Verdict::Clean(left)
+}
