@@ -2,18 +2,28 @@
 -- Assumes nothing.
 use Prim.Native.Nat.{ℕ, zero, suc, _+_, _*_, _≤_, _<_}
 use mathlib.Core.Path.{_≡_}
+use mathlib.Core.Logic.{_⊎_}
 use mathlib.Core.List.{List, [], _∷_}
 use mathlib.Core.Option.{Option, none, some}
-use mathlib.Core.Bool.{Bool, cond}
+use mathlib.Core.Bool.{Bool, cond, _&&_}
 use lib.Dec.{ltb}
 use lib.ListN.{getD, length}
-use lib.Ieee.{Float, binary64, add, mul}
+use lib.Ieee.{Float, binary64, eq, le, add, sub, mul}
+use Rattle.binary64.specs.Order.{magnitude}
 use Rattle.geometry.specs.declared.Point.{Point}
 use Rattle.geometry.specs.declared.Role.{Role}
-use Rattle.geometry.specs.Points.{Route}
+use Rattle.geometry.specs.declared.Segment.{Segment}
+use Rattle.geometry.specs.Points.{Route, point-at}
 use Rattle.route.specs.Slots.{Held, routes-of}
 use Rattle.board.specs.declared.Member.{Member}
-use Rattle.plan.specs.Depths.{number}
+use Rattle.board.specs.declared.Bundle.{Bundle}
+use Rattle.board.specs.declared.Options.{Options}
+use Rattle.board.specs.Board.{Board, rail-depth, bundle-pitch}
+use Rattle.plan.specs.declared.Bound.{Bound}
+use Rattle.plan.specs.declared.Bound.the-variants.{None, At}
+use Rattle.plan.specs.Depths.{number, endpoint-of, members-in}
+use Rattle.drawing.specs.Build.{TapOn, all-at}
+use Rattle.checks.specs.Rows.{taps-from}
 use Rattle.drawing.specs.Rewrite.{rewritten, two-points}
 
 -- count members from place first on
@@ -50,3 +60,46 @@ pub record Roomy (edges : List ℕ) (first i count : ℕ) (points : List Float) 
   pub known : (k : ℕ) → i ≤ k → k < count → getD edges (first + k) 0 < length counts
   pub room : (k : ℕ) → i ≤ k → k < count → getD counts (getD edges (first + k) 0) 0 ≤ 66
   pub once : (j k : ℕ) → i ≤ j → j < k → k < count → getD edges (first + j) 0 ≡ getD edges (first + k) 0 → ⊥
+
+-- ---- taps
+
+-- the taps outside count places from first on are as they were
+abbrev pub Untouched : List Float → List Float → ℕ → ℕ → Type 0
+Untouched old new first count = (j : ℕ) → (j < first) ⊎ (first + count ≤ j) → point-at new j ≡ point-at old j
+
+-- those inside are p 0, p 1 and so on
+abbrev pub Placed : List Float → ℕ → ℕ → (ℕ → Point) → Type 0
+Placed taps first count p = (k : ℕ) → k < count → point-at taps (first + k) ≡ p k
+
+-- every route has its slot, and the members' routes are among them
+pub record Slots (edges : List ℕ) (first count : ℕ) (points : List Float) (counts : List ℕ) : Type 0 where
+  pub slots : 136 * length counts ≤ length points
+  pub hold : Held counts
+  pub known : (k : ℕ) → k < count → getD edges (first + k) 0 < length counts
+
+-- what a bundle's taps are, if all went well
+unfoldable pub tapped-in : Bool → List ℕ → List Float → ℕ → ℕ → Option (List TapOn)
+tapped-in done edges taps first count = cond done (some (taps-from edges taps first count)) none
+
+-- the tap of a lane on the rail
+abbrev pub rail-point : Point → Float → Float → ℕ → Point
+rail-point end middle pitch lane = record { x = end .x; y = add binary64 (end .y) (mul binary64 (sub binary64 (number lane) middle) pitch) }
+
+-- the test inside rewrite_member_routes, at a rail depth and a pitch
+abbrev pub interior-at : Float → Float → Segment → Segment → List TapOn → Bool
+interior-at depth pitch collector spine ts =
+    eq (spine .end .x) (collector .start .x)
+    && (eq (spine .end .x) (collector .end .x)
+    && (all-at (spine .end .x) ts
+    && le (add binary64 depth pitch) (magnitude (sub binary64 (spine .end .x) (spine .start .x)))))
+
+-- a planned x, or none
+abbrev pub planned-at : Bound → Option Float
+planned-at None = none
+planned-at (At x) = some x
+
+-- what a board has that is asked of it when bundle u is drawn
+pub record Seen (b : Board) (o : Options) (u : Bundle) (end : Point) (ms : List Member) : Type 0 where
+  pub options : b .options ≡ o
+  pub endpoint : endpoint-of b u ≡ end
+  pub members : members-in b u ≡ ms

@@ -6,19 +6,33 @@
 // members has its edge at place k of edges, its tap lane at place k of lanes and its tap as x and y
 // at point k of taps; a bundle's members are count places from first on.
 ghost use mathlib.Core.Path.{_≡_};
+ghost use mathlib.Core.List.{[]};
 ghost use Prim.Native.Nat.{suc, _+_, _*_, _-_, _<_, _≤_};
 ghost use lib.ListN.{length, getD};
 ghost use Rattle.geometry.specs.Points.{points-from};
 ghost use Rattle.route.specs.Slots.{routes-of, Held};
 ghost use Rattle.route.specs.Contract.{Leaves};
 ghost use Rattle.plan.specs.Depths.{number};
-ghost use Rattle.drawing.specs.Build.{route-at};
+ghost use Rattle.board.specs.Board.{Board, rail-depth, bundle-pitch};
+ghost use Rattle.drawing.specs.Build.{route-at, trunk-met, trunk-taps, lowest, highest, center, rail-corner, all-at, build};
 ghost use Rattle.drawing.specs.Rewrite.{rewritten, put-route, rewrite-all};
-ghost use Rattle.checks.specs.Rows.{taps-from, Tabled};
-ghost use Rattle.sheet.specs.Rows.{members-from, depth-at, rewrite-with, routes-in, CountsKept, Laned, Roomy};
+ghost use Rattle.checks.specs.Rows.{taps-from, drawn-of, Tabled};
+ghost use Rattle.sheet.specs.Rows.{members-from, depth-at, rewrite-with, routes-in, CountsKept, Laned, Roomy, Placed, Untouched, Slots, rail-point, tapped-in, interior-at, Seen, planned-at};
+use board::Bundle;
+use board::DrawnBundle;
+use board::Options;
 use geometry::Point;
 use geometry::Role;
+use geometry::Segment;
+use plan::Bound;
+use route::Crossing;
 use route::Rewritten;
+
+// The lowest and the highest y of a bundle's taps and its endpoint.
+pub struct Reach {
+    pub low: f64,
+    pub high: f64,
+}
 
 // ---- rewrite_member_routes
 
@@ -166,4 +180,79 @@ pub fn rewrite_member_routes(
         i += 1;
     }
     true
+}
+
+// ---- build_interior_geometry
+
+// Where a route of count points from point start on has its tap at x.
+fn trunk_tap(
+    role: Role,
+    pitch: f64,
+    x: f64,
+    points: &[f64],
+    start: usize,
+    count: usize,
+) -> Crossing
+    requires { ⌜ 2 * (start + count) ≤ length (now points) ⌝ }
+    ensures { λ r. ⌜ r ≡ trunk-met role pitch x (points-from (now (points .entry)) start count) ⌝ }
+{
+    match role {
+        Role::Input => route::first_shared_trunk_intersection(points, start, count, x, role, pitch),
+        Role::Output => route::last_shared_trunk_intersection(points, start, count, x, role, pitch),
+    }
+}
+
+// Each member's tap at x, if every member's route has one; else some of the bundle's taps may have
+// been written.
+fn trunk_taps(
+    role: Role,
+    pitch: f64,
+    x: f64,
+    edges: &[usize],
+    first: usize,
+    count: usize,
+    points: &[f64],
+    counts: &[usize],
+    taps: &mut [f64],
+) -> bool
+    requires { ⌜ Tabled first count (now edges) (now taps) × Slots (now edges) first count (now points) (now counts) ⌝ }
+    ensures told { λ r. ⌜ tapped-in r (now (edges .entry)) (now (taps .exit)) first count ≡ trunk-taps role pitch x (members-from (now (edges .entry)) [] first count) (routes-of (now (points .entry)) (now (counts .entry))) ⌝ }
+    ensures kept { λ _. ⌜ Untouched (now (taps .entry)) (now (taps .exit)) first count ⌝ }
+{
+    let mut i: usize = 0;
+    while i < count {
+        let e = edges[first + i];
+        let c = trunk_tap(role, pitch, x, points, 68 * e, counts[e]);
+        match c {
+            Crossing::Nowhere => {
+                return false;
+            }
+            Crossing::On(k, p) => {
+                geometry::put_point(&mut taps[..], first + i, p);
+            }
+        }
+        i += 1;
+    }
+    true
+}
+
+// How far a bundle's taps reach from y.
+fn tap_reach(y: f64, taps: &[f64], first: usize, count: usize) -> Reach
+    requires { ⌜ 2 * (first + count) ≤ length (now taps) ⌝ }
+    ensures low { λ r. ⌜ r .low ≡ lowest y (taps-from [] (now (taps .entry)) first count) ⌝ }
+    ensures high { λ r. ⌜ r .high ≡ highest y (taps-from [] (now (taps .entry)) first count) ⌝ }
+{
+    let mut low = y;
+    let mut high = y;
+    let mut i: usize = 0;
+    while i < count {
+        let p = geometry::point_at(taps, first + i);
+        low = binary64::min(low, p.y);
+        high = binary64::max(high, p.y);
+        i += 1;
+    }
+    Reach {
+        low: low,
+        high: high,
+    }
 }
