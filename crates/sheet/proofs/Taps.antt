@@ -8,7 +8,7 @@ use mathlib.Core.Option.{Option, none, some}
 use mathlib.Core.Bool.{Bool, true, false, cond, _&&_}
 use native.Mathlib.Omega.{arith}
 use lib.ListN.{length, getD}
-use lib.Ieee.{Float, eq}
+use lib.Ieee.{Float, binary64, eq, div}
 use Rattle.binary64.specs.Order.{least, greatest}
 use Rattle.geometry.specs.declared.Point.{Point}
 use Rattle.geometry.specs.declared.Role.{Role}
@@ -18,8 +18,8 @@ use Rattle.route.specs.declared.Crossing.the-variants.{Nowhere, On}
 use Rattle.route.specs.Window.{put-other, put-here}
 use Rattle.route.specs.Slots.{routes-of, slot-is}
 use Rattle.board.specs.declared.Member.{Member}
-use Rattle.plan.specs.Depths.{lane-count}
-use Rattle.drawing.specs.Build.{TapOn, route-at, trunk-met, tap-then, trunk-taps, lowest, highest, rail-tap, rail-taps, rail-low, rail-high, all-at}
+use Rattle.plan.specs.Depths.{number, lane-count}
+use Rattle.drawing.specs.Build.{TapOn, route-at, trunk-met, tap-then, trunk-taps, lowest, highest, rail-tap, rail-taps, rail-low, rail-high, center, all-at}
 use Rattle.checks.specs.Rows.{taps-from}
 use Rattle.sheet.specs.Rows.{members-from, tapped-in, rail-point, Untouched, Placed}
 
@@ -192,3 +192,72 @@ module _ (t : List Float) (first n : ℕ) where
   pub at-end : (i : ℕ) (x : Float) → n ≤ i → all-at x (taps-rest i) ≡ true
   unfolding all-at
   at-end i x h = rw (taps-end i h)
+
+-- ---- the middle of the lanes
+
+lane-last : (edges lanes : List ℕ) (first n : ℕ) → lane-count (members-from edges lanes first (suc n)) ≡ getD lanes (first + n) 0 + 1
+unfolding lane-count members-from
+lane-last edges lanes first zero = let z : first + 0 ≡ first = omega arith in rw z
+lane-last edges lanes first (suc n) = let z : first + suc n ≡ suc first + n = omega arith in rw z (lane-last edges lanes (suc first) n)
+
+pub center-none : (edges lanes : List ℕ) (first n : ℕ) → n ≡ 0 → div binary64 (number 0) (number 2) ≡ center (members-from edges lanes first n)
+unfolding center lane-count members-from
+center-none edges lanes first n h = rw h
+
+pub center-some : (edges lanes : List ℕ) (first n : ℕ) → (n ≡ 0 → ⊥) → div binary64 (number (getD lanes (first + n - 1) 0)) (number 2) ≡ center (members-from edges lanes first n)
+unfolding center
+center-some edges lanes first zero h = absurd (h refl)
+center-some edges lanes first (suc n) h =
+    let a : first + suc n - 1 ≡ first + n = omega arith in
+    let b : getD lanes (first + n) 0 + 1 - 1 ≡ getD lanes (first + n) 0 = omega arith in
+    rw (a, lane-last edges lanes first n, b)
+
+pub center-any : (edges lanes : List ℕ) (first n : ℕ) → center (members-from [] lanes first n) ≡ center (members-from edges lanes first n)
+unfolding center lane-count members-from
+center-any edges lanes first zero = refl
+center-any edges lanes first (suc n) = rw (lane-last [] lanes first n, lane-last edges lanes first n)
+
+-- ---- taps on the rail
+
+pub rail-listed : (edges lanes : List ℕ) (t : List Float) (end : Point) (middle pitch : Float) (first n : ℕ) → Placed t first n (λ k. rail-point end middle pitch (getD lanes (first + k) 0)) → taps-from edges t first n ≡ rail-taps end middle pitch (members-from edges lanes first n)
+unfolding taps-from members-from rail-taps rail-tap
+rail-listed edges lanes t end middle pitch first zero h = refl
+rail-listed edges lanes t end middle pitch first (suc n) h =
+    let e : first + 0 ≡ first = omega arith in
+    let a : point-at t first ≡ rail-point end middle pitch (getD lanes first 0) = ap (point-at t) (sym e) ∙ h 0 (omega arith) ∙ ap (λ (k : ℕ). rail-point end middle pitch (getD lanes k 0)) e in
+    rw (
+      a,
+      rail-listed edges lanes t end middle pitch (suc first) n (λ k l.
+          let u : suc first + k ≡ first + suc k = omega arith in
+          ap (point-at t) u ∙ h (suc k) (omega arith) ∙ ap (λ (j : ℕ). rail-point end middle pitch (getD lanes j 0)) (sym u)),
+    )
+
+module _ (edges : List ℕ) (t : List Float) (y : Float) where
+  pub rail-none : (first n : ℕ) → n ≡ 0 → (y ≡ rail-low (taps-from edges t first n) y) × (y ≡ rail-high (taps-from edges t first n) y)
+  unfolding taps-from rail-low rail-high
+  rail-none first n h = rw h (refl, refl)
+
+  pub rail-first : (first n : ℕ) → (n ≡ 0 → ⊥) → least (point-at t first .y) y ≡ rail-low (taps-from edges t first n) y
+  unfolding taps-from rail-low
+  rail-first first zero h = absurd (h refl)
+  rail-first first (suc n) h = refl
+
+  last-from : (first n : ℕ) → rail-high (taps-from edges t first (suc n)) y ≡ greatest (point-at t (first + n) .y) y
+  unfolding taps-from rail-high
+  last-from first zero = let z : first + 0 ≡ first = omega arith in rw z
+  last-from first (suc n) = let z : first + suc n ≡ suc first + n = omega arith in rw z (last-from (suc first) n)
+
+  pub rail-last : (first n : ℕ) → (n ≡ 0 → ⊥) → greatest (point-at t (first + n - 1) .y) y ≡ rail-high (taps-from edges t first n) y
+  rail-last first zero h = absurd (h refl)
+  rail-last first (suc n) h = let a : first + suc n - 1 ≡ first + n = omega arith in rw a (sym (last-from first n))
+
+pub rail-low-any : (edges : List ℕ) (t : List Float) (y : Float) (first n : ℕ) → rail-low (taps-from [] t first n) y ≡ rail-low (taps-from edges t first n) y
+unfolding taps-from rail-low
+rail-low-any edges t y first zero = refl
+rail-low-any edges t y first (suc n) = refl
+
+pub rail-high-any : (edges : List ℕ) (t : List Float) (y : Float) (first n : ℕ) → rail-high (taps-from [] t first n) y ≡ rail-high (taps-from edges t first n) y
+unfolding taps-from rail-high
+rail-high-any edges t y first zero = refl
+rail-high-any edges t y first (suc zero) = refl
+rail-high-any edges t y first (suc (suc n)) = rail-high-any edges t y (suc first) (suc n)

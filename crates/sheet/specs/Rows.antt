@@ -18,11 +18,12 @@ use Rattle.route.specs.Slots.{Held, routes-of}
 use Rattle.board.specs.declared.Member.{Member}
 use Rattle.board.specs.declared.Bundle.{Bundle}
 use Rattle.board.specs.declared.Options.{Options}
-use Rattle.board.specs.Board.{Board, rail-depth, bundle-pitch}
+use Rattle.board.specs.declared.DrawnBundle.{DrawnBundle}
+use Rattle.board.specs.Board.{rail-depth, bundle-pitch}
 use Rattle.plan.specs.declared.Bound.{Bound}
 use Rattle.plan.specs.declared.Bound.the-variants.{None, At}
-use Rattle.plan.specs.Depths.{number, endpoint-of, members-in}
-use Rattle.drawing.specs.Build.{TapOn, all-at}
+use Rattle.plan.specs.Depths.{number, inward}
+use Rattle.drawing.specs.Build.{pt, seg, TapOn, lowest, highest, rail-low, rail-high, all-at}
 use Rattle.checks.specs.Rows.{taps-from}
 use Rattle.drawing.specs.Rewrite.{rewritten, two-points}
 
@@ -98,8 +99,26 @@ abbrev pub planned-at : Bound → Option Float
 planned-at None = none
 planned-at (At x) = some x
 
--- what a board has that is asked of it when bundle u is drawn
-pub record Seen (b : Board) (o : Options) (u : Bundle) (end : Point) (ms : List Member) : Type 0 where
-  pub options : b .options ≡ o
-  pub endpoint : endpoint-of b u ≡ end
-  pub members : members-in b u ≡ ms
+-- ---- the definitions of crate drawing, with the parts of the board that they read
+
+-- a row of the table of drawn bundles; drawn-as
+unfoldable pub drawn-row : Options → Bundle → Segment → Segment → List TapOn → DrawnBundle
+drawn-row o u collector spine ts =
+    record {
+      id = u .id;
+      interior = interior-at (rail-depth o) (bundle-pitch o u) collector spine ts;
+      collector = collector;
+      spine = spine;
+      first = u .first;
+      count = u .count;
+    }
+
+-- drawn-inside
+unfoldable pub inside-with : Options → Bundle → Point → Float → List TapOn → DrawnBundle
+inside-with o u end x ts = drawn-row o u (seg (pt x (lowest (end .y) ts)) (pt x (highest (end .y) ts))) (seg end (pt x (end .y))) ts
+
+-- railed, with the taps on the rail
+unfoldable pub railed-with : Options → Bundle → Point → List TapOn → DrawnBundle
+railed-with o u end ts =
+    let corner = pt (inward (u .role) (end .x) (rail-depth o)) (end .y) in
+    drawn-row o u (seg (pt (corner .x) (rail-low ts (corner .y))) (pt (corner .x) (rail-high ts (corner .y)))) (seg end corner) ts

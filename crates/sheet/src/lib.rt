@@ -12,12 +12,13 @@ ghost use lib.ListN.{length, getD};
 ghost use Rattle.geometry.specs.Points.{points-from};
 ghost use Rattle.route.specs.Slots.{routes-of, Held};
 ghost use Rattle.route.specs.Contract.{Leaves};
-ghost use Rattle.plan.specs.Depths.{number};
-ghost use Rattle.board.specs.Board.{Board, rail-depth, bundle-pitch};
-ghost use Rattle.drawing.specs.Build.{route-at, trunk-met, trunk-taps, lowest, highest, center, rail-corner, all-at, build};
+ghost use Rattle.plan.specs.Depths.{number, inward};
+ghost use lib.Ieee.{binary64, le, add, sub, div};
+ghost use Rattle.binary64.specs.Order.{magnitude};
+ghost use Rattle.drawing.specs.Build.{route-at, trunk-met, trunk-taps, lowest, highest, center, rail-low, rail-high, all-at};
 ghost use Rattle.drawing.specs.Rewrite.{rewritten, put-route, rewrite-all};
 ghost use Rattle.checks.specs.Rows.{taps-from, drawn-of, Tabled};
-ghost use Rattle.sheet.specs.Rows.{members-from, depth-at, rewrite-with, routes-in, CountsKept, Laned, Roomy, Placed, Untouched, Slots, rail-point, tapped-in, interior-at, Seen, planned-at};
+ghost use Rattle.sheet.specs.Rows.{members-from, depth-at, rewrite-with, routes-in, CountsKept, Laned, Roomy, Placed, Untouched, Slots, rail-point, tapped-in, interior-at, drawn-row, inside-with, railed-with};
 use board::Bundle;
 use board::DrawnBundle;
 use board::Options;
@@ -251,6 +252,172 @@ fn tap_reach(y: f64, taps: &[f64], first: usize, count: usize) -> Reach
         high = binary64::max(high, p.y);
         i += 1;
     }
+    Reach {
+        low: low,
+        high: high,
+    }
+}
+
+// ---- the interior test of rewrite_member_routes
+
+// Whether every tap stands at x.
+fn taps_are_at(x: f64, taps: &[f64], first: usize, count: usize) -> bool
+    requires { ⌜ 2 * (first + count) ≤ length (now taps) ⌝ }
+    ensures { λ r. ⌜ r ≡ all-at x (taps-from [] (now (taps .entry)) first count) ⌝ }
+{
+    let mut i: usize = 0;
+    while i < count {
+        let p = geometry::point_at(taps, first + i);
+        if !(p.x == x) {
+            return false;
+        }
+        i += 1;
+    }
+    true
+}
+
+fn reaches(depth: f64, pitch: f64, from: f64, to: f64) -> bool
+    ensures { λ r. ⌜ r ≡ le (add binary64 depth pitch) (magnitude (sub binary64 to from)) ⌝ }
+{
+    let d = binary64::abs(to - from);
+    d >= depth + pitch
+}
+
+fn counts_interior(
+    depth: f64,
+    pitch: f64,
+    collector: Segment,
+    spine: Segment,
+    taps: &[f64],
+    first: usize,
+    count: usize,
+) -> bool
+    requires { ⌜ 2 * (first + count) ≤ length (now taps) ⌝ }
+    ensures { λ r. ⌜ r ≡ interior-at depth pitch collector spine (taps-from [] (now (taps .entry)) first count) ⌝ }
+{
+    let x = spine.end.x;
+    x == collector.start.x
+        && (x == collector.end.x
+            && (taps_are_at(x, taps, first, count) && reaches(depth, pitch, spine.start.x, x)))
+}
+
+// The row of a bundle drawn with these segments and taps.
+fn drawn_with(o: Options, u: Bundle, collector: Segment, spine: Segment, taps: &[f64]) -> DrawnBundle
+    requires { ⌜ 2 * (u .first + u .count) ≤ length (now taps) ⌝ }
+    ensures { λ r. ⌜ r ≡ drawn-row o u collector spine (taps-from [] (now (taps .entry)) (u .first) (u .count)) ⌝ }
+{
+    let depth = board::boundary_bundle_rail_depth(o);
+    let pitch = board::pitch_of_bundle(o, u);
+    let interior = counts_interior(depth, pitch, collector, spine, taps, u.first, u.count);
+    DrawnBundle {
+        id: u.id,
+        interior: interior,
+        collector: collector,
+        spine: spine,
+        first: u.first,
+        count: u.count,
+    }
+}
+
+// With taps at the planned x.
+fn build_inside(o: Options, end: Point, u: Bundle, x: f64, taps: &[f64]) -> DrawnBundle
+    requires { ⌜ 2 * (u .first + u .count) ≤ length (now taps) ⌝ }
+    ensures { λ r. ⌜ r ≡ inside-with o u end x (taps-from [] (now (taps .entry)) (u .first) (u .count)) ⌝ }
+{
+    let reach = tap_reach(end.y, taps, u.first, u.count);
+    let low = Point {
+        x: x,
+        y: reach.low,
+    };
+    let high = Point {
+        x: x,
+        y: reach.high,
+    };
+    let corner = Point {
+        x: x,
+        y: end.y,
+    };
+    drawn_with(
+        o,
+        u,
+        Segment {
+            start: low,
+            end: high,
+        },
+        Segment {
+            start: end,
+            end: corner,
+        },
+        taps,
+    )
+}
+
+// ---- at the rail
+
+fn half_of(lane: u32) -> f64
+    ensures { λ r. ⌜ r ≡ div binary64 (number lane) (number 2) ⌝ }
+{
+    lane as f64 / 2.0
+}
+
+// The middle of a bundle's lanes.
+fn middle_lane(lanes: &[u32], first: usize, count: usize) -> f64
+    requires { ⌜ first + count ≤ length (now lanes) ⌝ }
+    ensures { λ r. ⌜ r ≡ center (members-from [] (now (lanes .entry)) first count) ⌝ }
+{
+    if count == 0 {
+        return half_of(0);
+    }
+    half_of(lanes[first + count - 1])
+}
+
+fn rail_tap(end: Point, middle: f64, pitch: f64, lane: u32) -> Point
+    ensures { λ r. ⌜ r ≡ rail-point end middle pitch lane ⌝ }
+{
+    Point {
+        x: end.x,
+        y: end.y + (lane as f64 - middle) * pitch,
+    }
+}
+
+// Each member's tap on the rail.
+fn rail_taps(
+    end: Point,
+    middle: f64,
+    pitch: f64,
+    lanes: &[u32],
+    first: usize,
+    count: usize,
+    taps: &mut [f64],
+)
+    requires { ⌜ (first + count ≤ length (now lanes)) × (2 * (first + count) ≤ length (now taps)) ⌝ }
+    ensures placed { λ _. ⌜ Placed (now (taps .exit)) first count (λ k. rail-point end middle pitch (getD (now (lanes .entry)) (first + k) 0)) ⌝ }
+    ensures kept { λ _. ⌜ Untouched (now (taps .entry)) (now (taps .exit)) first count ⌝ }
+{
+    let mut i: usize = 0;
+    while i < count {
+        let p = rail_tap(end, middle, pitch, lanes[first + i]);
+        geometry::put_point(&mut taps[..], first + i, p);
+        i += 1;
+    }
+}
+
+// How far the first and the last tap reach from y.
+fn rail_reach(y: f64, taps: &[f64], first: usize, count: usize) -> Reach
+    requires { ⌜ 2 * (first + count) ≤ length (now taps) ⌝ }
+    ensures low { λ r. ⌜ r .low ≡ rail-low (taps-from [] (now (taps .entry)) first count) y ⌝ }
+    ensures high { λ r. ⌜ r .high ≡ rail-high (taps-from [] (now (taps .entry)) first count) y ⌝ }
+{
+    if count == 0 {
+        return Reach {
+            low: y,
+            high: y,
+        };
+    }
+    let a = geometry::point_at(taps, first);
+    let b = geometry::point_at(taps, first + count - 1);
+    let low = binary64::min(a.y, y);
+    let high = binary64::max(b.y, y);
     Reach {
         low: low,
         high: high,
