@@ -19,11 +19,11 @@ use Rattle.board.specs.declared.Member.{Member}
 use Rattle.board.specs.declared.Bundle.{Bundle}
 use Rattle.board.specs.declared.Options.{Options}
 use Rattle.board.specs.declared.DrawnBundle.{DrawnBundle}
-use Rattle.board.specs.Board.{rail-depth, bundle-pitch}
+use Rattle.board.specs.Board.{Board, rail-depth, bundle-pitch}
 use Rattle.plan.specs.declared.Bound.{Bound}
 use Rattle.plan.specs.declared.Bound.the-variants.{None, At}
-use Rattle.plan.specs.Depths.{number, inward}
-use Rattle.drawing.specs.Build.{pt, seg, TapOn, lowest, highest, rail-low, rail-high, all-at}
+use Rattle.plan.specs.Depths.{number, inward, endpoint-of, members-in}
+use Rattle.drawing.specs.Build.{pt, seg, TapOn, Drawn, build, lowest, highest, rail-low, rail-high, all-at}
 use Rattle.checks.specs.Rows.{taps-from}
 use Rattle.drawing.specs.Rewrite.{rewritten, two-points}
 
@@ -117,8 +117,23 @@ drawn-row o u collector spine ts =
 unfoldable pub inside-with : Options → Bundle → Point → Float → List TapOn → DrawnBundle
 inside-with o u end x ts = drawn-row o u (seg (pt x (lowest (end .y) ts)) (pt x (highest (end .y) ts))) (seg end (pt x (end .y))) ts
 
+-- rail-corner
+abbrev pub corner-with : Options → Bundle → Point → Point
+corner-with o u end = pt (inward (u .role) (end .x) (rail-depth o)) (end .y)
+
 -- railed, with the taps on the rail
 unfoldable pub railed-with : Options → Bundle → Point → List TapOn → DrawnBundle
 railed-with o u end ts =
-    let corner = pt (inward (u .role) (end .x) (rail-depth o)) (end .y) in
-    drawn-row o u (seg (pt (corner .x) (rail-low ts (corner .y))) (pt (corner .x) (rail-high ts (corner .y)))) (seg end corner) ts
+    drawn-row o u
+    (seg (pt (corner-with o u end .x) (rail-low ts (corner-with o u end .y))) (pt (corner-with o u end .x) (rail-high ts (corner-with o u end .y))))
+    (seg end (corner-with o u end)) ts
+
+-- what a board has that is asked of it when bundle u is drawn
+pub record Seen (b : Board) (o : Options) (u : Bundle) (end : Point) (ms : List Member) : Type 0 where
+  pub options : b .options ≡ o
+  pub endpoint : endpoint-of b u ≡ end
+  pub members : members-in b u ≡ ms
+
+-- d is what build_geometry draws of bundle u on every board that has these options, where u ends there and has these members
+abbrev pub Draws : Options → Bundle → Point → List Member → Option Float → List Route → Drawn → Type 0
+Draws o u end ms planned rs d = (b : Board) → Seen b o u end ms → d ≡ build b u planned rs

@@ -15,10 +15,11 @@ ghost use Rattle.route.specs.Contract.{Leaves};
 ghost use Rattle.plan.specs.Depths.{number, inward};
 ghost use lib.Ieee.{binary64, le, add, sub, div};
 ghost use Rattle.binary64.specs.Order.{magnitude};
+ghost use Rattle.board.specs.Board.{bundle-pitch};
 ghost use Rattle.drawing.specs.Build.{route-at, trunk-met, trunk-taps, lowest, highest, center, rail-low, rail-high, all-at};
 ghost use Rattle.drawing.specs.Rewrite.{rewritten, put-route, rewrite-all};
 ghost use Rattle.checks.specs.Rows.{taps-from, drawn-of, Tabled};
-ghost use Rattle.sheet.specs.Rows.{members-from, depth-at, rewrite-with, routes-in, CountsKept, Laned, Roomy, Placed, Untouched, Slots, rail-point, tapped-in, interior-at, drawn-row, inside-with, railed-with};
+ghost use Rattle.sheet.specs.Rows.{members-from, depth-at, rewrite-with, routes-in, CountsKept, Laned, Roomy, Placed, Untouched, Slots, rail-point, tapped-in, interior-at, drawn-row, inside-with, railed-with, corner-with, planned-at, Draws};
 use board::Bundle;
 use board::DrawnBundle;
 use board::Options;
@@ -421,5 +422,98 @@ fn rail_reach(y: f64, taps: &[f64], first: usize, count: usize) -> Reach
     Reach {
         low: low,
         high: high,
+    }
+}
+
+fn inward_of(role: Role, x: f64, depth: f64) -> f64
+    ensures { λ r. ⌜ r ≡ inward role x depth ⌝ }
+{
+    match role {
+        Role::Input => x + depth,
+        Role::Output => x - depth,
+    }
+}
+
+// A bundle drawn at the rail, its taps written.
+fn build_rail(o: Options, end: Point, u: Bundle, lanes: &[u32], taps: &mut [f64]) -> DrawnBundle
+    requires { ⌜ (u .first + u .count ≤ length (now lanes)) × (2 * (u .first + u .count) ≤ length (now taps)) ⌝ }
+    ensures row { λ r. ⌜ r ≡ railed-with o u end (taps-from [] (now (taps .exit)) (u .first) (u .count)) ⌝ }
+    ensures placed { λ r. ⌜ Placed (now (taps .exit)) (u .first) (u .count) (λ k. rail-point (corner-with o u end) (center (members-from [] (now (lanes .entry)) (u .first) (u .count))) (bundle-pitch o u) (getD (now (lanes .entry)) (u .first + k) 0)) ⌝ }
+    ensures kept { λ r. ⌜ Untouched (now (taps .entry)) (now (taps .exit)) (u .first) (u .count) ⌝ }
+{
+    let depth = board::boundary_bundle_rail_depth(o);
+    let pitch = board::pitch_of_bundle(o, u);
+    let role = u.role;
+    let x = inward_of(role, end.x, depth);
+    let corner = Point {
+        x: x,
+        y: end.y,
+    };
+    let middle = middle_lane(lanes, u.first, u.count);
+    rail_taps(corner, middle, pitch, lanes, u.first, u.count, &mut taps[..]);
+    let reach = rail_reach(corner.y, &taps[..], u.first, u.count);
+    let low = Point {
+        x: corner.x,
+        y: reach.low,
+    };
+    let high = Point {
+        x: corner.x,
+        y: reach.high,
+    };
+    drawn_with(
+        o,
+        u,
+        Segment {
+            start: low,
+            end: high,
+        },
+        Segment {
+            start: end,
+            end: corner,
+        },
+        &taps[..],
+    )
+}
+
+// ---- build_geometry
+
+// A bundle that ends at end, drawn at the planned x where each member's route has a tap there, else
+// at the rail; its taps are written.
+pub fn build_geometry(
+    o: Options,
+    end: Point,
+    u: Bundle,
+    planned: Bound,
+    edges: &[usize],
+    lanes: &[u32],
+    points: &[f64],
+    counts: &[usize],
+    taps: &mut [f64],
+) -> DrawnBundle
+    requires { ⌜ Tabled (u .first) (u .count) (now edges) (now taps) × (u .first + u .count ≤ length (now lanes)) × Slots (now edges) (u .first) (u .count) (now points) (now counts) ⌝ }
+    ensures drawn { λ r. ⌜ Draws o u end (members-from (now (edges .entry)) (now (lanes .entry)) (u .first) (u .count)) (planned-at planned) (routes-of (now (points .entry)) (now (counts .entry))) (drawn-of (now (edges .entry)) (now (taps .exit)) r) ⌝ }
+    ensures members { λ r. ⌜ (r .first ≡ u .first) × (r .count ≡ u .count) ⌝ }
+    ensures kept { λ r. ⌜ Untouched (now (taps .entry)) (now (taps .exit)) (u .first) (u .count) ⌝ }
+{
+    match planned {
+        Bound::None => build_rail(o, end, u, lanes, &mut taps[..]),
+        Bound::At(x) => {
+            let pitch = board::pitch_of_bundle(o, u);
+            let role = u.role;
+            if trunk_taps(
+                role,
+                pitch,
+                x,
+                edges,
+                u.first,
+                u.count,
+                points,
+                counts,
+                &mut taps[..],
+            ) {
+                return build_inside(o, end, u, x, &taps[..]);
+            }
+            build_rail(o, end, u, lanes, &mut taps[..])
+        }
     }
 }
