@@ -192,7 +192,13 @@ fn bus_on_bus(o: Options, allow: bool, a: Segment, b: Segment, visits: GeometryV
 }
 
 // A segment of the new bundle against the two of an earlier one.
-fn bus_on_drawn(o: Options, allow: bool, a: Segment, prior: DrawnBundle, visits: GeometryVisits) -> Verdict
+fn bus_on_drawn(
+    o: Options,
+    allow: bool,
+    a: Segment,
+    prior: DrawnBundle,
+    visits: GeometryVisits,
+) -> Verdict
     ensures { λ r. ⌜ r ≡ walk 11 (due (clash o allow a Absent (prior .collector)) ∷ due (clash o allow a Absent (prior .spine)) ∷ []) (visits .0) ⌝ }
 {
     let v = bus_on_bus(o, allow, a, prior.collector, visits);
@@ -234,7 +240,18 @@ fn verify_prior(
     requires { ⌜ Tabled (prior .first) (prior .count) (now edges) (now taps) × Slotted (now points) (now counts) (now changed) ⌝ }
     ensures { λ r. ⌜ r ≡ walk 11 (drawn-tests o allow (drawn-of (now (edges .entry)) (now (taps .entry)) prior) (chosen-by false (now (changed .entry))) (routes-of (now (points .entry)) (now (counts .entry))) ++ pair-tests o allow (drawn-of (now (edges .entry)) (now (taps .entry)) new) (drawn-of (now (edges .entry)) (now (taps .entry)) prior)) (visits .0) ⌝ }
 {
-    let v = drawn_on_routes(o, allow, prior, edges, taps, false, changed, points, counts, visits);
+    let v = drawn_on_routes(
+        o,
+        allow,
+        prior,
+        edges,
+        taps,
+        false,
+        changed,
+        points,
+        counts,
+        visits,
+    );
     match v {
         Verdict::Refused(r) => Verdict::Refused(r),
         Verdict::Clean(q) => drawn_on_drawn(o, allow, new, prior, q),
@@ -303,7 +320,18 @@ pub fn verify_new_bundle_route_contacts(
     requires { ⌜ (priors .count ≤ 32) × AllTabled (take (priors .count) (priors .rows)) (now edges) (now taps) × Tabled (new .first) (new .count) (now edges) (now taps) × Slotted (now points) (now counts) (now changed) ⌝ }
     ensures { λ r. ⌜ r ≡ walk 11 (contact-tests o allow (drawn-of (now (edges .entry)) (now (taps .entry)) new) (chosen-by false (now (changed .entry))) (map (drawn-of (now (edges .entry)) (now (taps .entry))) (take (priors .count) (priors .rows))) (routes-of (now (points .entry)) (now (counts .entry)))) (visits .0) ⌝ }
 {
-    let v = drawn_on_routes(o, allow, new, edges, taps, true, changed, points, counts, visits);
+    let v = drawn_on_routes(
+        o,
+        allow,
+        new,
+        edges,
+        taps,
+        true,
+        changed,
+        points,
+        counts,
+        visits,
+    );
     match v {
         Verdict::Refused(r) => Verdict::Refused(r),
         Verdict::Clean(q) => verify_priors(

@@ -80,19 +80,19 @@ module _ (edges lanes : List ℕ) (t : List Float) (o : Options) (u : Bundle) (e
         row-rail
         ∙ ap (railed-by o u end) (listed-rail p)
         ∙ sym (
-          railed-of b u
-          ∙ ap (λ (q : Options). railed-by q u (endpoint-of b u) (taps-by q u (endpoint-of b u) (members-in b u))) (s .options)
-          ∙ ap (λ (q : Point). railed-by o u q (taps-by o u q (members-in b u))) (s .endpoint)
-          ∙ ap (λ (q : List Member). railed-by o u end (taps-by o u end q)) (s .members)
+        railed-of b u
+        ∙ ap (λ (q : Options). railed-by q u (endpoint-of b u) (taps-by q u (endpoint-of b u) (members-in b u))) (s .options)
+        ∙ ap (λ (q : Point). railed-by o u q (taps-by o u q (members-in b u))) (s .endpoint)
+        ∙ ap (λ (q : List Member). railed-by o u end (taps-by o u end q)) (s .members)
         )
 
     inside-seen : (x : Float) → drawn-of edges t (inside-with o u end x bare) ≡ drawn-inside b u x listed
     inside-seen x =
         row-inside x
         ∙ sym (
-          inside-of b u x listed
-          ∙ ap (λ (q : Options). inside-by q u (endpoint-of b u) x listed) (s .options)
-          ∙ ap (λ (q : Point). inside-by o u q x listed) (s .endpoint)
+        inside-of b u x listed
+        ∙ ap (λ (q : Options). inside-by q u (endpoint-of b u) x listed) (s .options)
+        ∙ ap (λ (q : Point). inside-by o u q x listed) (s .endpoint)
         )
 
     trunk-seen : (x : Float) (rs : List Route) → trunk-taps (u .role) (pitch-of b u) x (members-in b u) rs ≡ trunk-taps (u .role) (bundle-pitch o u) x (members-from edges [] (u .first) (u .count)) rs

@@ -187,14 +187,7 @@ pub fn rewrite_member_routes(
 // ---- build_interior_geometry
 
 // Where a route of count points from point start on has its tap at x.
-fn trunk_tap(
-    role: Role,
-    pitch: f64,
-    x: f64,
-    points: &[f64],
-    start: usize,
-    count: usize,
-) -> Crossing
+fn trunk_tap(role: Role, pitch: f64, x: f64, points: &[f64], start: usize, count: usize) -> Crossing
     requires { ⌜ 2 * (start + count) ≤ length (now points) ⌝ }
     ensures { λ r. ⌜ r ≡ trunk-met role pitch x (points-from (now (points .entry)) start count) ⌝ }
 {
@@ -303,7 +296,13 @@ fn counts_interior(
 }
 
 // The row of a bundle drawn with these segments and taps.
-fn drawn_with(o: Options, u: Bundle, collector: Segment, spine: Segment, taps: &[f64]) -> DrawnBundle
+fn drawn_with(
+    o: Options,
+    u: Bundle,
+    collector: Segment,
+    spine: Segment,
+    taps: &[f64],
+) -> DrawnBundle
     requires { ⌜ 2 * (u .first + u .count) ≤ length (now taps) ⌝ }
     ensures { λ r. ⌜ r ≡ drawn-row o u collector spine (taps-from [] (now (taps .entry)) (u .first) (u .count)) ⌝ }
 {
@@ -326,18 +325,12 @@ fn build_inside(o: Options, end: Point, u: Bundle, x: f64, taps: &[f64]) -> Draw
     ensures { λ r. ⌜ r ≡ inside-with o u end x (taps-from [] (now (taps .entry)) (u .first) (u .count)) ⌝ }
 {
     let reach = tap_reach(end.y, taps, u.first, u.count);
-    let low = Point {
-        x: x,
-        y: reach.low,
-    };
+    let low = Point { x: x, y: reach.low };
     let high = Point {
         x: x,
         y: reach.high,
     };
-    let corner = Point {
-        x: x,
-        y: end.y,
-    };
+    let corner = Point { x: x, y: end.y };
     drawn_with(
         o,
         u,
@@ -410,10 +403,7 @@ fn rail_reach(y: f64, taps: &[f64], first: usize, count: usize) -> Reach
     ensures high { λ r. ⌜ r .high ≡ rail-high (taps-from [] (now (taps .entry)) first count) y ⌝ }
 {
     if count == 0 {
-        return Reach {
-            low: y,
-            high: y,
-        };
+        return Reach { low: y, high: y };
     }
     let a = geometry::point_at(taps, first);
     let b = geometry::point_at(taps, first + count - 1);
@@ -445,12 +435,17 @@ fn build_rail(o: Options, end: Point, u: Bundle, lanes: &[u32], taps: &mut [f64]
     let pitch = board::pitch_of_bundle(o, u);
     let role = u.role;
     let x = inward_of(role, end.x, depth);
-    let corner = Point {
-        x: x,
-        y: end.y,
-    };
+    let corner = Point { x: x, y: end.y };
     let middle = middle_lane(lanes, u.first, u.count);
-    rail_taps(corner, middle, pitch, lanes, u.first, u.count, &mut taps[..]);
+    rail_taps(
+        corner,
+        middle,
+        pitch,
+        lanes,
+        u.first,
+        u.count,
+        &mut taps[..],
+    );
     let reach = rail_reach(corner.y, &taps[..], u.first, u.count);
     let low = Point {
         x: corner.x,

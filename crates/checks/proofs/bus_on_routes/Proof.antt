@@ -19,7 +19,7 @@ abbrev Inv-loop : tie.InvT-loop
 Inv-loop o allow bus first count edges taps all mask points counts left₀ e₀ left e =
     (e ≤ length counts) × Tabled first count edges taps × Slotted points counts mask
     × (walk 11 (rest-of 11 (route-tests o allow bus (taps-from edges taps first count)) (chosen-by all mask) points counts e) (left .0)
-      ≡ walk 11 (over-routes (route-tests o allow bus (taps-from edges taps first count)) (chosen-by all mask) (routes-of points counts) 0) (left₀ .0))
+    ≡ walk 11 (over-routes (route-tests o allow bus (taps-from edges taps first count)) (chosen-by all mask) (routes-of points counts) 0) (left₀ .0))
 
 abbrev μ-loop : tie.MeasureT-loop
 μ-loop o allow bus first count edges taps all mask points counts left₀ e₀ left e = length counts - e

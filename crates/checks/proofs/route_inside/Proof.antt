@@ -23,7 +23,7 @@ abbrev Inv-loop2 : tie.InvT-loop2
 Inv-loop2 e points start count nodes n left₀ i a b j₀ left j =
     (i + 1 < count) × (n ≤ 128) × (2 * (start + count) ≤ length points) × (j ≤ n)
     × (walk 12 (nodes-at e (seg a b) (nodes .rows) n (inside-at (take n (nodes .rows)) e points start count (i + 1)) j) (left .0)
-      ≡ walk 12 (inside-at (take n (nodes .rows)) e points start count i) (left₀ .0))
+    ≡ walk 12 (inside-at (take n (nodes .rows)) e points start count i) (left₀ .0))
 
 abbrev μ-loop2 : tie.MeasureT-loop2
 μ-loop2 e points start count nodes n left₀ i a b j₀ left j = n - j
@@ -32,7 +32,7 @@ abbrev Inv-loop : tie.InvT-loop
 Inv-loop e points start count nodes n left₀ i₀ left i =
     (i ≤ count) × (n ≤ 128) × (2 * (start + count) ≤ length points)
     × (walk 12 (inside-at (take n (nodes .rows)) e points start count i) (left .0)
-      ≡ walk 12 (inside-tests (take n (nodes .rows)) e (runs (points-from points start count))) (left₀ .0))
+    ≡ walk 12 (inside-tests (take n (nodes .rows)) e (runs (points-from points start count))) (left₀ .0))
 
 abbrev μ-loop : tie.MeasureT-loop
 μ-loop e points start count nodes n left₀ i₀ left i = count - i

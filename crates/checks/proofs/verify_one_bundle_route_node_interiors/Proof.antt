@@ -20,7 +20,7 @@ abbrev Inv-loop : tie.InvT-loop
 Inv-loop nodes mask points counts edges left₀ e₀ left e =
     (e ≤ length counts) × (nodes .count ≤ 128) × (edges .count ≤ 256) × (length counts ≤ edges .count) × Slotted points counts mask
     × (walk 12 (rest-of 12 (inside-route (take (nodes .count) (nodes .rows)) (take (edges .count) (edges .rows))) (chosen-by false mask) points counts e) (left .0)
-      ≡ walk 12 (over-routes (inside-route (take (nodes .count) (nodes .rows)) (take (edges .count) (edges .rows))) (chosen-by false mask) (routes-of points counts) 0) (left₀ .0))
+    ≡ walk 12 (over-routes (inside-route (take (nodes .count) (nodes .rows)) (take (edges .count) (edges .rows))) (chosen-by false mask) (routes-of points counts) 0) (left₀ .0))
 
 abbrev μ-loop : tie.MeasureT-loop
 μ-loop nodes mask points counts edges left₀ e₀ left e = length counts - e

@@ -21,7 +21,7 @@ abbrev Inv-loop : tie.InvT-loop
 Inv-loop o allow new edges taps changed points counts t n left₀ i₀ left i =
     (i ≤ n) × (n ≤ 32) × AllTabled (take n (t .rows)) edges taps × Slotted points counts changed
     × (walk 11 (priors-at o allow new (chosen-by false changed) edges taps (routes-of points counts) (t .rows) n i) (left .0)
-      ≡ walk 11 (prior-tests o allow (drawn-of edges taps new) (chosen-by false changed) (map (drawn-of edges taps) (take n (t .rows))) (routes-of points counts)) (left₀ .0))
+    ≡ walk 11 (prior-tests o allow (drawn-of edges taps new) (chosen-by false changed) (map (drawn-of edges taps) (take n (t .rows))) (routes-of points counts)) (left₀ .0))
 
 abbrev μ-loop : tie.MeasureT-loop
 μ-loop o allow new edges taps changed points counts t n left₀ i₀ left i = n - i

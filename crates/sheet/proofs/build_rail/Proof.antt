@@ -43,10 +43,13 @@ same-length c = search needs
 
 returns : tie.Need-returns
 unfolding railed-with
-returns c =
-    (rw (c .drawn-with .ensures, c .before .before .rail-reach .ensures .0, c .before .before .rail-reach .ensures .1, c .before .before .before .before .before .before .before .before .before .inward-of .ensures, c .before .before .before .before .before .before .before .before .before .before .before .boundary-bundle-rail-depth .ensures),
-    (rw (c .before .before .before .before .before .before .before .before .before .inward-of .ensures, c .before .before .before .before .before .before .before .before .before .before .before .boundary-bundle-rail-depth .ensures, c .before .before .before .before .before .before .before .before .middle-lane .ensures, c .before .before .before .before .before .before .before .before .before .before .pitch-of-bundle .ensures) at (c .before .before .before .before .before .before .rail-taps .ensures .0),
-    c .before .before .before .before .before .before .rail-taps .ensures .1))
+returns c = (
+  rw (c .drawn-with .ensures, c .before .before .rail-reach .ensures .0, c .before .before .rail-reach .ensures .1, c .before .before .before .before .before .before .before .before .before .inward-of .ensures, c .before .before .before .before .before .before .before .before .before .before .before .boundary-bundle-rail-depth .ensures),
+  (
+    rw (c .before .before .before .before .before .before .before .before .before .inward-of .ensures, c .before .before .before .before .before .before .before .before .before .before .before .boundary-bundle-rail-depth .ensures, c .before .before .before .before .before .before .before .before .middle-lane .ensures, c .before .before .before .before .before .before .before .before .before .before .pitch-of-bundle .ensures) at (c .before .before .before .before .before .before .rail-taps .ensures .0),
+    c .before .before .before .before .before .before .rail-taps .ensures .1,
+  ),
+)
 
 pub build-rail-spec : {M : Type 1} → statement M
 build-rail-spec =

@@ -14,7 +14,7 @@ use Rattle.geometry.proofs.put_point.Reads as put-point-reads
 use Rattle.sheet.proofs.rail_tap.Reads as rail-tap-reads
 
 abbrev Inv-loop : tie.InvT-loop
-Inv-loop end middle pitch lanes first count taps₀ i₀ taps i = 
+Inv-loop end middle pitch lanes first count taps₀ i₀ taps i =
     (i ≤ count) × (length taps ≡ length taps₀) × (first + count ≤ length lanes) × (2 * (first + count) ≤ length taps₀) × Untouched taps₀ taps first i
     × Placed taps first i (λ k. rail-point end middle pitch (getD lanes (first + k) 0))
 
@@ -57,10 +57,14 @@ loop-again c =
     let a = t .args in
     let l = c .before .before .before .before .before .before .before .loop in
     let h = c .before .before .before .before .before .before .loop-test .taken in
-    let z = c .before .before .put-point .kept .0 in
-    (omega arith, omega arith, l .inv .2, l .inv .3,
-    rw (c .before .before .put-point .ensures) (untouched-next (now (a .taps)) (l .taps) (a .first) (l .i) _ (l .inv .4)),
-    rw (c .before .before .put-point .ensures) (placed-next (l .taps) (a .first) (l .i) _ (λ k. rail-point (a .end) (a .middle) (a .pitch) (getD (now (a .lanes)) (a .first + k) 0)) (omega arith) (c .before .before .before .before .rail-tap .ensures) (l .inv .5)))
+    let z = c .before .before .put-point .kept .0 in (
+      omega arith,
+      omega arith,
+      l .inv .2,
+      l .inv .3,
+      rw (c .before .before .put-point .ensures) (untouched-next (now (a .taps)) (l .taps) (a .first) (l .i) _ (l .inv .4)),
+      rw (c .before .before .put-point .ensures) (placed-next (l .taps) (a .first) (l .i) _ (λ k. rail-point (a .end) (a .middle) (a .pitch) (getD (now (a .lanes)) (a .first + k) 0)) (omega arith) (c .before .before .before .before .rail-tap .ensures) (l .inv .5)),
+    )
 
 same-length : tie.Need-same-length Inv-loop μ-loop
 same-length c = search needs

@@ -19,11 +19,11 @@ use Rattle.sheet.proofs.corridor_depth.Reads as corridor-depth-reads
 use Rattle.sheet.proofs.rewrite_member.Reads as rewrite-member-reads
 
 abbrev Inv-loop : tie.InvT-loop
-Inv-loop inside role pitch offset edges lanes taps first count points₀ counts₀ scratch₀ i₀ points counts scratch i = 
+Inv-loop inside role pitch offset edges lanes taps first count points₀ counts₀ scratch₀ i₀ points counts scratch i =
     (i ≤ count) × (length points ≡ length points₀) × (length counts ≡ length counts₀) × (length scratch ≡ length scratch₀)
     × Tabled first count edges taps × Laned first count lanes × Roomy edges first i count points counts × (136 ≤ length scratch₀)
     × (rest-all inside role pitch offset edges lanes taps first count i (routes-of points counts)
-      ≡ rewrite-all inside role pitch offset (taps-from edges taps first count) (members-from edges lanes first count) (routes-of points₀ counts₀))
+    ≡ rewrite-all inside role pitch offset (taps-from edges taps first count) (members-from edges lanes first count) (routes-of points₀ counts₀))
 
 abbrev μ-loop : tie.MeasureT-loop
 μ-loop inside role pitch offset edges lanes taps first count points₀ counts₀ scratch₀ i₀ points counts scratch i = count - i
@@ -106,11 +106,17 @@ loop-again c =
     let h = c .before .before .before .before .before .before .before .before .before .before .before .before .before .before .before .loop-test .taken in
     let k = f .kept .0 in
     let m = f .kept .1 .0 in
-    let n = f .kept .1 .1 .0 in
-    (omega arith, omega arith, omega arith, omega arith, l .inv .4, l .inv .5,
-    roomy-next (now (a .edges)) (a .first) (l .i) (a .count) (l .points) _ (l .counts) _ (l .inv .6) (f .ensures .1) (omega arith) (omega arith) (c .before .before .before .before .before .before .before .before .before .before .before .before .before .before .before .loop-test .taken),
-    l .inv .7,
-    all-on (a .inside) (a .role) (a .pitch) (a .offset) (now (a .edges)) (now (a .lanes)) (now (a .taps)) (a .first) (a .count) (l .i) (routes-of (l .points) (l .counts)) (f .result) _ _ (c .before .before .before .before .before .before .before .before .before .before .before .before .before .before .before .loop-test .taken) (not-false (f .result) (c .if1 .left)) w ∙ l .inv .8)
+    let n = f .kept .1 .1 .0 in (
+      omega arith,
+      omega arith,
+      omega arith,
+      omega arith,
+      l .inv .4,
+      l .inv .5,
+      roomy-next (now (a .edges)) (a .first) (l .i) (a .count) (l .points) _ (l .counts) _ (l .inv .6) (f .ensures .1) (omega arith) (omega arith) (c .before .before .before .before .before .before .before .before .before .before .before .before .before .before .before .loop-test .taken),
+      l .inv .7,
+      all-on (a .inside) (a .role) (a .pitch) (a .offset) (now (a .edges)) (now (a .lanes)) (now (a .taps)) (a .first) (a .count) (l .i) (routes-of (l .points) (l .counts)) (f .result) _ _ (c .before .before .before .before .before .before .before .before .before .before .before .before .before .before .before .loop-test .taken) (not-false (f .result) (c .if1 .left)) w ∙ l .inv .8,
+    )
 
 same-length-4 : tie.Need-same-length-4 Inv-loop μ-loop
 same-length-4 c = search needs

@@ -17,7 +17,7 @@ use Rattle.binary64.proofs.min.Reads as min-reads
 use Rattle.geometry.proofs.point_at.Reads as point-at-reads
 
 abbrev Inv-loop : tie.InvT-loop
-Inv-loop y taps first count low₀ high₀ i₀ low high i = 
+Inv-loop y taps first count low₀ high₀ i₀ low high i =
     (i ≤ count) × (2 * (first + count) ≤ length taps)
     × (lowest low (taps-rest taps first count i) ≡ lowest low₀ (taps-from [] taps first count))
     × (highest high (taps-rest taps first count i) ≡ highest high₀ (taps-from [] taps first count))
@@ -54,10 +54,12 @@ loop-again c =
     let t = c .before .before .before .before .before .before in
     let a = t .args in
     let l = c .before .before .before .before .loop in
-    let h = c .before .before .before .loop-test .taken in
-    (omega arith, l .inv .1,
-    rw (c .before .min .ensures, c .before .before .point-at .ensures) (low-next (now (a .taps)) (a .first) (a .count) (l .i) (l .low) h ∙ l .inv .2),
-    rw (c .max .ensures, c .before .before .point-at .ensures) (high-next (now (a .taps)) (a .first) (a .count) (l .i) (l .high) h ∙ l .inv .3))
+    let h = c .before .before .before .loop-test .taken in (
+      omega arith,
+      l .inv .1,
+      rw (c .before .min .ensures, c .before .before .point-at .ensures) (low-next (now (a .taps)) (a .first) (a .count) (l .i) (l .low) h ∙ l .inv .2),
+      rw (c .max .ensures, c .before .before .point-at .ensures) (high-next (now (a .taps)) (a .first) (a .count) (l .i) (l .high) h ∙ l .inv .3),
+    )
 
 returns : tie.Need-returns Inv-loop μ-loop
 returns c =

@@ -17,7 +17,7 @@ use Rattle.sheet.proofs.taps_are_at.Lts as lts
 use Rattle.geometry.proofs.point_at.Reads as point-at-reads
 
 abbrev Inv-loop : tie.InvT-loop
-Inv-loop x taps first count i₀ i = 
+Inv-loop x taps first count i₀ i =
     (i ≤ count) × (2 * (first + count) ≤ length taps) × (all-at x (taps-rest taps first count i) ≡ all-at x (taps-from [] taps first count))
 
 abbrev μ-loop : tie.MeasureT-loop

@@ -18,7 +18,7 @@ use Rattle.geometry.proofs.put_point.Reads as put-point-reads
 use Rattle.sheet.proofs.trunk_tap.Reads as trunk-tap-reads
 
 abbrev Inv-loop : tie.InvT-loop
-Inv-loop role pitch x edges first count points counts taps₀ i₀ taps i = 
+Inv-loop role pitch x edges first count points counts taps₀ i₀ taps i =
     (i ≤ count) × (length taps ≡ length taps₀) × Tabled first count edges taps₀ × Slots edges first count points counts × Untouched taps₀ taps first i
     × (trunk-at role pitch x edges first count (routes-of points counts) taps i ≡ trunk-taps role pitch x (members-from edges [] first count) (routes-of points counts))
 
@@ -107,10 +107,14 @@ loop-again c =
     let g = l .inv .3 .known (l .i) h in
     let p = l .inv .2 .places in
     let m = ap (trunk-met (a .role) (a .pitch) (a .x)) (slot-is (now (a .points)) (now (a .counts)) _ g) ∙ sym (c .before .before .before .before .before .before .before .trunk-tap .ensures) ∙ c .before .before .before .before .before .c .given .1 in
-    let z = c .before .before .put-point .kept .0 in
-    (omega arith, omega arith, l .inv .2, l .inv .3,
-    rw (c .before .before .put-point .ensures) (untouched-next (now (a .taps)) (l .taps) (a .first) (l .i) _ (l .inv .4)),
-    rw (c .before .before .put-point .ensures) (trunk-on (a .role) (a .pitch) (a .x) (now (a .edges)) (a .first) (a .count) (routes-of (now (a .points)) (now (a .counts))) (l .taps) (l .i) _ _ h (omega arith) m ∙ l .inv .5))
+    let z = c .before .before .put-point .kept .0 in (
+      omega arith,
+      omega arith,
+      l .inv .2,
+      l .inv .3,
+      rw (c .before .before .put-point .ensures) (untouched-next (now (a .taps)) (l .taps) (a .first) (l .i) _ (l .inv .4)),
+      rw (c .before .before .put-point .ensures) (trunk-on (a .role) (a .pitch) (a .x) (now (a .edges)) (a .first) (a .count) (routes-of (now (a .points)) (now (a .counts))) (l .taps) (l .i) _ _ h (omega arith) m ∙ l .inv .5),
+    )
 
 same-length-2 : tie.Need-same-length-2 Inv-loop μ-loop
 same-length-2 c = search needs
