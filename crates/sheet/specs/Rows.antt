@@ -5,7 +5,7 @@ use mathlib.Core.Path.{_≡_}
 use mathlib.Core.Logic.{_⊎_}
 use mathlib.Core.List.{List, [], _∷_}
 use mathlib.Core.Option.{Option, none, some}
-use mathlib.Core.Bool.{Bool, cond, _&&_}
+use mathlib.Core.Bool.{Bool, false, cond, _&&_}
 use lib.Dec.{ltb}
 use lib.ListN.{getD, length}
 use lib.Ieee.{Float, binary64, eq, le, add, sub, mul}
@@ -24,6 +24,7 @@ use Rattle.plan.specs.declared.Bound.{Bound}
 use Rattle.plan.specs.declared.Bound.the-variants.{None, At}
 use Rattle.plan.specs.Depths.{number, inward, endpoint-of, members-in}
 use Rattle.drawing.specs.Build.{pt, seg, TapOn, Drawn, build, lowest, highest, rail-low, rail-high, all-at}
+use Rattle.drawing.specs.Check.{among}
 use Rattle.checks.specs.Rows.{taps-from}
 use Rattle.drawing.specs.Rewrite.{rewritten, two-points}
 
@@ -137,3 +138,16 @@ pub record Seen (b : Board) (o : Options) (u : Bundle) (end : Point) (ms : List 
 -- d is what build_geometry draws of bundle u on every board that has these options, where u ends there and has these members
 abbrev pub Draws : Options → Bundle → Point → List Member → Option Float → List Route → Drawn → Type 0
 Draws o u end ms planned rs d = (b : Board) → Seen b o u end ms → d ≡ build b u planned rs
+
+-- ---- masks
+
+abbrev pub Blank : List Bool → Type 0
+Blank mask = (k : ℕ) → k < length mask → getD mask k false ≡ false
+
+-- the members' edges are below n
+abbrev pub Known : List ℕ → ℕ → ℕ → ℕ → Type 0
+Known edges first count n = (k : ℕ) → k < count → getD edges (first + k) 0 < n
+
+-- the mask is true at the members' edges, and false elsewhere
+abbrev pub Marks : List Member → List Bool → Type 0
+Marks ms mask = (k : ℕ) → k < length mask → getD mask k false ≡ among ms k

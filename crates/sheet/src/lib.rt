@@ -19,7 +19,7 @@ ghost use Rattle.board.specs.Board.{bundle-pitch};
 ghost use Rattle.drawing.specs.Build.{route-at, trunk-met, trunk-taps, lowest, highest, center, rail-low, rail-high, all-at};
 ghost use Rattle.drawing.specs.Rewrite.{rewritten, put-route, rewrite-all};
 ghost use Rattle.checks.specs.Rows.{taps-from, drawn-of, Tabled};
-ghost use Rattle.sheet.specs.Rows.{members-from, depth-at, rewrite-with, routes-in, CountsKept, Laned, Roomy, Placed, Untouched, Slots, rail-point, tapped-in, interior-at, drawn-row, inside-with, railed-with, corner-with, planned-at, Draws};
+ghost use Rattle.sheet.specs.Rows.{members-from, depth-at, rewrite-with, routes-in, CountsKept, Laned, Roomy, Placed, Untouched, Slots, Blank, Known, Marks, rail-point, tapped-in, interior-at, drawn-row, inside-with, railed-with, corner-with, planned-at, Draws};
 use board::Bundle;
 use board::DrawnBundle;
 use board::Options;
@@ -510,5 +510,30 @@ pub fn build_geometry(
             }
             build_rail(o, end, u, lanes, &mut taps[..])
         }
+    }
+}
+
+// ---- which routes a bundle changes
+
+fn clear_mask(mask: &mut [bool])
+    ensures { λ _. ⌜ Blank (now (mask .exit)) ⌝ }
+{
+    let mut i: usize = 0;
+    while i < mask.len() {
+        mask[i] = false;
+        i += 1;
+    }
+}
+
+// The mask becomes true at the edges of a bundle's members, and false elsewhere.
+pub fn mark_members(edges: &[usize], first: usize, count: usize, mask: &mut [bool])
+    requires { ⌜ (first + count ≤ length (now edges)) × Known (now edges) first count (length (now mask)) ⌝ }
+    ensures { λ _. ⌜ Marks (members-from (now (edges .entry)) [] first count) (now (mask .exit)) ⌝ }
+{
+    clear_mask(&mut mask[..]);
+    let mut i: usize = 0;
+    while i < count {
+        mask[edges[first + i]] = true;
+        i += 1;
     }
 }
