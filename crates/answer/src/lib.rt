@@ -6,7 +6,7 @@ ghost use Prim.Native.Nat.{_+_, _*_, _-_, _<_, _≤_};
 ghost use lib.ListN.{length, take, drop};
 ghost use lib.Seq.{sets};
 ghost use Rattle.wire.specs.Bytes.{bytes};
-ghost use Rattle.route.specs.Route.{points-from};
+ghost use Rattle.geometry.specs.Points.{points-from};
 ghost use Rattle.route.specs.Slots.{routes-of, Held};
 ghost use Rattle.answer.specs.Answer.{all-bytes, point-bytes, segment-bytes, spot-bytes, spot-of, line-bytes, lines-of, tap-bytes, mark, trunk-head, trunk-bytes, trunk-of, counts-bytes, head-bytes, answer-bytes, notice-bytes};
 ghost use Rattle.answer.specs.Tables.{node-bytes, drawn-bytes, Windows, Tables, sheet-of};
@@ -160,7 +160,7 @@ fn put_points(out: &mut [u8], from: usize, s: &[f64], first: usize, end: usize) 
     let mut at = from;
     let mut i = first;
     while i < end {
-        let p = route::point_at(s, i);
+        let p = geometry::point_at(s, i);
         put_point(&mut out[..], at, p);
         at += 16;
         i += 1;

@@ -5,7 +5,7 @@ use denote.Ref.{now}
 use lib.ListN.{length}
 use lib.Seq.{sets}
 use Rattle.wire.specs.Bytes.{bytes}
-use Rattle.route.specs.Route.{points-from}
+use Rattle.geometry.specs.Points.{points-from}
 use Rattle.answer.specs.Answer.{all-bytes, point-bytes}
 use Rattle.answer.specs.Laws.{points-turn, points-done}
 use borrow.Author.Needs.{needs}
