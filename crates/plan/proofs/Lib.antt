@@ -5,4 +5,5 @@ pub mod Seeks
 pub mod Passes
 pub mod Ends
 pub mod Agains
+pub mod Neighbours
 pub mod Walks

@@ -2,6 +2,8 @@
 -- Assumes nothing.
 use mathlib.Core.Path.{_≡_}
 use mathlib.Core.List.{List, [], map}
+use mathlib.Core.Bool.{Bool, false}
+use Rattle.search.specs.declared.CollectorBounds.the-variants.{Absent}
 use Prim.Native.Nat.{ℕ, _+_, _*_, _≤_, _<_}
 use lib.ListN.{length, getD, take}
 use lib.Ieee.{Float, nan}
@@ -19,6 +21,7 @@ use Rattle.plan.specs.declared.Corridor.{Corridor}
 use Rattle.plan.specs.declared.Reached.{Reached}
 use Rattle.plan.specs.declared.Reaches.{Reaches}
 use Rattle.plan.specs.declared.Range.{Range}
+use Rattle.plan.specs.Over.{edge-of}
 use Rattle.plan.specs.declared.Ranging.{Ranging}
 use Rattle.plan.specs.declared.Planned.{Planned}
 use Rattle.plan.specs.declared.Planning.{Planning}
@@ -26,7 +29,7 @@ use Rattle.plan.specs.declared.Upper.{Upper}
 use Rattle.plan.specs.declared.Upper.the-variants as upper
 use Rattle.plan.specs.declared.Ranges.{Ranges}
 use Rattle.search.specs.Search.{search-of}
-use Rattle.plan.specs.Plan.{Ranged, ranged, ranged-at, seek, FirstPass, Plan, input-limit}
+use Rattle.plan.specs.Plan.{Ranged, joined, ranged, ranged-at, seek, FirstPass, Plan, input-limit}
 use Rattle.plan.specs.Depths.{endpoint-of, corridor-of, members-in, pitch-of}
 use Rattle.plan.specs.Bounds.{first-x, last-x, route-of, reach-all, bounds-of}
 use Rattle.plan.specs.Tables.{no-bundle, no-member, corridor-at}
@@ -136,3 +139,24 @@ abbrev pub upper-at : Float → Upper → Bound → Bound
 upper-at pitch upper.Never x = None
 upper-at pitch (upper.Fixed s) x = At s
 upper-at pitch (upper.Below limit) x = input-limit pitch limit x
+
+-- ---- neighbours
+-- the edges of a bundle's members
+pub record EdgesOf (b : Board) (edges : List ℕ) (u : Bundle) : Type 0 where
+  pub are : window (u .first) (u .count) edges ≡ map edge-of (members-in b u)
+
+abbrev pub no-range : Range
+no-range = record { bundle = no-bundle; bounds = Absent }
+
+abbrev pub range-at : Ranges → ℕ → Range
+range-at t i = getD (t .rows) i no-range
+
+-- every row's members lie among the edges
+pub record RangesAmong (edges : List ℕ) (t : Ranges) (n : ℕ) : Type 0 where
+  pub bundles-few : n ≤ 32
+  pub each : (i : ℕ) → i < n → range-at t i .bundle .first + range-at t i .bundle .count ≤ length edges
+
+-- the table says of rows below k which are joined with which
+pub record TabledTo (b : Board) (given : List Route) (edges : List ℕ) (t : Ranges) (n k : ℕ) (a : List Bool) : Type 0 where
+  pub are : (i j : ℕ) → i < k → j < n → EdgesOf b edges (range-at t i .bundle) → EdgesOf b edges (range-at t j .bundle)
+      → getD a (i * 32 + j) false ≡ joined b given (ranged-from (range-at t i)) (ranged-from (range-at t j))

@@ -19,10 +19,10 @@ ghost use Rattle.geometry.specs.Points.{Route, points-from};
 ghost use Rattle.plan.specs.declared.Bound.the-variants.{None};
 ghost use Rattle.plan.specs.Depths.{members-in};
 ghost use Rattle.plan.specs.Bounds.{if-at, reach-all, bounds-of};
-ghost use Rattle.plan.specs.Prepared.{other, end-x, Inside, Searchable, Among, Routed, Windowed, Cornered, Tells, AllTell, AllAmong, RangedBy, passed, Listing, SameBundles, x-of, plan-in, upper-at};
+ghost use Rattle.plan.specs.Prepared.{other, end-x, Inside, Searchable, Among, Routed, Windowed, Cornered, Tells, AllTell, AllAmong, RangedBy, passed, Listing, SameBundles, x-of, plan-in, upper-at, EdgesOf, RangesAmong, TabledTo, ranged-from};
 ghost use Rattle.plan.specs.Over.{divergence-over, has, meet};
 ghost use Rattle.search.specs.Stretches.{routes};
-ghost use Rattle.plan.specs.Plan.{diverges-at, seek-in, seek, narrowed, first-pass, Ranged, asked, required, found-x, again};
+ghost use Rattle.plan.specs.Plan.{diverges-at, seek-in, seek, narrowed, first-pass, Ranged, asked, required, found-x, again, found?, joined};
 ghost use Rattle.search.specs.Search.{search-of};
 ghost use Rattle.plan.specs.Bounds.{raised, lowered, clamped, tighter, reach-x, map-bound, unless-crossed, span-of};
 ghost use Rattle.plan.specs.Plan.{push-all, walk};
@@ -126,6 +126,11 @@ pub enum Upper {
     Never,
     Fixed(f64),
     Below(f64),
+}
+
+// Which bundles are neighbours: bundle i of bundle j at 32 i + j.
+pub struct Adjacent {
+    pub rows: [bool; 1024],
 }
 
 // Bundles to come, the next on top, and those that were put there at some time.
@@ -995,6 +1000,72 @@ fn share_edge(edges: &[usize], first: usize, count: usize, other: usize, others:
         }
     }
     false
+}
+
+fn is_found(b: CollectorBounds) -> bool
+    ensures { λ r. ⌜ r ≡ found? b ⌝ }
+{
+    match b {
+        CollectorBounds::Absent => false,
+        CollectorBounds::Between(_) => true,
+    }
+}
+
+// Whether two bundles found an x, are of two roles, and have an edge in common.
+fn is_joined(edges: &[usize], s: Range, t: Range) -> bool
+    requires { ⌜ (s .bundle .first + s .bundle .count ≤ length (now edges)) × (t .bundle .first + t .bundle .count ≤ length (now edges)) ⌝ }
+    ensures { λ r. ⌜ ((b : Board) (given : List Route) → EdgesOf b (now (edges .entry)) (s .bundle) → EdgesOf b (now (edges .entry)) (t .bundle) → r ≡ joined b given (ranged-from s) (ranged-from t)) ⌝ }
+{
+    let one = s.bounds;
+    if !is_found(one) {
+        return false;
+    }
+    let two = t.bounds;
+    if !is_found(two) {
+        return false;
+    }
+    let u = s.bundle;
+    let v = t.bundle;
+    let mine = u.role;
+    let its = v.role;
+    if is_same_role(mine, its) {
+        return false;
+    }
+    share_edge(edges, u.first, u.count, v.first, v.count)
+}
+
+// The neighbours of bundle i, put into its row.
+fn adjacent_row(edges: &[usize], t: Ranges, n: usize, i: usize, known: Adjacent) -> Adjacent
+    requires { ⌜ RangesAmong (now edges) t n ⌝ }
+    requires { ⌜ i < n ⌝ }
+    ensures { λ r. ⌜ ((b : Board) (given : List Route) → TabledTo b given (now (edges .entry)) t n i (known .rows) → TabledTo b given (now (edges .entry)) t n (i + 1) (r .rows)) ⌝ }
+{
+    let s = t.rows[i];
+    let mut rows = known.rows;
+    let mut j: usize = 0;
+    while j < n {
+        let other = t.rows[j];
+        let yes = is_joined(edges, s, other);
+        rows[i * 32 + j] = yes;
+        j += 1;
+    }
+    Adjacent { rows: rows }
+}
+
+// The neighbours of every bundle.
+fn adjacency(edges: &[usize], t: Ranges, n: usize) -> Adjacent
+    requires { ⌜ RangesAmong (now edges) t n ⌝ }
+    ensures { λ r. ⌜ ((b : Board) (given : List Route) → TabledTo b given (now (edges .entry)) t n n (r .rows)) ⌝ }
+{
+    let mut a = Adjacent {
+        rows: [false; 1024],
+    };
+    let mut i: usize = 0;
+    while i < n {
+        a = adjacent_row(edges, t, n, i, a);
+        i += 1;
+    }
+    a
 }
 
 // The neighbours of i that were not seen are put on the stack, in rising order.
