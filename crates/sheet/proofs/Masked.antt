@@ -9,11 +9,16 @@ use lib.ListN.{length}
 use Rattle.geometry.specs.Points.{Route}
 use Rattle.board.specs.declared.Options.{Options}
 use Rattle.board.specs.declared.Member.{Member}
+use Rattle.board.specs.declared.PlacedNode.{PlacedNode}
+use Rattle.board.specs.declared.Edge.{Edge}
+use Rattle.drawing.specs.declared.GeometryVisits.{GeometryVisits}
+use Rattle.drawing.specs.declared.Verdict.{Verdict}
+use Rattle.drawing.specs.declared.Verdict.the-variants.{Clean, Refused}
 use Rattle.board.specs.Board.{Board}
 use Rattle.drawing.specs.Build.{Drawn}
-use Rattle.drawing.specs.Check.{Test, over-routes, every-route, among, route-tests, member-tests, drawn-tests, pair-tests, prior-tests, contact-tests, interior-tests}
+use Rattle.drawing.specs.Check.{Test, walk, over-routes, every-route, among, route-tests, member-tests, drawn-tests, pair-tests, prior-tests, contact-tests, interior-tests}
 use Rattle.checks.specs.Rows.{chosen-by, inside-route}
-use Rattle.sheet.specs.Rows.{Marks}
+use Rattle.sheet.specs.Rows.{Marks, then-walk}
 
 -- the two choose alike among the routes from i on
 abbrev Alike : (ℕ → Bool) → (ℕ → Bool) → List Route → ℕ → Type 0
@@ -51,6 +56,21 @@ module _ (ms : List Member) (mask : List Bool) (rs : List Route) (marks : Marks 
   contact-masked o allow new ds = ap (λ (x : List Test). drawn-tests o allow new every-route rs ++ x) (prior-masked o allow new ds)
 
   -- the tests of verify_one_bundle_route_node_interiors
+  pub inside-masked : (ns : List PlacedNode) (es : List Edge) → over-routes (inside-route ns es) (chosen-by false mask) rs 0 ≡ over-routes (inside-route ns es) (among ms) rs 0
+  inside-masked ns es = over-alike (inside-route ns es) (chosen-by false mask) (among ms) rs 0 chosen-alike
+
   pub interior-masked : (b : Board) → over-routes (inside-route (b .nodes) (b .edges)) (chosen-by false mask) rs 0 ≡ interior-tests b ms rs
   unfolding interior-tests
   interior-masked b = over-alike (member-tests b) (chosen-by false mask) (among ms) rs 0 chosen-alike
+
+-- ---- one check after the other
+
+pub both-off : (xs ys zs : List Test) (n e : ℕ) → walk 12 xs n ≡ Refused e → xs ≡ ys → Refused e ≡ then-walk (walk 12 ys n) (λ k. walk 11 zs k)
+unfolding then-walk
+both-off xs ys zs n e h q = sym (ap (λ (v : Verdict). then-walk v (λ k. walk 11 zs k)) (ap (λ (x : List Test). walk 12 x n) (sym q) ∙ h))
+
+pub both-on : (xs ys ws zs : List Test) (n : ℕ) (p : GeometryVisits) → walk 12 xs n ≡ Clean p → xs ≡ ys → ws ≡ zs → walk 11 ws (p .0) ≡ then-walk (walk 12 ys n) (λ k. walk 11 zs k)
+unfolding then-walk
+both-on xs ys ws zs n p h q r =
+    ap (λ (x : List Test). walk 11 x (p .0)) r
+    ∙ sym (ap (λ (v : Verdict). then-walk v (λ k. walk 11 zs k)) (ap (λ (x : List Test). walk 12 x n) (sym q) ∙ h))

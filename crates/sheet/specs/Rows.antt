@@ -24,6 +24,8 @@ use Rattle.plan.specs.declared.Bound.{Bound}
 use Rattle.plan.specs.declared.Bound.the-variants.{None, At}
 use Rattle.plan.specs.Depths.{number, inward, endpoint-of, members-in}
 use Rattle.drawing.specs.Build.{pt, seg, TapOn, Drawn, build, lowest, highest, rail-low, rail-high, all-at}
+use Rattle.drawing.specs.declared.Verdict.{Verdict}
+use Rattle.drawing.specs.declared.Verdict.the-variants.{Clean, Refused}
 use Rattle.drawing.specs.Check.{among}
 use Rattle.checks.specs.Rows.{taps-from}
 use Rattle.drawing.specs.Rewrite.{rewritten, two-points}
@@ -151,3 +153,10 @@ Known edges first count n = (k : ℕ) → k < count → getD edges (first + k) 0
 -- the mask is true at the members' edges, and false elsewhere
 abbrev pub Marks : List Member → List Bool → Type 0
 Marks ms mask = (k : ℕ) → k < length mask → getD mask k false ≡ among ms k
+
+-- ---- one check after the other
+
+-- the second check, with the visits that the first has left
+unfoldable pub then-walk : Verdict → (ℕ → Verdict) → Verdict
+then-walk (Clean p) k = k (p .0)
+then-walk (Refused e) k = Refused e

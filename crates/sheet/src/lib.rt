@@ -6,9 +6,9 @@
 // members has its edge at place k of edges, its tap lane at place k of lanes and its tap as x and y
 // at point k of taps; a bundle's members are count places from first on.
 ghost use mathlib.Core.Path.{_≡_};
-ghost use mathlib.Core.List.{[]};
+ghost use mathlib.Core.List.{[], map};
 ghost use Prim.Native.Nat.{suc, _+_, _*_, _-_, _<_, _≤_};
-ghost use lib.ListN.{length, getD};
+ghost use lib.ListN.{length, getD, take};
 ghost use Rattle.geometry.specs.Points.{points-from};
 ghost use Rattle.route.specs.Slots.{routes-of, Held};
 ghost use Rattle.route.specs.Contract.{Leaves};
@@ -18,11 +18,17 @@ ghost use Rattle.binary64.specs.Order.{magnitude};
 ghost use Rattle.board.specs.Board.{bundle-pitch};
 ghost use Rattle.drawing.specs.Build.{route-at, trunk-met, trunk-taps, lowest, highest, center, rail-low, rail-high, all-at};
 ghost use Rattle.drawing.specs.Rewrite.{rewritten, put-route, rewrite-all};
-ghost use Rattle.checks.specs.Rows.{taps-from, drawn-of, Tabled};
-ghost use Rattle.sheet.specs.Rows.{members-from, depth-at, rewrite-with, routes-in, CountsKept, Laned, Roomy, Placed, Untouched, Slots, Blank, Known, Marks, rail-point, tapped-in, interior-at, drawn-row, inside-with, railed-with, corner-with, planned-at, Draws};
+ghost use Rattle.drawing.specs.Check.{walk, among, over-routes, contact-tests};
+ghost use Rattle.checks.specs.Rows.{taps-from, drawn-of, inside-route, Tabled, AllTabled, Slotted};
+ghost use Rattle.sheet.specs.Rows.{members-from, depth-at, rewrite-with, routes-in, CountsKept, Laned, Roomy, Placed, Untouched, Slots, Blank, Known, Marks, then-walk, rail-point, tapped-in, interior-at, drawn-row, inside-with, railed-with, corner-with, planned-at, Draws};
 use board::Bundle;
 use board::DrawnBundle;
+use board::DrawnBundles;
+use board::Edges;
+use board::Nodes;
 use board::Options;
+use drawing::GeometryVisits;
+use drawing::Verdict;
 use geometry::Point;
 use geometry::Role;
 use geometry::Segment;
@@ -535,5 +541,49 @@ pub fn mark_members(edges: &[usize], first: usize, count: usize, mask: &mut [boo
     while i < count {
         mask[edges[first + i]] = true;
         i += 1;
+    }
+}
+
+// Both checks of a new bundle, the interiors of the nodes before the contacts.
+pub fn verify_bundle(
+    o: Options,
+    allow: bool,
+    nodes: Nodes,
+    table: Edges,
+    new: DrawnBundle,
+    priors: DrawnBundles,
+    edges: &[usize],
+    taps: &[f64],
+    points: &[f64],
+    counts: &[usize],
+    mask: &mut [bool],
+    visits: GeometryVisits,
+) -> Verdict
+    requires { ⌜ (nodes .count ≤ 128) × (table .count ≤ 256) × (length (now counts) ≤ table .count) × (priors .count ≤ 32) × AllTabled (take (priors .count) (priors .rows)) (now edges) (now taps) × Tabled (new .first) (new .count) (now edges) (now taps) × Slotted (now points) (now counts) (now mask) × Known (now edges) (new .first) (new .count) (length (now mask)) ⌝ }
+    ensures { λ r. ⌜ r ≡ then-walk (walk 12 (over-routes (inside-route (take (nodes .count) (nodes .rows)) (take (table .count) (table .rows))) (among (members-from (now (edges .entry)) [] (new .first) (new .count))) (routes-of (now (points .entry)) (now (counts .entry))) 0) (visits .0)) (λ k. walk 11 (contact-tests o allow (drawn-of (now (edges .entry)) (now (taps .entry)) new) (among (members-from (now (edges .entry)) [] (new .first) (new .count))) (map (drawn-of (now (edges .entry)) (now (taps .entry))) (take (priors .count) (priors .rows))) (routes-of (now (points .entry)) (now (counts .entry)))) k) ⌝ }
+{
+    mark_members(edges, new.first, new.count, &mut mask[..]);
+    let v = checks::verify_one_bundle_route_node_interiors(
+        nodes,
+        table,
+        &mask[..],
+        points,
+        counts,
+        visits,
+    );
+    match v {
+        Verdict::Refused(r) => Verdict::Refused(r),
+        Verdict::Clean(q) => checks::verify_new_bundle_route_contacts(
+            o,
+            allow,
+            new,
+            priors,
+            edges,
+            taps,
+            &mask[..],
+            points,
+            counts,
+            q,
+        ),
     }
 }
