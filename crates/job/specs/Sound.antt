@@ -204,8 +204,16 @@ edge-takes total s e t h =
     let g = came (counted 64 2048 total (f .rest)) _ e t (f .second) in
     let q = same _ e (g .rest) t (g .second) in
     let l = ap length (q .1) in
-    omega (arith, field-takes 4 s (a .value) (a .rest) (a .first) .1, field-takes 4 (a .rest) (b .value) (b .rest) (b .first) .1, field-takes 4 (b .rest) (c .value) (c .rest) (c .first) .1,
-    field-takes 4 (c .rest) (d .value) (d .rest) (d .first) .1, field-takes 4 (d .rest) (f .value) (f .rest) (f .first) .1, counted-takes 64 2048 total (f .rest) (g .value) (g .rest) (g .first), l)
+    omega (
+      arith,
+      field-takes 4 s (a .value) (a .rest) (a .first) .1,
+      field-takes 4 (a .rest) (b .value) (b .rest) (b .first) .1,
+      field-takes 4 (b .rest) (c .value) (c .rest) (c .first) .1,
+      field-takes 4 (c .rest) (d .value) (d .rest) (d .first) .1,
+      field-takes 4 (d .rest) (f .value) (f .rest) (f .first) .1,
+      counted-takes 64 2048 total (f .rest) (g .value) (g .rest) (g .first),
+      l,
+    )
 
 bundle-takes : (total : ℕ) (s : List ℕ) (e : RawBundle) (t : List ℕ) → bundle-head total s ≡ got e t → length s ≡ 19 + length t
 bundle-takes total s e t h =
@@ -219,8 +227,17 @@ bundle-takes total s e t h =
     let m = came (field 1 (c .rest)) role-of (d .value) (d .rest) (d .first) in
     let n = ap length (role-takes (m .value) (m .rest) (d .value) (d .rest) (m .second)) in
     let l = ap length (q .1) in
-    omega (arith, field-takes 4 s (a .value) (a .rest) (a .first) .1, field-takes 4 (a .rest) (b .value) (b .rest) (b .first) .1, field-takes 4 (b .rest) (c .value) (c .rest) (c .first) .1,
-    field-takes 1 (c .rest) (m .value) (m .rest) (m .first) .1, n, field-takes 4 (d .rest) (f .value) (f .rest) (f .first) .1, counted-takes 64 256 total (f .rest) (g .value) (g .rest) (g .first), l)
+    omega (
+      arith,
+      field-takes 4 s (a .value) (a .rest) (a .first) .1,
+      field-takes 4 (a .rest) (b .value) (b .rest) (b .first) .1,
+      field-takes 4 (b .rest) (c .value) (c .rest) (c .first) .1,
+      field-takes 1 (c .rest) (m .value) (m .rest) (m .first) .1,
+      n,
+      field-takes 4 (d .rest) (f .value) (f .rest) (f .first) .1,
+      counted-takes 64 256 total (f .rest) (g .value) (g .rest) (g .first),
+      l,
+    )
 
 -- ---- edges with their points, bundles with their members
 pub record RawGoodEdge (points : ℕ) (e : RawEdge) : Type 0 where
@@ -252,13 +269,13 @@ edges-step from l s m t h e =
     let x : length (l .edges ++ (a .value ∷ [])) ≡ length (l .edges) + 1 = simp length-append in
     edges-as from (record { edges = l .edges ++ (a .value ∷ []); points = b .value }) m (b .rest) t (q .0) (q .1)
     (record {
-        edges = all-one-more (RawGoodEdge (length (b .value))) (l .edges) (a .value)
-            (all-weaker (RawGoodEdge (length ps)) (RawGoodEdge (length (b .value))) (l .edges) (λ r y. record { count = y .count; window = omega arith }) (h .edges))
-            (record { count = w .own; window = omega (arith, w .starts) });
-        points = g .all;
-        total = omega (arith, w .total, n);
-        bytes = rw x (omega arith);
-      })
+      edges = all-one-more (RawGoodEdge (length (b .value))) (l .edges) (a .value)
+          (all-weaker (RawGoodEdge (length ps)) (RawGoodEdge (length (b .value))) (l .edges) (λ r y. record { count = y .count; window = omega arith }) (h .edges))
+          (record { count = w .own; window = omega (arith, w .starts) });
+      points = g .all;
+      total = omega (arith, w .total, n);
+      bytes = rw x (omega arith);
+    })
 
 pub record RawGoodBundle (members : ℕ) (b : RawBundle) : Type 0 where
   pub count : b .count ≤ 64
@@ -295,15 +312,15 @@ bundles-step from l s m t h e =
     let x : length (l .bundles ++ (a .value ∷ [])) ≡ length (l .bundles) + 1 = simp length-append in
     bundles-as from (record { bundles = l .bundles ++ (a .value ∷ []); members = b .value }) m (b .rest) t (q .0) (q .1)
     (record {
-        bundles = all-one-more (RawGoodBundle (length (b .value))) (l .bundles) (a .value)
-            (all-weaker (RawGoodBundle (length ms)) (RawGoodBundle (length (b .value))) (l .bundles) (λ r y. record { count = y .count; window = omega arith }) (h .bundles))
-            (record { count = w .own; window = omega (arith, w .starts) });
-        members = g .all;
-        total = omega (arith, w .total, n);
-        claimed = claim.claimed (l .bundles) (a .value) ms (b .value) (inside-all (length ms) (l .bundles) (h .bundles)) (w .starts)
-            (members-pushed (a .value .role) (a .value .count) ms (a .rest) (b .value) (b .rest) (b .first)) (h .claimed);
-        bytes = rw x (omega arith);
-      })
+      bundles = all-one-more (RawGoodBundle (length (b .value))) (l .bundles) (a .value)
+          (all-weaker (RawGoodBundle (length ms)) (RawGoodBundle (length (b .value))) (l .bundles) (λ r y. record { count = y .count; window = omega arith }) (h .bundles))
+          (record { count = w .own; window = omega (arith, w .starts) });
+      members = g .all;
+      total = omega (arith, w .total, n);
+      claimed = claim.claimed (l .bundles) (a .value) ms (b .value) (inside-all (length ms) (l .bundles) (h .bundles)) (w .starts)
+          (members-pushed (a .value .role) (a .value .count) ms (a .rest) (b .value) (b .rest) (b .first)) (h .claimed);
+      bytes = rw x (omega arith);
+    })
 
 -- ---- the head
 options-good : (s : List ℕ) (o : Options) (t : List ℕ) → options s ≡ got o t → GoodOptions o × (length s ≡ 40 + length t)
@@ -344,8 +361,14 @@ counts-take s c t e =
     let f = came (at-most 32 2 (d .rest)) _ c t (d .second) in
     let q = same _ c (f .rest) t (f .second) in
     let l = ap length (q .1) in
-    omega (arith, at-most-good 128 2 s (a .value) (a .rest) (a .first) .1, at-most-good 256 2 (a .rest) (b .value) (b .rest) (b .first) .1,
-    at-most-good 256 2 (b .rest) (d .value) (d .rest) (d .first) .1, at-most-good 32 2 (d .rest) (f .value) (f .rest) (f .first) .1, l)
+    omega (
+      arith,
+      at-most-good 128 2 s (a .value) (a .rest) (a .first) .1,
+      at-most-good 256 2 (a .rest) (b .value) (b .rest) (b .first) .1,
+      at-most-good 256 2 (b .rest) (d .value) (d .rest) (d .first) .1,
+      at-most-good 32 2 (d .rest) (f .value) (f .rest) (f .first) .1,
+      l,
+    )
 
 flags-take : (n : ℕ) (s : List ℕ) (f : Flags) (t : List ℕ) → flags-of n s ≡ got f t → s ≡ t
 unfolding flags-of
@@ -369,12 +392,14 @@ header-good s h t e =
     let o = options-good (a .rest) (b .value) (b .rest) (b .first) in
     let g = grants-good (b .rest) (c .value) (c .rest) (c .first) in
     let k = counts-take (c .rest) (d .value) (d .rest) (d .first) in
-    let l = ap length (q .1) in
-    (record {
+    let l = ap length (q .1) in (
+      record {
         options = subst (λ (x : Header). GoodOptions (x .options)) (q .0) (o .0);
         grants = subst (λ (x : Header). GoodGrants (x .grants)) (q .0) (g .0);
         counts = header-fits s h t e;
-      }, omega (arith, i .1, n, o .1, g .1, k, l))
+      },
+      omega (arith, i .1, n, o .1, g .1, k, l),
+    )
 
 -- ---- the tables
 pub record RawSound (c : Counts) (size : ℕ) (t : Tables) : Type 0 where
@@ -436,25 +461,25 @@ tables-good c s t u e =
     let n = pushes-good node GoodNode 36 node-good (c .nodes) (length s) 0 [] s (a .value) (a .rest) (record { all = tt; bytes = omega arith }) (a .first) in
     let p = pushes-good port RawGoodPort 17 port-good (c .ports) (length (a .rest)) 0 [] (a .rest) (b .value) (b .rest) (record { all = tt; bytes = omega arith }) (b .first) in
     let g = many-keeps next-edge (EdgesSo (length (b .rest))) (edges-step (length (b .rest))) (c .edges) (record { edges = []; points = [] }) (b .rest) (d .value) (d .rest)
-        (record { edges = tt; points = tt; total = omega arith; bytes = omega arith }) (d .first) in
+    (record { edges = tt; points = tt; total = omega arith; bytes = omega arith }) (d .first) in
     let h = many-keeps next-bundle (BundlesSo (length (d .rest))) (bundles-step (length (d .rest))) (c .bundles) (record { bundles = []; members = [] }) (d .rest) (f .value) (f .rest)
-        (record { bundles = tt; members = tt; total = omega arith; claimed = refl; bytes = omega arith }) (f .first) in
+    (record { bundles = tt; members = tt; total = omega arith; claimed = refl; bytes = omega arith }) (f .first) in
     subst (λ (x : Tables). RawSound c (length s) x) (k .1) (record {
-        nodes = n .all;
-        ports = p .all;
-        edges = g .edges;
-        points = g .points;
-        bundles = h .bundles;
-        members = h .members;
-        node-count = pushes-count node (c .nodes) [] s (a .value) (a .rest) (a .first) ∙ omega arith;
-        port-count = pushes-count port (c .ports) [] (a .rest) (b .value) (b .rest) (b .first) ∙ omega arith;
-        edge-count = edges-count (c .edges) (record { edges = []; points = [] }) (b .rest) (d .value) (d .rest) (d .first) ∙ omega arith;
-        bundle-count = bundles-count (c .bundles) (record { bundles = []; members = [] }) (d .rest) (f .value) (f .rest) (f .first) ∙ omega arith;
-        point-total = g .total;
-        member-total = h .total;
-        claimed = h .claimed;
-        bytes = omega (arith, n .bytes, p .bytes, g .bytes, h .bytes, z);
-      })
+      nodes = n .all;
+      ports = p .all;
+      edges = g .edges;
+      points = g .points;
+      bundles = h .bundles;
+      members = h .members;
+      node-count = pushes-count node (c .nodes) [] s (a .value) (a .rest) (a .first) ∙ omega arith;
+      port-count = pushes-count port (c .ports) [] (a .rest) (b .value) (b .rest) (b .first) ∙ omega arith;
+      edge-count = edges-count (c .edges) (record { edges = []; points = [] }) (b .rest) (d .value) (d .rest) (d .first) ∙ omega arith;
+      bundle-count = bundles-count (c .bundles) (record { bundles = []; members = [] }) (d .rest) (f .value) (f .rest) (f .first) ∙ omega arith;
+      point-total = g .total;
+      member-total = h .total;
+      claimed = h .claimed;
+      bytes = omega (arith, n .bytes, p .bytes, g .bytes, h .bytes, z);
+    })
 
 -- ---- ids looked up
 known-value : {A : Type 0} (a b : A) → known a ≡ known b → a ≡ b
@@ -486,12 +511,12 @@ edge-from nodes p q e =
     let d = known-came (place (p .target, 0) nodes) _ q (c .2) in
     let r = known-value (record { id = p .id; source = c .0; target = d .0; first = p .first; count = p .count }) q (d .2) in
     record {
-        source = c .1 ∙ ap (λ (x : Edge). known (x .source)) r;
-        target = d .1 ∙ ap (λ (x : Edge). known (x .target)) r;
-        id = sym (ap (λ (x : Edge). x .id) r);
-        first = sym (ap (λ (x : Edge). x .first) r);
-        count = sym (ap (λ (x : Edge). x .count) r);
-      }
+      source = c .1 ∙ ap (λ (x : Edge). known (x .source)) r;
+      target = d .1 ∙ ap (λ (x : Edge). known (x .target)) r;
+      id = sym (ap (λ (x : Edge). x .id) r);
+      first = sym (ap (λ (x : Edge). x .first) r);
+      count = sym (ap (λ (x : Edge). x .count) r);
+    }
 
 pub record BundleFrom (ports : List Key) (p : RawBundle) (q : Bundle) : Type 0 where
   pub port : place (p .node, p .port) ports ≡ known (q .port)
@@ -507,12 +532,12 @@ bundle-from nodes ports p q e =
     let d = known-came (place (p .node, p .port) ports) _ q (c .2) in
     let r = known-value (record { id = p .id; port = d .0; role = p .role; width = p .width; first = p .first; count = p .count }) q (d .2) in
     record {
-        port = d .1 ∙ ap (λ (x : Bundle). known (x .port)) r;
-        id = sym (ap (λ (x : Bundle). x .id) r);
-        role = sym (ap (λ (x : Bundle). x .role) r);
-        first = sym (ap (λ (x : Bundle). x .first) r);
-        count = sym (ap (λ (x : Bundle). x .count) r);
-      }
+      port = d .1 ∙ ap (λ (x : Bundle). known (x .port)) r;
+      id = sym (ap (λ (x : Bundle). x .id) r);
+      role = sym (ap (λ (x : Bundle). x .role) r);
+      first = sym (ap (λ (x : Bundle). x .first) r);
+      count = sym (ap (λ (x : Bundle). x .count) r);
+    }
 
 pub record MemberFrom (edges : List Key) (p : RawMember) (q : Member) : Type 0 where
   pub edge : place (p .edge, 0) edges ≡ known (q .edge)
@@ -625,56 +650,56 @@ module _ (h : Header) (size : ℕ) (t : Tables) (g : GoodHeader h) (r : RawSound
         let o2 = or-false _ _ (o1 .1) in
         let o3 = or-false _ _ (o2 .1) in
         record {
-            options = g .options;
-            grants = g .grants;
-            nodes = r .nodes;
-            ports = each-all (port-of node-keys) RawGoodPort (GoodPort (length (t .nodes)))
-                (λ a b x y. let f = port-from node-keys a b y in
-                record { node = inside (a .node, 0) node-keys (b .node) _ (f .found) ln; offset = subst (λ (z : Float). is-coordinate z ≡ true) (sym (f .offset)) x })
-                (t .ports) [] ps (r .ports) tt kp;
-            edges = each-all (edge-of node-keys) (RawGoodEdge (length (t .edges .points))) (GoodEdge (length (t .nodes)) (length (t .edges .points)))
-                (λ a b x y. let f = edge-from node-keys a b y in
-                record {
-                    source = inside (a .source, 0) node-keys (b .source) _ (f .source) ln;
-                    target = inside (a .target, 0) node-keys (b .target) _ (f .target) ln;
-                    count = omega (arith, f .count, x .count);
-                    window = omega (arith, f .first, f .count, x .window);
-                  })
-                (t .edges .edges) [] es (r .edges) tt ke;
-            points = r .points;
-            bundles = each-all (bundle-of node-keys port-keys) (RawGoodBundle (length (t .bundles .members))) (GoodBundle (length ps) (length ms))
-                (λ a b x y. let f = bundle-from node-keys port-keys a b y in
-                record {
-                    port = inside (a .node, a .port) port-keys (b .port) (length ps) (f .port) (omega (arith, lp, np));
-                    count = omega (arith, f .count, x .count);
-                    window = omega (arith, f .first, f .count, x .window, nm);
-                  })
-                (t .bundles .bundles) [] bs (r .bundles) tt kb;
-            members = each-all (member-of edge-keys) RawGoodMember (GoodMember (length es))
-                (λ a b x y. let f = member-from edge-keys a b y in
-                record { edge = inside (a .edge, 0) edge-keys (b .edge) (length es) (f .edge) (omega (arith, le, ne)); lane = omega (arith, f .lane, x) })
-                (t .bundles .members) [] ms (r .members) tt km;
-            node-total = omega (arith, r .node-count, c .nodes);
-            port-total = omega (arith, np, r .port-count, c .ports);
-            edge-total = omega (arith, ne, r .edge-count, c .edges);
-            bundle-total = omega (arith, nb, r .bundle-count, c .bundles);
-            member-total = omega (arith, nm, r .member-total);
-            point-total = r .point-total;
-            node-ids = o .0;
-            edge-ids = ap twice (each-map (edge-of node-keys) (λ (e : Edge). (e .id, 0)) edge-key (λ a b y. pair-is _ _ _ _ (edge-from node-keys a b y .id) refl) (t .edges .edges) [] es ke) ∙ o2 .0;
-            bundle-ids = ap twice (each-map (bundle-of node-keys port-keys) (λ (e : Bundle). (e .id, 0)) bundle-key (λ a b y. pair-is _ _ _ _ (bundle-from node-keys port-keys a b y .id) refl) (t .bundles .bundles) [] bs kb) ∙ o3 .0;
-            port-ids = ap twice (each-map (port-of node-keys) (λ (p : Port). (id-at (t .nodes) (p .node), p .id)) port-key
-                (λ a b y. let f = port-from node-keys a b y in pair-is _ _ _ _ (first-of node-keys (b .node) (a .node) (f .found)) (f .id)) (t .ports) [] ps kp) ∙ o1 .0;
-            member-edges = ap twice (
-                ap (λ z. claims z (map (λ (m : Member). edge-at es (m .edge)) ms))
-                (each-map (bundle-of node-keys port-keys) claim-of raw-claim
-                (λ a b y. let f = bundle-from node-keys port-keys a b y in same-claim _ _ _ _ _ _ (f .role) (f .first) (f .count)) (t .bundles .bundles) [] bs kb)
-                ∙ ap (claims (map raw-claim (t .bundles .bundles)))
-                (each-map (member-of edge-keys) (λ (m : Member). edge-at es (m .edge)) edge-id
-                (λ a b y. ap (λ (z : List Key). getD z (b .edge) (0, 0) .0) (each-map (edge-of node-keys) (λ (e : Edge). (e .id, 0)) edge-key (λ c d x. pair-is _ _ _ _ (edge-from node-keys c d x .id) refl) (t .edges .edges) [] es ke)
-                ∙ first-of edge-keys (b .edge) (a .edge) (member-from edge-keys a b y .edge)) (t .bundles .members) [] ms km)
-                ∙ r .claimed) ∙ o3 .1;
-          }
+          options = g .options;
+          grants = g .grants;
+          nodes = r .nodes;
+          ports = each-all (port-of node-keys) RawGoodPort (GoodPort (length (t .nodes)))
+              (λ a b x y. let f = port-from node-keys a b y in
+              record { node = inside (a .node, 0) node-keys (b .node) _ (f .found) ln; offset = subst (λ (z : Float). is-coordinate z ≡ true) (sym (f .offset)) x })
+              (t .ports) [] ps (r .ports) tt kp;
+          edges = each-all (edge-of node-keys) (RawGoodEdge (length (t .edges .points))) (GoodEdge (length (t .nodes)) (length (t .edges .points)))
+              (λ a b x y. let f = edge-from node-keys a b y in
+              record {
+                source = inside (a .source, 0) node-keys (b .source) _ (f .source) ln;
+                target = inside (a .target, 0) node-keys (b .target) _ (f .target) ln;
+                count = omega (arith, f .count, x .count);
+                window = omega (arith, f .first, f .count, x .window);
+              })
+              (t .edges .edges) [] es (r .edges) tt ke;
+          points = r .points;
+          bundles = each-all (bundle-of node-keys port-keys) (RawGoodBundle (length (t .bundles .members))) (GoodBundle (length ps) (length ms))
+              (λ a b x y. let f = bundle-from node-keys port-keys a b y in
+              record {
+                port = inside (a .node, a .port) port-keys (b .port) (length ps) (f .port) (omega (arith, lp, np));
+                count = omega (arith, f .count, x .count);
+                window = omega (arith, f .first, f .count, x .window, nm);
+              })
+              (t .bundles .bundles) [] bs (r .bundles) tt kb;
+          members = each-all (member-of edge-keys) RawGoodMember (GoodMember (length es))
+              (λ a b x y. let f = member-from edge-keys a b y in
+              record { edge = inside (a .edge, 0) edge-keys (b .edge) (length es) (f .edge) (omega (arith, le, ne)); lane = omega (arith, f .lane, x) })
+              (t .bundles .members) [] ms (r .members) tt km;
+          node-total = omega (arith, r .node-count, c .nodes);
+          port-total = omega (arith, np, r .port-count, c .ports);
+          edge-total = omega (arith, ne, r .edge-count, c .edges);
+          bundle-total = omega (arith, nb, r .bundle-count, c .bundles);
+          member-total = omega (arith, nm, r .member-total);
+          point-total = r .point-total;
+          node-ids = o .0;
+          edge-ids = ap twice (each-map (edge-of node-keys) (λ (e : Edge). (e .id, 0)) edge-key (λ a b y. pair-is _ _ _ _ (edge-from node-keys a b y .id) refl) (t .edges .edges) [] es ke) ∙ o2 .0;
+          bundle-ids = ap twice (each-map (bundle-of node-keys port-keys) (λ (e : Bundle). (e .id, 0)) bundle-key (λ a b y. pair-is _ _ _ _ (bundle-from node-keys port-keys a b y .id) refl) (t .bundles .bundles) [] bs kb) ∙ o3 .0;
+          port-ids = ap twice (each-map (port-of node-keys) (λ (p : Port). (id-at (t .nodes) (p .node), p .id)) port-key
+              (λ a b y. let f = port-from node-keys a b y in pair-is _ _ _ _ (first-of node-keys (b .node) (a .node) (f .found)) (f .id)) (t .ports) [] ps kp) ∙ o1 .0;
+          member-edges = ap twice (
+              ap (λ z. claims z (map (λ (m : Member). edge-at es (m .edge)) ms))
+              (each-map (bundle-of node-keys port-keys) claim-of raw-claim
+              (λ a b y. let f = bundle-from node-keys port-keys a b y in same-claim _ _ _ _ _ _ (f .role) (f .first) (f .count)) (t .bundles .bundles) [] bs kb)
+              ∙ ap (claims (map raw-claim (t .bundles .bundles)))
+              (each-map (member-of edge-keys) (λ (m : Member). edge-at es (m .edge)) edge-id
+              (λ a b y. ap (λ (z : List Key). getD z (b .edge) (0, 0) .0) (each-map (edge-of node-keys) (λ (e : Edge). (e .id, 0)) edge-key (λ c d x. pair-is _ _ _ _ (edge-from node-keys c d x .id) refl) (t .edges .edges) [] es ke)
+              ∙ first-of edge-keys (b .edge) (a .edge) (member-from edge-keys a b y .edge)) (t .bundles .members) [] ms km)
+              ∙ r .claimed) ∙ o3 .1;
+        }
 
   resolved-sound : (b : Board) → some-twice t ≡ false → resolved (h .options) t ≡ known b → Sound (job-with b)
   unfolding resolved
@@ -732,6 +757,7 @@ accepted-sound s j e =
     let r = tables-good (b .value .counts) (b .rest) (c .value) (c .rest) (c .first) in
     let f = field-takes 1 (drop 4 s) (a .value) (a .rest) (a .first) in
     let d = length-drop 4 s in
-    let k = g .0 .counts in
-    (settled-sound (b .value) (length (b .rest)) (c .value) (g .0) r j (c .second),
-    omega (arith, f .0, f .1, d, g .1, r .bytes, r .node-count, r .port-count, r .edge-count, r .bundle-count, r .point-total, r .member-total, k .nodes, k .ports, k .edges, k .bundles))
+    let k = g .0 .counts in (
+      settled-sound (b .value) (length (b .rest)) (c .value) (g .0) r j (c .second),
+      omega (arith, f .0, f .1, d, g .1, r .bytes, r .node-count, r .port-count, r .edge-count, r .bundle-count, r .point-total, r .member-total, k .nodes, k .ports, k .edges, k .bundles),
+    )
