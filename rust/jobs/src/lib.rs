@@ -6,6 +6,7 @@ pub mod bench;
 pub mod boards;
 pub mod cases;
 pub mod check;
+pub mod damages;
 pub mod draft;
 pub mod families;
 pub mod floats;

@@ -7,12 +7,13 @@ use std::process::ExitCode;
 
 use jobs::cases::{self, KINDS};
 use jobs::families::{self, FAMILIES};
-use jobs::{bench, check, stored, survey};
+use jobs::{bench, check, damages, stored, survey};
 
 const USAGE: &str = "jobs list                                families of jobs and kinds of cases
 jobs make FAMILY SEED FIRST COUNT        jobs as records, for `oracle batch`
 jobs one FAMILY SEED INDEX               one job, bare, for `oracle job` and `oracle show`
 jobs cases KIND SEED FIRST COUNT         calls as records, for `oracle calls`
+jobs damages SEED JOBS TIMES LONGEST      damaged jobs as records, for `oracle digest`; numbers counted
 jobs distribution [SEED [PERCENT]]       numbers and features by family
 jobs outcomes [SEED [COUNT]]             first bytes of results by operation
 jobs clamp [SEED [COUNT]]                the patched plan against the unpatched one
@@ -61,6 +62,10 @@ fn run(words: &[&str]) -> Result<bool, String> {
             let seed = number(seed)?;
             records(first, count, |index| kind.record(seed, index))
         }
+        ["damages", seed, jobs, times, longest] => {
+            let longest = number(longest)? as usize;
+            damaged(number(seed)?, number(jobs)?, number(times)?, longest)
+        }
         ["distribution", ref rest @ ..] => {
             let [seed, percent] = defaults(rest, [1, 100])?;
             Ok(survey::distribution(seed, percent))
@@ -94,13 +99,32 @@ fn records(first: &str, count: &str, make: impl Fn(u64) -> Vec<u8>) -> Result<bo
     let (first, count) = (number(first)?, number(count)?);
     let mut to = BufWriter::new(io::stdout().lock());
     for index in first..first + count {
-        let record = make(index);
-        to.write_all(&(record.len() as u32).to_be_bytes())
-            .map_err(text)?;
-        to.write_all(&record).map_err(text)?;
+        write_record(&mut to, &make(index)).map_err(text)?;
     }
     to.flush().map_err(text)?;
     Ok(true)
+}
+
+/// The damaged jobs on standard output; how many of each number on standard error.
+fn damaged(seed: u64, jobs: u64, times: u64, longest: usize) -> Result<bool, String> {
+    let mut to = BufWriter::new(io::stdout().lock());
+    let mut counts = [0_u64; 10];
+    let mut done = Ok(());
+    damages::damages(seed, jobs, times, longest, &mut |job| {
+        counts[oracle::job::read(job).map_or_else(usize::from, |_| 0)] += 1;
+        if done.is_ok() {
+            done = write_record(&mut to, job);
+        }
+    });
+    done.and_then(|()| to.flush()).map_err(text)?;
+    let all = counts.iter().sum::<u64>();
+    eprintln!("{all} jobs; by number from 0, accepted: {counts:?}");
+    Ok(true)
+}
+
+fn write_record(to: &mut impl Write, record: &[u8]) -> io::Result<()> {
+    to.write_all(&(record.len() as u32).to_be_bytes())?;
+    to.write_all(record)
 }
 
 fn defaults(words: &[&str], mut values: [u64; 2]) -> Result<[u64; 2], String> {

@@ -6,6 +6,7 @@
 pub mod answer;
 pub mod calls;
 pub mod clamp;
+pub mod digest;
 pub mod job;
 pub mod stage;
 pub mod wire;

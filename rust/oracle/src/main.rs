@@ -8,16 +8,20 @@ use std::process::ExitCode;
 const USAGE: &str = "oracle job     one job on standard input, its answer on standard output
 oracle batch   length-prefixed jobs in, length-prefixed answers out
 oracle calls   length-prefixed call records in, length-prefixed results out
+oracle digest  length-prefixed jobs in; number and digest of what was read out, nine bytes each
 oracle show    one job on standard input, job and answer as text";
 
 fn main() -> ExitCode {
     let words = std::env::args().skip(1).collect::<Vec<_>>();
     let done = match words.iter().map(String::as_str).collect::<Vec<_>>()[..] {
         ["job"] => one_job(),
-        ["batch"] => each_record(|record| Ok(oracle::answer_of(record))),
+        ["batch"] => each_record(|record| Ok(prefixed(oracle::answer_of(record)))),
         ["calls"] => each_record(|record| {
-            oracle::calls::call(record).map_err(|malformed| format!("{malformed:?}"))
+            oracle::calls::call(record)
+                .map(prefixed)
+                .map_err(|malformed| format!("{malformed:?}"))
         }),
+        ["digest"] => each_record(|record| Ok(oracle::digest::digest(record))),
         ["show"] => show(),
         _ => Err(USAGE.to_string()),
     };
@@ -61,12 +65,16 @@ fn each_record(make: impl Fn(&[u8]) -> Result<Vec<u8>, String>) -> Result<(), St
         next_record(&mut from).map_err(|error| format!("record {at}: {error}"))?
     {
         let made = make(&record).map_err(|error| format!("record {at}: {error}"))?;
-        to.write_all(&(made.len() as u32).to_be_bytes())
-            .map_err(text)?;
         to.write_all(&made).map_err(text)?;
         at += 1;
     }
     to.flush().map_err(text)
+}
+
+fn prefixed(made: Vec<u8>) -> Vec<u8> {
+    let mut record = (made.len() as u32).to_be_bytes().to_vec();
+    record.extend(made);
+    record
 }
 
 /// The next record, or none at the end of the input.
