@@ -645,13 +645,7 @@ fn write_board(out: &mut Writer, job: &Job) {
     };
     let edge = |id: u32| place(job.edges.iter().position(|row| row.id == id));
     out.u8(u8::from(job.separate) | u8::from(job.crossings) << 1);
-    for option in [
-        job.port_stub,
-        job.route_lane_gap,
-        job.edge_node_clearance,
-        job.minimum_parallel_wire_spacing,
-        job.member_endpoint_reserve,
-    ] {
+    for option in job.options() {
         out.f64(option);
     }
     out.u32(job.tap_visits);

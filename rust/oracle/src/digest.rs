@@ -36,13 +36,7 @@ pub fn digest(bytes: &[u8]) -> Vec<u8> {
 fn digest_of(job: &Job) -> u64 {
     let mut digest = Digest(u64::from(job.separate));
     digest.mix(u64::from(job.crossings));
-    for option in [
-        job.port_stub,
-        job.route_lane_gap,
-        job.edge_node_clearance,
-        job.minimum_parallel_wire_spacing,
-        job.member_endpoint_reserve,
-    ] {
+    for option in job.options() {
         digest.mix_number(option);
     }
     digest.mix(u64::from(job.tap_visits));

@@ -299,19 +299,24 @@ fn has_unknown(job: &Job) -> bool {
 }
 
 impl Job {
+    /// The five options in the job's order.
+    pub fn options(&self) -> [f64; 5] {
+        [
+            self.port_stub,
+            self.route_lane_gap,
+            self.edge_node_clearance,
+            self.minimum_parallel_wire_spacing,
+            self.member_endpoint_reserve,
+        ]
+    }
+
     /// The job's bytes: what `read` takes. Counts must fit the format.
     pub fn encode(&self) -> Vec<u8> {
         let mut out = Writer::new();
         out.u32(0);
         out.u8(1);
         out.u8(u8::from(self.separate) | u8::from(self.crossings) << 1);
-        for option in [
-            self.port_stub,
-            self.route_lane_gap,
-            self.edge_node_clearance,
-            self.minimum_parallel_wire_spacing,
-            self.member_endpoint_reserve,
-        ] {
+        for option in self.options() {
             out.f64(option);
         }
         out.u32(self.tap_visits);
