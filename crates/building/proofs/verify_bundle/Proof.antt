@@ -1,0 +1,96 @@
+use borrow.Author.Needs.{needs}
+use native.Mathlib.Omega.{arith}
+use mathlib.Core.Path.{_≡_, refl, sym, ap, _∙_}
+use Prim.Native.Nat.{ℕ, suc, _≤_, _<_, _+_, _-_, _*_}
+use lib.ListN.{length, getD, take}
+use denote.Ref.{now}
+use mathlib.Core.List.{[], map}
+use Rattle.route.specs.Slots.{routes-of, routes-length}
+use Rattle.drawing.specs.Check.{among, contact-tests}
+use Rattle.checks.specs.Rows.{drawn-of, Slotted}
+use Rattle.building.specs.Rows.{members-from}
+use Rattle.building.proofs.Masked.{contact-masked, inside-masked, both-off, both-on}
+use Rattle.building.proofs.verify_bundle.Statement.{statement}
+use Rattle.building.proofs.verify_bundle.Tie as tie
+use Rattle.building.proofs.verify_bundle.Reads as reads
+use Rattle.building.proofs.verify_bundle.Lts as lts
+use Rattle.checks.proofs.verify_new_bundle_route_contacts.Reads as verify-new-bundle-route-contacts-reads
+use Rattle.checks.proofs.verify_one_bundle_route_node_interiors.Reads as verify-one-bundle-route-node-interiors-reads
+use Rattle.building.proofs.mark_members.Reads as mark-members-reads
+
+mark-members-requires : tie.Need-mark-members-requires
+mark-members-requires c κs = search needs
+
+verify-one-bundle-route-node-interiors-requires :
+    tie.Need-verify-one-bundle-route-node-interiors-requires
+verify-one-bundle-route-node-interiors-requires c κs =
+    let t = c .before .before .before .before .before .before .before .before .before .before in
+    let a = t .args in
+    let f = c .before .before .before .mark-members in
+    let k = f .kept .1 .1 .1 .0 in
+    let s = t .pre .6 in
+    let w = s .slots in
+    let x = s .masked in
+    (t .pre .0, t .pre .1, t .pre .2, record { slots = w; masked = omega (arith, k, x); hold = s .hold })
+
+enum-known-v : tie.Need-enum-known-v
+enum-known-v c = search needs
+
+enum-known-v-2 : tie.Need-enum-known-v-2
+enum-known-v-2 c = search needs
+
+verify-new-bundle-route-contacts-requires : tie.Need-verify-new-bundle-route-contacts-requires
+verify-new-bundle-route-contacts-requires c κs =
+    let t = c .before .before .before .before .before .before .before .before .before .before .before .before .before .before .before in
+    let a = t .args in
+    let f = c .before .before .before .before .before .before .before .before .mark-members in
+    let k = f .kept .1 .1 .1 .0 in
+    let s = t .pre .6 in
+    let w = s .slots in
+    let x = s .masked in
+    (t .pre .3, t .pre .4, t .pre .5, record { slots = w; masked = omega (arith, k, x); hold = s .hold })
+
+same-length : tie.Need-same-length
+same-length c = search needs
+
+returns : tie.Need-returns
+returns c =
+    let t = c .before .before .before .before .before .before .before .before .before .before .before .before .before .before in
+    let a = t .args in
+    let f = c .before .before .before .before .before .before .before .mark-members in
+    let k = f .kept .1 .1 .1 .0 in
+    let s = t .pre .6 in
+    let w = s .slots in
+    let x = s .masked in
+    let y = routes-length (now (a .points)) 0 (now (a .counts)) in
+    both-off _ _ (contact-tests (a .o) (a .allow) (drawn-of (now (a .edges)) (now (a .taps)) (a .new)) (among (members-from (now (a .edges)) [] (a .new .first) (a .new .count))) (map (drawn-of (now (a .edges)) (now (a .taps))) (take (a .priors .count) (a .priors .rows))) (routes-of (now (a .points)) (now (a .counts)))) (a .visits .0) _ (sym (c .before .before .before .verify-one-bundle-route-node-interiors .ensures) ∙ c .before .v .given .1) (inside-masked (members-from (now (a .edges)) [] (a .new .first) (a .new .count)) (f .last .1 .1 .1 .0) (routes-of (now (a .points)) (now (a .counts))) (f .ensures) (omega (arith, k, x, y)) (take (a .nodes .count) (a .nodes .rows)) (take (a .table .count) (a .table .rows)))
+
+same-length-2 : tie.Need-same-length-2
+same-length-2 c = search needs
+
+returns-2 : tie.Need-returns-2
+returns-2 c =
+    let t = c .before .before .before .before .before .before .before .before .before .before .before .before .before .before .before .before in
+    let a = t .args in
+    let f = c .before .before .before .before .before .before .before .before .before .mark-members in
+    let k = f .kept .1 .1 .1 .0 in
+    let s = t .pre .6 in
+    let w = s .slots in
+    let x = s .masked in
+    let y = routes-length (now (a .points)) 0 (now (a .counts)) in
+    c .verify-new-bundle-route-contacts .ensures
+    ∙ both-on _ _ _ _ (a .visits .0) _ (sym (c .before .before .before .before .before .verify-one-bundle-route-node-interiors .ensures) ∙ c .before .before .before .v2 .given .1) (inside-masked (members-from (now (a .edges)) [] (a .new .first) (a .new .count)) (f .last .1 .1 .1 .0) (routes-of (now (a .points)) (now (a .counts))) (f .ensures) (omega (arith, k, x, y)) (take (a .nodes .count) (a .nodes .rows)) (take (a .table .count) (a .table .rows))) (contact-masked (members-from (now (a .edges)) [] (a .new .first) (a .new .count)) (f .last .1 .1 .1 .0) (routes-of (now (a .points)) (now (a .counts))) (f .ensures) (omega (arith, k, x, y)) (a .o) (a .allow) (drawn-of (now (a .edges)) (now (a .taps)) (a .new)) (map (drawn-of (now (a .edges)) (now (a .taps))) (take (a .priors .count) (a .priors .rows))))
+
+pub verify-bundle-spec : {M : Type 1} → statement M
+verify-bundle-spec =
+    tie.close
+    (tie.spec
+    mark-members-requires
+    verify-one-bundle-route-node-interiors-requires
+    enum-known-v
+    enum-known-v-2
+    verify-new-bundle-route-contacts-requires
+    same-length
+    returns
+    same-length-2
+    returns-2)
