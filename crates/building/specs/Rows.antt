@@ -159,4 +159,4 @@ Marks ms mask = (k : ℕ) → k < length mask → getD mask k false ≡ among ms
 -- the second check, with the visits that the first has left
 unfoldable pub then-walk : Verdict → (ℕ → Verdict) → Verdict
 then-walk (Clean p) k = k (p .0)
-then-walk (Refused e) k = Refused e
+then-walk (Refused e p) k = Refused e p

@@ -572,7 +572,7 @@ pub fn verify_bundle(
         visits,
     );
     match v {
-        Verdict::Refused(r) => Verdict::Refused(r),
+        Verdict::Refused(r, p) => Verdict::Refused(r, p),
         Verdict::Clean(q) => checks::verify_new_bundle_route_contacts(
             o,
             allow,

@@ -27,21 +27,23 @@ pub record Progress : Type 0 where
   pub drawn : List Drawn
   pub left : ℕ
 
+-- refused with a number and the geometry visits left then
 pub data Outcome : Type 0 where
-  refused : ℕ → Outcome
+  refused : ℕ → ℕ → Outcome
   going : Progress → Outcome
 
 unfoldable pub after-check : Verdict → (ℕ → Outcome) → Outcome
 after-check (Clean p) k = k (p .0)
-after-check (Refused e) k = refused e
+after-check (Refused e p) k = refused e (p .0)
 
 unfoldable pub after-turn : Outcome → (Progress → Outcome) → Outcome
-after-turn (refused e) k = refused e
+after-turn (refused e n) k = refused e n
 after-turn (going s) k = k s
 
-unfoldable pub after-rewrite : Option (List Route) → (List Route → Outcome) → Outcome
-after-rewrite none k = refused 10
-after-rewrite (some rs) k = k rs
+-- n visits are left
+unfoldable pub after-rewrite : Option (List Route) → ℕ → (List Route → Outcome) → Outcome
+after-rewrite none n k = refused 10 n
+after-rewrite (some rs) n k = k rs
 
 abbrev pub drawn-at : Board → Turn → Progress → Drawn
 drawn-at b t s = build b (t .bundle) (t .planned) (s .routes)
@@ -59,7 +61,7 @@ checked b allow t d priors rs n =
 -- one bundle: build_geometry, rewrite_member_routes, verify_one_bundle_route_node_interiors, verify_new_bundle_route_contacts
 unfoldable pub turn : Board → Bool → Turn → Progress → Outcome
 turn b allow t s =
-    after-rewrite (rewritten-by b t (drawn-at b t s) (s .routes)) (λ rs.
+    after-rewrite (rewritten-by b t (drawn-at b t s) (s .routes)) (s .left) (λ rs.
     checked b allow t (drawn-at b t s) (s .drawn) rs (s .left))
 
 -- every bundle in job order
