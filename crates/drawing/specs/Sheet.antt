@@ -8,6 +8,8 @@ use lib.Ieee.{Float}
 use Rattle.board.specs.declared.Bundle.{Bundle}
 use Rattle.geometry.specs.Points.{Route}
 use Rattle.board.specs.Board.{Board}
+use Rattle.plan.specs.declared.Bound.{Bound}
+use Rattle.plan.specs.declared.Bound.the-variants.{None, At}
 use Rattle.plan.specs.Depths.{members-in, pitch-of}
 use Rattle.drawing.specs.declared.Verdict.{Verdict}
 use Rattle.drawing.specs.declared.Verdict.the-variants.{Clean, Refused}
@@ -20,6 +22,18 @@ pub record Turn : Type 0 where
   pub bundle : Bundle
   pub planned : Option Float
   pub offset : Float
+
+-- what the plan says of a bundle
+abbrev pub planned-x : Bound → Option Float
+planned-x None = none
+planned-x (At x) = some x
+
+-- the turns of the bundles, in job order, each with its planned x and its corridor offset
+unfoldable pub turns-from : List Bundle → List Bound → List Float → List Turn
+turns-from [] xs ds = []
+turns-from (u ∷ us) [] ds = []
+turns-from (u ∷ us) (x ∷ xs) [] = []
+turns-from (u ∷ us) (x ∷ xs) (d ∷ ds) = record { bundle = u; planned = planned-x x; offset = d } ∷ turns-from us xs ds
 
 -- the sheet as it stands: the present routes, the bundles drawn so far in their order, and the geometry visits left
 pub record Progress : Type 0 where
