@@ -4,8 +4,9 @@ use mathlib.Core.Path.{_≡_, refl, sym, ap, subst, _∙_}
 use mathlib.Core.Bool.{Bool, true, false, not, cond, _&&_, _||_}
 use mathlib.Core.List.{List, [], _∷_, _++_, map}
 use native.Mathlib.Omega.{arith}
-use lib.Dec.{leb, eqb}
-use lib.Ieee.{Float, binary64, ofBits}
+use lib.Dec.{T, leb, eqb}
+use lib.Ieee.{Float, binary64, fits, ofBits}
+use lib.Ieee.Bits.{ofBits-fits}
 use lib.ListN.{length, take, drop, getD, length-append, length-map, length-drop}
 use borrow.Author.Tests.{leb-true, eqb-true}
 use Rattle.wire.specs.Bytes.{number}
@@ -43,26 +44,31 @@ use Rattle.job.specs.Claims.{Claim, claims, claim-of, raw-claim, edge-id
 use Rattle.job.specs.Claims as claim
 
 -- ---- the words
+-- a number of a kind, and of the format
+pub record GoodNumber (kind : Float → Bool) (x : Float) : Type 0 where
+  pub in-range : kind x ≡ true
+  pub of-format : T (fits binary64 x)
+
 pub record GoodPoint (p : Point) : Type 0 where
-  pub x : is-coordinate (p .x) ≡ true
-  pub y : is-coordinate (p .y) ≡ true
+  pub x : GoodNumber is-coordinate (p .x)
+  pub y : GoodNumber is-coordinate (p .y)
 
 pub record GoodOptions (o : Options) : Type 0 where
-  pub stub : is-option (o .«port_stub») ≡ true
-  pub gap : is-option (o .«route_lane_gap») ≡ true
-  pub clearance : is-option (o .«edge_node_clearance») ≡ true
-  pub spacing : is-option (o .«minimum_parallel_wire_spacing») ≡ true
-  pub reserve : is-option (o .«member_endpoint_reserve») ≡ true
+  pub stub : GoodNumber is-option (o .«port_stub»)
+  pub gap : GoodNumber is-option (o .«route_lane_gap»)
+  pub clearance : GoodNumber is-option (o .«edge_node_clearance»)
+  pub spacing : GoodNumber is-option (o .«minimum_parallel_wire_spacing»)
+  pub reserve : GoodNumber is-option (o .«member_endpoint_reserve»)
 
 pub record GoodNode (n : PlacedNode) : Type 0 where
   pub corner : GoodPoint (n .body .corner)
-  pub width : is-size (n .body .width) ≡ true
-  pub height : is-size (n .body .height) ≡ true
+  pub width : GoodNumber is-size (n .body .width)
+  pub height : GoodNumber is-size (n .body .height)
 
 -- of so many nodes
 pub record GoodPort (nodes : ℕ) (p : Port) : Type 0 where
   pub node : p .node < nodes
-  pub offset : is-coordinate (p .offset) ≡ true
+  pub offset : GoodNumber is-coordinate (p .offset)
 
 -- of so many nodes and points
 pub record GoodEdge (nodes points : ℕ) (e : Edge) : Type 0 where
@@ -85,14 +91,14 @@ picked : {A : Type 0} (b : Bool) (x y : A) (s t : List ℕ) (r : ℕ) → cond b
 picked true x y s t r e = (refl, cc, cc)
 picked false x y s t r e = let z : _≡_ {A = ℕ} 0 1 = cc in absurd (omega arith)
 
-number-good : (low high : Float) (s : List ℕ) (x : Float) (t : List ℕ) → number-in low high s ≡ got x t → (accepted low high x ≡ true) × (length s ≡ 8 + length t)
+number-good : (low high : Float) (s : List ℕ) (x : Float) (t : List ℕ) → number-in low high s ≡ got x t → GoodNumber (accepted low high) x × (length s ≡ 8 + length t)
 unfolding taken
 number-good low high s x t e =
     let a = came (field 8 s) (λ b. taken low high (ofBits binary64 b)) x t e in
     let f = field-takes 8 s (a .value) (a .rest) (a .first) in
     let c = picked (accepted low high (ofBits binary64 (a .value))) (ofBits binary64 (a .value)) x (a .rest) t 7 (a .second) in
     let l = ap length (c .2) in
-    (subst (λ (z : Float). accepted low high z ≡ true) (c .1) (c .0), omega (arith, f .1, l))
+    (subst (GoodNumber (accepted low high)) (c .1) (record { in-range = c .0; of-format = ofBits-fits binary64 (a .value) }), omega (arith, f .1, l))
 
 same : {A : Type 0} (a b : A) (s t : List ℕ) → got a s ≡ got b t → (a ≡ b) × (s ≡ t)
 same a b s t e = (cc, cc)
@@ -144,7 +150,7 @@ unfolding role-of
 role-takes n s d t e = listed (eqb n 0) Input (cond (eqb n 1) (got Output s) (refused 6)) s t d (listed (eqb n 1) Output (refused 6) s t d (none-listed 6 s t d)) e
 
 abbrev RawGoodPort : RawPort → Type 0
-RawGoodPort p = is-coordinate (p .offset) ≡ true
+RawGoodPort p = GoodNumber is-coordinate (p .offset)
 
 port-good : (s : List ℕ) (p : RawPort) (t : List ℕ) → port s ≡ got p t → RawGoodPort p × (length s ≡ 17 + length t)
 port-good s p t e =
@@ -655,7 +661,7 @@ module _ (h : Header) (size : ℕ) (t : Tables) (g : GoodHeader h) (r : RawSound
           nodes = r .nodes;
           ports = each-all (port-of node-keys) RawGoodPort (GoodPort (length (t .nodes)))
               (λ a b x y. let f = port-from node-keys a b y in
-              record { node = inside (a .node, 0) node-keys (b .node) _ (f .found) ln; offset = subst (λ (z : Float). is-coordinate z ≡ true) (sym (f .offset)) x })
+              record { node = inside (a .node, 0) node-keys (b .node) _ (f .found) ln; offset = subst (GoodNumber is-coordinate) (sym (f .offset)) x })
               (t .ports) [] ps (r .ports) tt kp;
           edges = each-all (edge-of node-keys) (RawGoodEdge (length (t .edges .points))) (GoodEdge (length (t .nodes)) (length (t .edges .points)))
               (λ a b x y. let f = edge-from node-keys a b y in
