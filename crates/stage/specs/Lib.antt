@@ -4,3 +4,4 @@ pub mod Demand3
 pub mod Joints
 pub mod Places
 pub mod Whole
+pub mod Read
