@@ -246,6 +246,15 @@ bundle-takes total s e t h =
     )
 
 -- ---- edges with their points, bundles with their members
+unfoldable pub sum : List ℕ → ℕ
+sum [] = 0
+sum (n ∷ l) = n + sum l
+
+sum-last : {A : Type 0} (f : A → ℕ) (l : List A) (a : A) → sum (map f (l ++ (a ∷ []))) ≡ sum (map f l) + f a
+unfolding sum
+sum-last f [] a = omega arith
+sum-last f (b ∷ l) a = let e = sum-last f l a in omega arith
+
 pub record RawGoodEdge (points : ℕ) (e : RawEdge) : Type 0 where
   pub count : e .count ≤ 64
   pub window : e .first + e .count ≤ points
@@ -254,6 +263,7 @@ pub record EdgesSo (from : ℕ) (l : EdgeList) (s : List ℕ) : Type 0 where
   pub edges : All (RawGoodEdge (length (l .points))) (l .edges)
   pub points : All GoodPoint (l .points)
   pub total : length (l .points) ≤ 2048
+  pub counts : sum (map (λ (e : RawEdge). e .count) (l .edges)) ≡ length (l .points)
   pub bytes : from ≡ 22 * length (l .edges) + 16 * length (l .points) + length s
 
 edges-as : (from : ℕ) (l m : EdgeList) (s t : List ℕ) → l ≡ m → s ≡ t → EdgesSo from l s → EdgesSo from m t
@@ -280,6 +290,7 @@ edges-step from l s m t h e =
           (record { count = w .own; window = omega (arith, w .starts) });
       points = g .all;
       total = omega (arith, w .total, n);
+      counts = omega (arith, sum-last (λ (e : RawEdge). e .count) (l .edges) (a .value), h .counts, n);
       bytes = rw x (omega arith);
     })
 
@@ -291,6 +302,7 @@ pub record BundlesSo (from : ℕ) (l : BundleList) (s : List ℕ) : Type 0 where
   pub bundles : All (RawGoodBundle (length (l .members))) (l .bundles)
   pub members : All RawGoodMember (l .members)
   pub total : length (l .members) ≤ 256
+  pub counts : sum (map (λ (b : RawBundle). b .count) (l .bundles)) ≡ length (l .members)
   pub claimed : claims (map raw-claim (l .bundles)) (map edge-id (l .members)) ≡ map member-key (l .members)
   pub bytes : from ≡ 19 * length (l .bundles) + 6 * length (l .members) + length s
 
@@ -323,6 +335,7 @@ bundles-step from l s m t h e =
           (record { count = w .own; window = omega (arith, w .starts) });
       members = g .all;
       total = omega (arith, w .total, n);
+      counts = omega (arith, sum-last (λ (b : RawBundle). b .count) (l .bundles) (a .value), h .counts, n);
       claimed = claim.claimed (l .bundles) (a .value) ms (b .value) (inside-all (length ms) (l .bundles) (h .bundles)) (w .starts)
           (members-pushed (a .value .role) (a .value .count) ms (a .rest) (b .value) (b .rest) (b .first)) (h .claimed);
       bytes = rw x (omega arith);
@@ -421,6 +434,8 @@ pub record RawSound (c : Counts) (size : ℕ) (t : Tables) : Type 0 where
   pub bundle-count : length (t .bundles .bundles) ≡ c .bundles
   pub point-total : length (t .edges .points) ≤ 2048
   pub member-total : length (t .bundles .members) ≤ 256
+  pub point-counts : sum (map (λ (e : RawEdge). e .count) (t .edges .edges)) ≡ length (t .edges .points)
+  pub member-counts : sum (map (λ (b : RawBundle). b .count) (t .bundles .bundles)) ≡ length (t .bundles .members)
   pub claimed : claims (map raw-claim (t .bundles .bundles)) (map edge-id (t .bundles .members)) ≡ map member-key (t .bundles .members)
   pub bytes : size ≡ 36 * length (t .nodes) + 17 * length (t .ports) + 22 * length (t .edges .edges) + 16 * length (t .edges .points) + 19 * length (t .bundles .bundles) + 6 * length (t .bundles .members)
 
@@ -455,7 +470,7 @@ bundles-count (suc n) l s m t e =
     omega arith
 
 tables-good : (c : Counts) (s : List ℕ) (t : Tables) (u : List ℕ) → tables c s ≡ got t u → RawSound c (length s) t
-unfolding ended All claims
+unfolding ended All claims sum
 tables-good c s t u e =
     let a = came (many (c .nodes) (push node) [] s) _ t u e in
     let b = came (many (c .ports) (push port) [] (a .rest)) _ t u (a .second) in
@@ -467,9 +482,9 @@ tables-good c s t u e =
     let n = pushes-good node GoodNode 36 node-good (c .nodes) (length s) 0 [] s (a .value) (a .rest) (record { all = tt; bytes = omega arith }) (a .first) in
     let p = pushes-good port RawGoodPort 17 port-good (c .ports) (length (a .rest)) 0 [] (a .rest) (b .value) (b .rest) (record { all = tt; bytes = omega arith }) (b .first) in
     let g = many-keeps next-edge (EdgesSo (length (b .rest))) (edges-step (length (b .rest))) (c .edges) (record { edges = []; points = [] }) (b .rest) (d .value) (d .rest)
-    (record { edges = tt; points = tt; total = omega arith; bytes = omega arith }) (d .first) in
+    (record { edges = tt; points = tt; total = omega arith; counts = refl; bytes = omega arith }) (d .first) in
     let h = many-keeps next-bundle (BundlesSo (length (d .rest))) (bundles-step (length (d .rest))) (c .bundles) (record { bundles = []; members = [] }) (d .rest) (f .value) (f .rest)
-    (record { bundles = tt; members = tt; total = omega arith; claimed = refl; bytes = omega arith }) (f .first) in
+    (record { bundles = tt; members = tt; total = omega arith; counts = refl; claimed = refl; bytes = omega arith }) (f .first) in
     subst (λ (x : Tables). RawSound c (length s) x) (k .1) (record {
       nodes = n .all;
       ports = p .all;
@@ -483,6 +498,8 @@ tables-good c s t u e =
       bundle-count = bundles-count (c .bundles) (record { bundles = []; members = [] }) (d .rest) (f .value) (f .rest) (f .first) ∙ omega arith;
       point-total = g .total;
       member-total = h .total;
+      point-counts = g .counts;
+      member-counts = h .counts;
       claimed = h .claimed;
       bytes = omega (arith, n .bytes, p .bytes, g .bytes, h .bytes, z);
     })
@@ -585,6 +602,9 @@ pub record Sound (j : Job) : Type 0 where
   pub bundle-total : length (j .board .bundles) ≤ 32
   pub member-total : length (j .board .members) ≤ 256
   pub point-total : length (j .points) ≤ 2048
+  -- the windows of the routes, and those of the bundles, are as long together as their tables
+  pub point-counts : sum (map (λ (e : Edge). e .count) (j .board .edges)) ≡ length (j .points)
+  pub member-counts : sum (map (λ (b : Bundle). b .count) (j .board .bundles)) ≡ length (j .board .members)
   -- ids stand once: among nodes, edges, bundles, and the ports of one node
   pub node-ids : twice (map node-key (j .board .nodes)) ≡ false
   pub edge-ids : twice (map (λ (e : Edge). (e .id, 0)) (j .board .edges)) ≡ false
@@ -691,6 +711,8 @@ module _ (h : Header) (size : ℕ) (t : Tables) (g : GoodHeader h) (r : RawSound
           bundle-total = omega (arith, nb, r .bundle-count, c .bundles);
           member-total = omega (arith, nm, r .member-total);
           point-total = r .point-total;
+          point-counts = ap sum (each-map (edge-of node-keys) (λ (e : Edge). e .count) (λ (e : RawEdge). e .count) (λ a b y. edge-from node-keys a b y .count) (t .edges .edges) [] es ke) ∙ r .point-counts;
+          member-counts = ap sum (each-map (bundle-of node-keys port-keys) (λ (b : Bundle). b .count) (λ (b : RawBundle). b .count) (λ a b y. bundle-from node-keys port-keys a b y .count) (t .bundles .bundles) [] bs kb) ∙ r .member-counts ∙ omega (arith, nm);
           node-ids = o .0;
           edge-ids = ap twice (each-map (edge-of node-keys) (λ (e : Edge). (e .id, 0)) edge-key (λ a b y. pair-is _ _ _ _ (edge-from node-keys a b y .id) refl) (t .edges .edges) [] es ke) ∙ o2 .0;
           bundle-ids = ap twice (each-map (bundle-of node-keys port-keys) (λ (e : Bundle). (e .id, 0)) bundle-key (λ a b y. pair-is _ _ _ _ (bundle-from node-keys port-keys a b y .id) refl) (t .bundles .bundles) [] bs kb) ∙ o3 .0;
