@@ -5,3 +5,6 @@ pub mod Joints
 pub mod Places
 pub mod Whole
 pub mod Read
+pub mod Stage
+pub mod Counted
+pub mod Refusals
