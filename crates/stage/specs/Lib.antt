@@ -8,3 +8,4 @@ pub mod Read
 pub mod Stage
 pub mod Counted
 pub mod Refusals
+pub mod Size
