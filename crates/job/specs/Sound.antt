@@ -87,7 +87,7 @@ pub record GoodMember (edges : ℕ) (m : Member) : Type 0 where
   pub lane : m .«tap_lane» ≤ 255
 
 -- ---- numbers
-picked : {A : Type 0} (b : Bool) (x y : A) (s t : List ℕ) (r : ℕ) → cond b (got x s) (refused r) ≡ got y t → (b ≡ true) × (x ≡ y) × (s ≡ t)
+pub picked : {A : Type 0} (b : Bool) (x y : A) (s t : List ℕ) (r : ℕ) → cond b (got x s) (refused r) ≡ got y t → (b ≡ true) × (x ≡ y) × (s ≡ t)
 picked true x y s t r e = (refl, cc, cc)
 picked false x y s t r e = let z : _≡_ {A = ℕ} 0 1 = cc in absurd (omega arith)
 
@@ -100,7 +100,7 @@ number-good low high s x t e =
     let l = ap length (c .2) in
     (subst (GoodNumber (accepted low high)) (c .1) (record { in-range = c .0; of-format = ofBits-fits binary64 (a .value) }), omega (arith, f .1, l))
 
-same : {A : Type 0} (a b : A) (s t : List ℕ) → got a s ≡ got b t → (a ≡ b) × (s ≡ t)
+pub same : {A : Type 0} (a b : A) (s t : List ℕ) → got a s ≡ got b t → (a ≡ b) × (s ≡ t)
 same a b s t e = (cc, cc)
 
 point-good : (s : List ℕ) (p : Point) (t : List ℕ) → point s ≡ got p t → GoodPoint p × (length s ≡ 16 + length t)
@@ -764,12 +764,12 @@ pub record OutcomeCame {A : Type 0} (x : Read A) (f : A → List ℕ → Outcome
   pub first : x ≡ got value rest
   pub second : f value rest ≡ job.accepted j
 
-outcome-came : {A : Type 0} (x : Read A) (f : A → List ℕ → Outcome) (j : Job) → outcome x f ≡ job.accepted j → OutcomeCame x f j
+pub outcome-came : {A : Type 0} (x : Read A) (f : A → List ℕ → Outcome) (j : Job) → outcome x f ≡ job.accepted j → OutcomeCame x f j
 unfolding outcome
 outcome-came (refused r) f j e = let z : _≡_ {A = ℕ} 0 1 = cc in absurd (omega arith)
 outcome-came (got a s) f j e = record { value = a; rest = s; first = refl; second = e }
 
-guarded : (b : Bool) (x : Outcome) (r : ℕ) (j : Job) → cond b x (refusal r) ≡ job.accepted j → x ≡ job.accepted j
+pub guarded : (b : Bool) (x : Outcome) (r : ℕ) (j : Job) → cond b x (refusal r) ≡ job.accepted j → x ≡ job.accepted j
 guarded true x r j e = e
 guarded false x r j e = let z : _≡_ {A = ℕ} 0 1 = cc in absurd (omega arith)
 
