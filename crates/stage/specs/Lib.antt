@@ -9,3 +9,5 @@ pub mod Stage
 pub mod Counted
 pub mod Refusals
 pub mod Size
+pub mod Flags
+pub mod Demand

@@ -32,7 +32,8 @@ use Rattle.plan.specs.Lone.{Disjoint}
 use Rattle.plan.specs.Numbers.{Small, Numbers, every-take, every-drop}
 use Rattle.plan.specs.Placed.{Windowed}
 use Rattle.stage.specs.Finite.{Limits}
-use Rattle.stage.specs.Places.{no-bundle, OnceARole}
+use Rattle.stage.specs.Demand3.{no-bundle}
+use Rattle.stage.specs.Places.{OnceARole}
 use Rattle.stage.specs.Whole.{Readable}
 
 every-of : {A : Type 0} (P Q : A → Type 0) (l : List A) → ((a : A) → P a → Q a) → All P l → Every Q l

@@ -27,7 +27,7 @@ use Rattle.answer.specs.Answer.{Sheet, spot-of, lines-of, head-bytes, body-byte
 use Rattle.answer.specs.Laws.{total-points, total-taps, answer-length, answer-at-most, notice-length}
 use Rattle.stage.specs.Counted.{points-in, taps-in, counts, moved-counts}
 use Rattle.stage.specs.Refusals.{From-to, reader-numbers, sheet-numbers}
-use Rattle.stage.specs.Stage.{normalized, tap-told, bundles-told, page-told, Told, refused, drawn, planned, sheet-drawn, after-sheet, after-plan, after-reading, told, told-bytes, written, stage-of}
+use Rattle.stage.specs.Stage.{Comes, normalized, tap-told, bundles-told, page-told, Told, refused, drawn, planned, sheet-drawn, after-sheet, after-plan, after-reading, told, told-bytes, written, stage-of}
 
 -- ---- which refusal is due
 
@@ -41,16 +41,6 @@ pub data Due (bytes : List ℕ) (room : ℕ) : ℕ → Type 0 where
   by-plan : 65536 ≤ room → (j : Job) → read-job bytes ≡ job.accepted j → (v : ℕ) → planned j ≡ plan.refused v → Due bytes room 13
   -- 10, 11, 12 and 14
   by-sheet : 65536 ≤ room → (j : Job) → read-job bytes ≡ job.accepted j → (p : Plan) → planned j ≡ plan.going p → (n : ℕ) → sheet-drawn j p ≡ drawing.refused n → Due bytes room n
-
--- a sheet that a job comes to
-pub record Comes (bytes : List ℕ) (s : Sheet) : Type 0 where
-  pub said : Job
-  pub is-read : read-job bytes ≡ job.accepted said
-  pub plan-made : Plan
-  pub is-planned : planned said ≡ plan.going plan-made
-  pub sheet-made : Progress
-  pub is-drawn : sheet-drawn said plan-made ≡ drawing.going sheet-made
-  pub is-answer : s ≡ page-told (said .board) (plan-made .left) (sheet-made .left) (normalized (said .board) sheet-made)
 
 -- what was told, taken apart
 pub data Cause (bytes : List ℕ) : Told → Type 0 where

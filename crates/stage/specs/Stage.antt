@@ -1,6 +1,7 @@
 -- The stage, whole: which bytes are written for a job's bytes, from document 01's sections "The sheet", "The answer" and "Who can cause a refusal". Definitions only.
 -- Assumes nothing.
 use Prim.Native.Nat.{ℕ}
+use mathlib.Core.Path.{_≡_}
 use mathlib.Core.Bool.{Bool, cond}
 use mathlib.Core.List.{List, [], _∷_, map}
 use lib.Dec.{ltb}
@@ -86,6 +87,16 @@ after-reading (job.accepted j) = after-plan j (planned j)
 -- 1, and 3 to 9
 abbrev pub told : List ℕ → Told
 told bytes = after-reading (read-job bytes)
+
+-- how a job comes to a sheet: it is read, planned on the given routes, drawn bundle after bundle, normalized
+pub record Comes (bytes : List ℕ) (s : Sheet) : Type 0 where
+  pub said : Job
+  pub is-read : read-job bytes ≡ job.accepted said
+  pub plan-made : Plan
+  pub is-planned : planned said ≡ plan.going plan-made
+  pub sheet-made : Progress
+  pub is-drawn : sheet-drawn said plan-made ≡ drawing.going sheet-made
+  pub is-answer : s ≡ page-told (said .board) (plan-made .left) (sheet-made .left) (normalized (said .board) sheet-made)
 
 -- ---- the bytes
 
