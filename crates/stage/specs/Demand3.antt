@@ -1,4 +1,4 @@
--- What document 01 promises of an accepted sheet, before the last shift, in "The words of demand 3": each definition beside the sentence that it states. Definitions only.
+-- Document 01's "The words of demand 3", as one statement about a job's bytes and the bytes written for them: each definition beside the sentence that it states, `Demand3` last. Definitions only.
 -- Exact points, segments and the tolerance are those of crate exact; "enters", bounds, stretches and the sheet itself are the drawing's and the plan's. No definition of a verifier is cited.
 -- Assumes nothing.
 use mathlib.Core.Path.{_≡_}
@@ -6,8 +6,8 @@ use mathlib.Core.Logic.{_⊎_}
 use mathlib.Core.Bool.{Bool, true, false}
 use mathlib.Core.List.{List, [], _∷_, List·Memᴰ}
 use mathlib.Core.Option.{Option, none}
-use Prim.Native.Nat.{ℕ, _<_}
-use lib.ListN.{length, getD}
+use Prim.Native.Nat.{ℕ, _/_, _%_, _≤_, _<_}
+use lib.ListN.{length, getD, take}
 use lib.Ieee.{Float}
 use Rattle.binary64.specs.Fraction.{Fraction, AtMostℚ, Sameℚ, value}
 use Rattle.geometry.specs.declared.Point.{Point}
@@ -17,7 +17,7 @@ use Rattle.geometry.specs.declared.Role.the-variants.{Input, Output}
 use Rattle.geometry.specs.Points.{Route, runs}
 use Rattle.geometry.specs.Contact.{slanted}
 use Rattle.geometry.specs.Enters.{enters}
-use Rattle.exact.specs.Exact.{Exact, Same, exact, OnSegment, SamePlace}
+use Rattle.exact.specs.Exact.{Exact, Same, exact, OnSegment, SamePlace, Finite}
 use Rattle.exact.specs.Promise.{HasLength}
 use Rattle.board.specs.declared.Edge.{Edge}
 use Rattle.board.specs.declared.Bundle.{Bundle}
@@ -32,6 +32,13 @@ use Rattle.plan.specs.Bounds.{bounds-of, trunks}
 use Rattle.drawing.specs.Build.{TapOn, Drawn, route-at, build}
 use Rattle.drawing.specs.Check.{no-edge}
 use Rattle.drawing.specs.Promise.{no-drawn}
+use Rattle.drawing.specs.Sheet.{Progress, Outcome, going, sheet-of, blank}
+use Rattle.plan.specs.Plan.{Plan, due}
+use Rattle.plan.specs.Lone.{Lone}
+use Rattle.job.specs.Job.{Job, given-routes}
+use Rattle.answer.specs.Answer.{Sheet, answer-bytes}
+use Rattle.stage.specs.Order.{turns-of}
+use Rattle.stage.specs.Stage.{Comes, written}
 
 -- "a bundle's segments are its collector and its spine"
 pub data SegmentOf (d : Drawn) (s : Segment) : Type 0 where
@@ -61,6 +68,12 @@ pub record StaysOut (b : Board) (edge : ℕ) (run : Segment) : Type 0 where
   pub straight : slanted (run .start) (run .end) ≡ false
   pub foreign : (j : ℕ) → j < length (b .nodes) → (j ≡ getD (b .edges) edge no-edge .source → ⊥) → (j ≡ getD (b .edges) edge no-edge .target → ⊥)
       → enters (run .start) (run .end) (getD (b .nodes) j no-node .body) ≡ false
+
+-- every number of the sheet is finite; the exact value of another would be 0
+pub record AllFinite (routes : List Route) (drawn : List Drawn) : Type 0 where
+  pub on-routes : (edge : ℕ) (p : Point) → List·Memᴰ p (route-at routes edge) → Finite p
+  pub of-bundles : (d : Drawn) → List·Memᴰ d drawn → (s : Segment) → SegmentOf d s → Finite (s .start) × Finite (s .end)
+  pub of-taps : (d : Drawn) → List·Memᴰ d drawn → (t : TapOn) → List·Memᴰ t (d .taps) → Finite (t .place)
 
 -- the first three sentences, of a sheet with these routes and bundles
 pub record NoFalseJoint (b : Board) (routes : List Route) (drawn : List Drawn) : Type 0 where
@@ -97,3 +110,44 @@ pub record AtRail (b : Board) (u : Bundle) (d : Drawn) (present : List Route) : 
 pub data BestPlace (b : Board) (given present : List Route) (u : Bundle) (d : Drawn) : Type 0 where
   at-best : (q : Fraction) → Allowed b given u q → ((p : Fraction) → Allowed b given u p → NoBetter (u .role) p q) → StandsAt d q → BestPlace b given present u d
   at-rail : ((q : Fraction) → Allowed b given u q → ⊥) → AtRail b u d present → BestPlace b given present u d
+
+-- ---- the statement
+
+-- what stands past the end of the table of bundles; nothing is read there
+abbrev pub no-bundle : Bundle
+no-bundle = record { id = 0; port = 0; role = Input; width = 0; first = 0; count = 0 }
+
+-- the flags are byte 5 of a job: bit 0 separates collectors of one role, bit 1 permits strict crossings
+abbrev pub separation-bit : List ℕ → ℕ
+separation-bit bytes = getD bytes 5 0 % 2
+
+abbrev pub crossing-bit : List ℕ → ℕ
+crossing-bit bytes = getD bytes 5 0 / 2 % 2
+
+-- the sheet as it stands before the turn of bundle k: "the routes present at that bundle's turn" are its routes
+abbrev pub before-turn : Job → Plan → ℕ → Outcome
+before-turn j p k = sheet-of (j .board) (j .flags .«permits_crossings») (take k (turns-of (j .board) (p .xs))) (blank (given-routes j) (j .grants .«geometry_visits»))
+
+-- bundle k of a job stands at its best place on this sheet
+pub record AtBestPlace (j : Job) (p : Plan) (u : Progress) (k : ℕ) : Type 0 where
+  pub before : Progress
+  pub is-before : before-turn j p k ≡ going before
+  pub stands : BestPlace (j .board) (given-routes j) (before .routes) (getD (j .board .bundles) k no-bundle) (getD (u .drawn) k no-drawn)
+
+-- what is kept where an answer is written and crossings are forbidden
+pub record Kept (bytes : List ℕ) (room : ℕ) : Type 0 where
+  -- "the sheet before the last shift is the one that the order above gives to normalize_layout; the sheet in the answer is what normalize_layout makes of it"
+  pub sheet : Sheet
+  pub is-written : written bytes room ≡ answer-bytes sheet
+  pub comes : Comes bytes sheet
+  -- a bundle of the sheet for each of the job's
+  pub each-drawn : length (comes .sheet-made .drawn) ≡ length (comes .said .board .bundles)
+  pub all-finite : AllFinite (comes .sheet-made .routes) (comes .sheet-made .drawn)
+  pub joints : NoFalseJoint (comes .said .board) (comes .sheet-made .routes) (comes .sheet-made .drawn)
+  -- "lane separation is off if bit 0 is clear", and the tap grant is sufficient: each bundle that shares no edge with the other role stands at its best place
+  pub places : separation-bit bytes ≡ 0 → due (comes .said .board) (given-routes (comes .said)) false ≤ comes .said .grants .«tap_visits»
+      → (k : ℕ) → k < length (comes .said .board .bundles) → Lone (comes .said .board) (getD (comes .said .board .bundles) k no-bundle) → AtBestPlace (comes .said) (comes .plan-made) (comes .sheet-made) k
+
+-- DEMAND 3. "Accepted: an answer with number 0 is written": more than the six bytes of a notice. "Crossings are forbidden if bit 1 is clear"
+abbrev pub Demand3 : List ℕ → ℕ → Type 0
+Demand3 bytes room = 6 < length (written bytes room) → crossing-bit bytes ≡ 0 → Kept bytes room

@@ -53,7 +53,7 @@ use Rattle.drawing.specs.Sheet as sheet
 use Rattle.drawing.specs.Assembly.{touched}
 use Rattle.drawing.specs.Promise.{Fresh, Accepted, accepted, no-drawn, no-turn}
 use Rattle.stage.specs.Order.{planned-x, turns-from, turns-of}
-use Rattle.stage.specs.Demand3.{Allowed, NoBetter, StandsAt, AtRail, BestPlace, at-best, at-rail}
+use Rattle.stage.specs.Demand3.{Allowed, NoBetter, StandsAt, AtRail, BestPlace, at-best, at-rail, no-bundle}
 
 -- ---- an x that a stretch holds exactly is one that the test finds
 
@@ -162,15 +162,12 @@ module _ (b : Board) (given : List Route) where
 
 -- ---- the turns
 
-abbrev pub no-bundle : Bundle
-no-bundle = record { id = 0; port = 0; role = Input; width = 0; first = 0; count = 0 }
-
 pub offsets-length : (b : Board) (us : List Bundle) (w : Used) → length (offsets-from b us w) ≡ length us
 unfolding offsets-from
 offsets-length b [] w = refl
 offsets-length b (u ∷ us) w = ap suc (offsets-length b us (used-after b u w))
 
-turns-length : (us : List Bundle) (xs : List Bound) (ds : List Float) → length xs ≡ length us → length ds ≡ length us → length (turns-from us xs ds) ≡ length us
+pub turns-length : (us : List Bundle) (xs : List Bound) (ds : List Float) → length xs ≡ length us → length ds ≡ length us → length (turns-from us xs ds) ≡ length us
 unfolding turns-from
 turns-length [] xs ds e f = refl
 turns-length (u ∷ us) [] ds e f = let z : _≡_ {A = ℕ} 0 1 = omega (arith, e) in absurd (omega arith)
