@@ -2,6 +2,7 @@ pub mod Depths
 pub mod Bounds
 pub mod Plan
 pub mod Through
+pub mod Alike
 pub mod Enough
 pub mod Visits
 pub mod Lone
