@@ -8,6 +8,7 @@ pub mod Visits
 pub mod Lone
 pub mod Numbers
 pub mod Planned
+pub mod Carried
 pub mod Placed
 pub mod Tables
 pub mod Stack
