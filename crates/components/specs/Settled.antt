@@ -12,7 +12,11 @@ use Rattle.plan.specs.declared.Ranges.{Ranges}
 use Rattle.plan.specs.declared.Planning.{Planning}
 use Rattle.plan.specs.Plan.{Ranged, of-role, largest, smallest, minimum-at, desired-at, maximum-at}
 use Rattle.plan.specs.Plan as plan
-use Rattle.plan.specs.Prepared.{Listing, passed, plan-in}
+use Rattle.geometry.specs.Points.{Route}
+use Rattle.board.specs.Board.{Board}
+use Rattle.plan.specs.Depths.{parting-pitch}
+use Rattle.plan.specs.declared.Reaches.{Reaches}
+use Rattle.plan.specs.Prepared.{Listing, AllTell, SameBundles, passed, plan-in}
 use Rattle.components.specs.declared.Places.{Places}
 use Rattle.components.specs.declared.Extent.{Extent}
 use Rattle.components.specs.declared.Step.{Step}
@@ -36,3 +40,9 @@ inputs-extent ranges i is = record { bound = largest (minimum-at ranges) (minimu
 
 abbrev pub outputs-extent : List Ranged → ℕ → List ℕ → Extent
 outputs-extent ranges i is = record { bound = smallest (maximum-at ranges) (maximum-at ranges i) is; desired = smallest (desired-at ranges) (desired-at ranges i) is }
+
+-- what was worked out about every bundle of the board, and the ranges of the first pass
+pub record Known (b : Board) (given : List Route) (points : List Float) (starts counts : List ℕ) (rail pitch : Float) (t : Reaches) (ranges : List Ranged) : Type 0 where
+  pub pitch-is : pitch ≡ parting-pitch b
+  pub told : AllTell b given points starts counts rail pitch t
+  pub same : SameBundles ranges t

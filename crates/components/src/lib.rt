@@ -11,9 +11,12 @@ ghost use lib.Ieee.{Float};
 ghost use Rattle.binary64.specs.Sign.{zero64};
 ghost use Rattle.search.specs.declared.Bounds.{Bounds};
 ghost use Rattle.plan.specs.declared.Bound.the-variants.{None, At};
-ghost use Rattle.plan.specs.Plan.{if-between, of-role, drop-all, input-split, exceeds, initial-x};
-ghost use Rattle.plan.specs.Prepared.{Listing, plan-in};
-ghost use Rattle.components.specs.Settled.{ranges-in, Chosen, inputs-extent, outputs-extent};
+ghost use Rattle.geometry.specs.Points.{Route};
+ghost use Rattle.board.specs.Board.{Board};
+ghost use Rattle.search.specs.Search.{search-of};
+ghost use Rattle.plan.specs.Plan.{Ranged, if-between, of-role, drop-all, input-split, exceeds, split, limited, outputs-last, initial-x};
+ghost use Rattle.plan.specs.Prepared.{Listing, Searchable, AllAmong, plan-in};
+ghost use Rattle.components.specs.Settled.{ranges-in, step-in, Chosen, inputs-extent, outputs-extent, Known};
 use geometry::Role;
 use plan::Bound;
 use plan::Planned;
@@ -175,6 +178,67 @@ fn input_split(pitch: f64, low: f64, limit: f64, deepest: f64, earliest: f64) ->
     plan::clamp(separate + (deepest - separate) / 2.0, low, limit - pitch)
 }
 
+// The inputs are split from the outputs if the deepest comes too near to the earliest.
+fn split(
+    points: &[f64],
+    starts: &[usize],
+    counts: &[usize],
+    rail: f64,
+    pitch: f64,
+    t: Reaches,
+    which: &[usize],
+    count: usize,
+    inputs: Extent,
+    outputs: Extent,
+    p: Planning,
+    xs: &mut [f64],
+    scratch: &mut [f64],
+) -> Step
+    requires { ⌜ Searchable (now points) (now starts) (now counts) (now xs) (now scratch) ⌝ }
+    requires { ⌜ AllAmong (now starts) t ⌝ }
+    requires { ⌜ Listing (now which) count (t .count) ⌝ }
+    ensures { λ r. ⌜ ((b : Board) (given : List Route) (ranges : List Ranged) → Known b given (now (points .entry)) (now (starts .entry)) (now (counts .entry)) rail pitch t ranges → step-in (t .count) r ≡ split search-of b given ranges (inputs .bound) (outputs .bound) (inputs .desired) (outputs .desired) (take count (now (which .entry))) (plan-in (t .count) p)) ⌝ }
+{
+    if inputs.desired + pitch > outputs.desired {
+        if inputs.bound > outputs.bound - pitch {
+            return Step {
+                refused: true,
+                plan: p,
+            };
+        }
+        let x = input_split(
+            pitch,
+            inputs.bound,
+            outputs.bound,
+            inputs.desired,
+            outputs.desired,
+        );
+        let q = plan::search_again(
+            points,
+            starts,
+            counts,
+            rail,
+            pitch,
+            t,
+            which,
+            count,
+            Bound::None,
+            Upper::Fixed(x),
+            p,
+            &mut xs[..],
+            &mut scratch[..],
+        );
+        return Step {
+            refused: false,
+            plan: q,
+        };
+    }
+    Step {
+        refused: false,
+        plan: p,
+    }
+}
+
 fn exceeds(r: Bound, limit: f64) -> bool
     ensures { λ s. ⌜ s ≡ exceeds r limit ⌝ }
 {
@@ -182,6 +246,96 @@ fn exceeds(r: Bound, limit: f64) -> bool
         Bound::None => false,
         Bound::At(x) => x > limit,
     }
+}
+
+// The inputs are held below the outputs' limit if what they ask lies above it.
+fn limited(
+    points: &[f64],
+    starts: &[usize],
+    counts: &[usize],
+    rail: f64,
+    pitch: f64,
+    t: Reaches,
+    which: &[usize],
+    count: usize,
+    limit: f64,
+    p: Planning,
+    xs: &mut [f64],
+    scratch: &mut [f64],
+) -> Planning
+    requires { ⌜ Searchable (now points) (now starts) (now counts) (now xs) (now scratch) ⌝ }
+    requires { ⌜ AllAmong (now starts) t ⌝ }
+    requires { ⌜ Listing (now which) count (t .count) ⌝ }
+    ensures { λ r. ⌜ ((b : Board) (given : List Route) (ranges : List Ranged) → Known b given (now (points .entry)) (now (starts .entry)) (now (counts .entry)) rail pitch t ranges → plan-in (t .count) r ≡ limited search-of b given ranges limit (take count (now (which .entry))) (plan-in (t .count) p)) ⌝ }
+{
+    let r = plan::required_output_collector_x(points, starts, counts, pitch, t, which, count, p);
+    if exceeds(r, limit) {
+        return plan::search_again(
+            points,
+            starts,
+            counts,
+            rail,
+            pitch,
+            t,
+            which,
+            count,
+            Bound::None,
+            Upper::Below(limit),
+            p,
+            &mut xs[..],
+            &mut scratch[..],
+        );
+    }
+    p
+}
+
+// The outputs keep clear of what the inputs ask.
+fn outputs_last(
+    points: &[f64],
+    starts: &[usize],
+    counts: &[usize],
+    rail: f64,
+    pitch: f64,
+    t: Reaches,
+    inputs: &[usize],
+    input_count: usize,
+    outputs: &[usize],
+    output_count: usize,
+    p: Planning,
+    xs: &mut [f64],
+    scratch: &mut [f64],
+) -> Planning
+    requires { ⌜ Searchable (now points) (now starts) (now counts) (now xs) (now scratch) ⌝ }
+    requires { ⌜ AllAmong (now starts) t ⌝ }
+    requires { ⌜ Listing (now inputs) «input_count» (t .count) ⌝ }
+    requires { ⌜ Listing (now outputs) «output_count» (t .count) ⌝ }
+    ensures { λ r. ⌜ ((b : Board) (given : List Route) (ranges : List Ranged) → Known b given (now (points .entry)) (now (starts .entry)) (now (counts .entry)) rail pitch t ranges → plan-in (t .count) r ≡ outputs-last search-of b given ranges (take «input_count» (now (inputs .entry))) (take «output_count» (now (outputs .entry))) (plan-in (t .count) p)) ⌝ }
+{
+    let r = plan::required_output_collector_x(
+        points,
+        starts,
+        counts,
+        pitch,
+        t,
+        inputs,
+        input_count,
+        p,
+    );
+    plan::search_again(
+        points,
+        starts,
+        counts,
+        rail,
+        pitch,
+        t,
+        outputs,
+        output_count,
+        r,
+        Upper::Never,
+        p,
+        &mut xs[..],
+        &mut scratch[..],
+    )
 }
 
 // ---- every component
