@@ -9,16 +9,15 @@ use lib.ListN.{length, getD, take, drop, set, replicate, length-map, drop-of-len
 use lib.Seq.{getD-take, drop-cons, take-set-lt}
 use Rattle.geometry.specs.Points.{Route}
 use Rattle.board.specs.Board.{Board}
-use Rattle.search.specs.declared.CollectorBounds.{CollectorBounds}
 use Rattle.search.specs.Search.{search-of}
 use Rattle.plan.specs.declared.Ranges.{Ranges}
-use Rattle.plan.specs.Plan.{Ranged, no-ranged, ranged-at, found?, Walk, push-all, Component, walk, joined, near-from, near, component-of, indices-from, Plan, Step, going, refused, then, treated, components}
-use Rattle.plan.specs.Prepared.{range-at, ranged-from, TabledTo}
+use Rattle.plan.specs.Plan.{Ranged, no-ranged, ranged-at, found?, Walk, push-all, Component, walk, joined, near-from, near, component-of, indices-from, Plan, Step, going, refused, then, treated, components, initial-x}
+use Rattle.plan.specs.Prepared.{Listing, range-at, ranged-from, passed, TabledTo}
 use Rattle.plan.specs.Stack.{row-from, row-of}
 use Rattle.plan.proofs.Rows.{length-part}
 use Rattle.plan.proofs.Walks.{Below, near-below, was-new, was-old}
-use Rattle.components.specs.Settled.{ranges-in, Neighboured, AllEdges}
-use Rattle.components.proofs.Turns.{range-read}
+use Rattle.components.specs.Settled.{ranges-in, Neighboured, AllEdges, settled}
+use Rattle.components.proofs.Turns.{range-read, below-listing}
 
 pub ranges-length : (n : ℕ) (t : Ranges) → n ≤ length (t .rows) → length (ranges-in n t) ≡ n
 ranges-length n t h = length-map (take n (t .rows)) ranged-from ∙ length-part (t .rows) n h
@@ -58,13 +57,18 @@ tabled-near b given edges t n a few all known = record { rows-are = are }
 
 -- ---- the walk
 module _ (a : List Bool) (n : ℕ) where
-  pub walk-below : (k : ℕ) (seen : List Bool) (pending : List ℕ) → Below n pending → Below n (walk (row-of a n) k seen pending .order)
+  walk-below : (k : ℕ) (seen : List Bool) (pending : List ℕ) → Below n pending → Below n (walk (row-of a n) k seen pending .order)
   unfolding walk
   walk-below zero seen pending e = tt
   walk-below (suc k) seen [] e = tt
   walk-below (suc k) seen (i ∷ pending) e =
       let w : Walk = push-all (row-of a n i) (record { seen = seen; pending = pending }) in
       (e .0, walk-below k (w .seen) (w .pending) (near-below a i n (record { seen = seen; pending = pending }) (e .1)))
+
+  -- the order of a component is a list of bundles
+  pub component-listed : (i count : ℕ) (order : List ℕ) (seen marks : List Bool) → i < n → count ≤ length order
+      → _≡_ {A = Component} (record { order = take count order; seen = marks }) (walk (row-of a n) n seen (i ∷ [])) → Listing order count n
+  component-listed i count order seen marks h k e = below-listing order count n k (subst (λ (c : Component). Below n (c .order)) (sym e) (walk-below n seen (i ∷ []) (h, tt)))
 
   module _ (at : ℕ → List ℕ) (same : (i : ℕ) → i < n → row-of a n i ≡ at i) where
     walk-same : (k : ℕ) (seen : List Bool) (pending : List ℕ) → Below n pending → walk (row-of a n) k seen pending ≡ walk at k seen pending
@@ -157,3 +161,11 @@ pub none-seen : (n k : ℕ) → n ≤ k → take n (replicate k false) ≡ repli
 none-seen zero k h = refl
 none-seen (suc n) zero h = absurd (omega arith)
 none-seen (suc n) (suc k) h = ap (λ (l : List Bool). false ∷ l) (none-seen n k (omega arith))
+
+-- the plan after the first pass
+pub settled-is : (b : Board) (given : List Route) (t : Ranges) (n : ℕ) (p : Plan) (s : Step) → n ≤ length (t .rows) → p ≡ record { xs = map initial-x (ranges-in n t); left = t .left .0 }
+    → s ≡ components search-of b given (ranges-in n t) (indices-from 0 (ranges-in n t)) (replicate n false) p → s ≡ settled b given (passed n t)
+settled-is b given t n p s h ep es =
+    es
+    ∙ ap (λ (m : ℕ). components search-of b given (ranges-in n t) (indices-from 0 (ranges-in n t)) (replicate m false) p) (sym (ranges-length n t h))
+    ∙ ap (λ (z : Plan). components search-of b given (ranges-in n t) (indices-from 0 (ranges-in n t)) (replicate (length (ranges-in n t)) false) z) ep

@@ -2,14 +2,12 @@
 -- Assumes nothing.
 use mathlib.Core.Path.{_≡_}
 use mathlib.Core.Bool.{Bool, false, cond}
-use mathlib.Core.List.{List, [], _∷_, map}
-use Prim.Native.Nat.{ℕ, _≤_, _<_}
+use mathlib.Core.List.{List, map}
+use Prim.Native.Nat.{ℕ, _<_}
 use lib.ListN.{length, take, replicate}
 use lib.Ieee.{Float}
 use Rattle.geometry.specs.declared.Role.{Role}
-use Rattle.plan.specs.declared.Range.{Range}
 use Rattle.plan.specs.declared.Ranges.{Ranges}
-use Rattle.plan.specs.declared.Planning.{Planning}
 use Rattle.plan.specs.Plan.{Ranged, FirstPass, near, indices-from, components, initial-x, of-role, largest, smallest, minimum-at, desired-at, maximum-at}
 use Rattle.plan.specs.Plan as plan
 use Rattle.geometry.specs.Points.{Route}

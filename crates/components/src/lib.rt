@@ -4,25 +4,23 @@
 // Ported from cachanova/schemweave, commit c4a1a2c60a, crates/schemweave/src/boundary_bundles.rs
 // (Apache-2.0, see NOTICE): plan_interior_collectors, without its separation.
 ghost use mathlib.Core.Path.{_≡_};
-ghost use mathlib.Core.List.{List, [], _∷_, map};
+ghost use mathlib.Core.List.{List, map};
 ghost use Prim.Native.Nat.{ℕ, _+_, _≤_, _<_};
 ghost use mathlib.Core.Bool.{false};
 ghost use lib.ListN.{getD, take, drop, replicate};
-ghost use lib.Ieee.{Float};
 ghost use Rattle.binary64.specs.Sign.{zero64};
 ghost use Rattle.search.specs.declared.Bounds.{Bounds};
 ghost use Rattle.plan.specs.declared.Bound.the-variants.{None, At};
 ghost use Rattle.geometry.specs.Points.{Route};
 ghost use Rattle.board.specs.Board.{Board};
 ghost use Rattle.search.specs.Search.{search-of};
-ghost use Rattle.plan.specs.Plan.{Ranged, if-between, of-role, drop-all, input-split, exceeds, split, limited, outputs-last, settle, treated, indices-from, components, initial-x};
+ghost use Rattle.plan.specs.Plan.{Ranged, if-between, drop-all, input-split, exceeds, split, limited, outputs-last, settle, treated, indices-from, components, initial-x};
 ghost use Rattle.plan.specs.Prepared.{Listing, Searchable, AllAmong, RangesAmong, passed, plan-in};
 ghost use Rattle.components.specs.Settled.{ranges-in, step-in, Chosen, inputs-extent, outputs-extent, Known, Neighboured, AllEdges, settled};
 use geometry::Role;
 use plan::Bound;
 use plan::Planned;
 use plan::Planning;
-use plan::Range;
 use plan::Ranges;
 use plan::Reaches;
 use plan::Upper;
@@ -503,13 +501,13 @@ fn initial(t: Ranges, n: usize) -> Planning
     ensures { λ r. ⌜ plan-in n r ≡ record { xs = map initial-x (ranges-in n t); left = t .left .0 } ⌝ }
 {
     let mut rows = [Planned { x: Bound::None }; 32];
-    let mut i: usize = 0;
-    while i < n {
-        let s = t.rows[i];
+    let mut at: usize = 0;
+    while at < n {
+        let s = t.rows[at];
         let b = s.bounds;
         let x = initial_x(b);
-        rows[i] = Planned { x: x };
-        i += 1;
+        rows[at] = Planned { x: x };
+        at += 1;
     }
     let left = t.left;
     Planning {

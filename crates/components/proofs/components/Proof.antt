@@ -1,19 +1,18 @@
 -- `components::components` meets its contract. Assumes nothing.
-use mathlib.Core.Path.{_≡_, refl, sym, _∙_, ap, subst}
+use mathlib.Core.Path.{_≡_, refl, _∙_, ap}
 use mathlib.Core.Bool.{Bool, true, false}
-use mathlib.Core.List.{List, [], _∷_}
+use mathlib.Core.List.{List, _∷_}
 use Prim.Native.Nat.{ℕ, _+_, _-_, _≤_, _<_}
 use native.Mathlib.Omega.{arith}
 use borrow.Author.Needs.{needs}
-use lib.ListN.{length, getD, take, drop, set, replicate}
+use lib.ListN.{length, take, drop, set, replicate}
 use Rattle.geometry.specs.Points.{Route}
 use Rattle.board.specs.Board.{Board}
 use Rattle.search.specs.Search.{search-of}
-use Rattle.plan.specs.Plan.{Ranged, ranged-at, Component, Step, found?, treated, indices-from, components, walk}
-use Rattle.plan.specs.Prepared.{Listing, range-at, plan-in}
-use Rattle.plan.specs.Stack.{row-of, component-from}
+use Rattle.plan.specs.Plan.{Ranged, ranged-at, found?, indices-from, components}
+use Rattle.plan.specs.Prepared.{range-at, plan-in}
+use Rattle.plan.specs.Stack.{component-from}
 use Rattle.plan.proofs.Rows as rows
-use Rattle.plan.proofs.Walks.{Below}
 use Rattle.components.specs.Settled.{ranges-in, step-in, Known, Neighboured}
 use Rattle.components.proofs.Turns as turns
 use Rattle.components.proofs.Settles as settles
@@ -87,10 +86,9 @@ treat-requires c κs =
     let w = c .before .before .before .before .before .component in
     let p = s .pre .0 in
     let k : length (w .result .order) ≡ 32 = search (needs, rows.length-mapped) in
-    let below = laws.walk-below (a .adjacent .now) n n (take n (set (l .seen) (l .i) true)) (l .i ∷ []) (c .before .before .before .before .before .before .before .before .before .before .loop-test .taken, tt) in
     let few : w .result .count ≤ 32 = omega (arith, w .ensures .0, s .pre .1 .bundles-few) in (
       record { paired = p .paired; windows = p .windows; room = omega (arith, p .room, l .inv .2); scratch-room = omega (arith, p .scratch-room, l .inv .2, l .inv .3) },
-      (s .pre .1, (few, turns.below-listing (w .result .order) (w .result .count) n (omega (arith, few, k)) (subst (Below n) (sym (ap (λ (z : Component). z .order) (w .ensures .1))) below))),
+      (s .pre .1, (few, laws.component-listed (a .adjacent .now) n (l .i) (w .result .count) (w .result .order) (take n (set (l .seen) (l .i) true)) (take n (w .result .seen)) (c .before .before .before .before .before .before .before .before .before .before .loop-test .taken) (omega (arith, few, k)) (w .ensures .1))),
     )
 
 same-length : tie.Need-same-length Inv-loop μ-loop

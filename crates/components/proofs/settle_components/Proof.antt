@@ -1,17 +1,13 @@
 -- `components::settle_components` meets its contract. Assumes nothing.
-use mathlib.Core.Path.{_≡_, sym, _∙_, ap}
-use mathlib.Core.Bool.{false}
-use Prim.Native.Nat.{ℕ, _≤_}
+use mathlib.Core.Path.{_≡_}
+use Prim.Native.Nat.{_≤_}
 use native.Mathlib.Omega.{arith}
 use borrow.Author.Needs.{needs}
-use lib.ListN.{length, replicate}
-use Rattle.geometry.specs.Points.{Route}
-use Rattle.board.specs.Board.{Board}
-use Rattle.search.specs.Search.{search-of}
-use Rattle.plan.specs.Plan.{Plan, indices-from, components}
+use lib.ListN.{length}
+use Rattle.plan.specs.Plan.{components}
 use Rattle.plan.specs.Prepared.{plan-in}
 use Rattle.plan.proofs.Rows as rows
-use Rattle.components.specs.Settled.{ranges-in}
+use Rattle.components.specs.Settled.{step-in}
 use Rattle.components.proofs.Joins as laws
 use Rattle.components.proofs.settle_components.Statement.{statement}
 use Rattle.components.proofs.settle_components.Tie as tie
@@ -42,9 +38,8 @@ returns c =
     let q = c .before .before .before .before .before .before .before .before .before .before .adjacency in
     let i = c .before .before .before .before .before .before .before .before .initial in
     λ b given k e.
-    c .before .before .before .before .components .ensures b given k (laws.tabled-near b given (a .edges .now) (a .ranges) n (q .result .rows) (few s) e (q .ensures b given))
-    ∙ ap (λ (m : ℕ). components search-of b given (ranges-in n (a .ranges)) (indices-from 0 (ranges-in n (a .ranges))) (replicate m false) (plan-in n (i .result))) (sym (laws.ranges-length n (a .ranges) (few s)))
-    ∙ ap (λ (p : Plan). components search-of b given (ranges-in n (a .ranges)) (indices-from 0 (ranges-in n (a .ranges))) (replicate (length (ranges-in n (a .ranges))) false) p) (i .ensures)
+    laws.settled-is b given (a .ranges) n (plan-in n (i .result)) (step-in n (c .before .before .before .before .components .result)) (few s) (i .ensures)
+    (c .before .before .before .before .components .ensures b given k (laws.tabled-near b given (a .edges .now) (a .ranges) n (q .result .rows) (few s) e (q .ensures b given)))
 
 pub settle-components-spec : {M : Type 1} → statement M
 settle-components-spec =

@@ -1,10 +1,8 @@
 -- `components::treat` meets its contract. Assumes nothing.
-use mathlib.Core.Path.{_≡_, refl, sym, _∙_, ap}
-use Prim.Native.Nat.{ℕ, _+_, _≤_, _<_}
+use Prim.Native.Nat.{_<_}
 use native.Mathlib.Omega.{arith}
 use borrow.Author.Needs.{needs}
-use lib.ListN.{length, getD, take, drop}
-use mathlib.Core.List.{List}
+use lib.ListN.{getD, take, drop}
 use Rattle.plan.specs.Prepared.{plan-in}
 use Rattle.plan.proofs.Rows as rows
 use Rattle.components.specs.Settled.{step-in, ranges-in}
@@ -29,7 +27,7 @@ returns c =
     let i = c .before .before .before .before .before .of-role in
     λ b given k.
     laws.treat-no-inputs b given (ranges-in (a .t .count) (a .ranges)) (take (a .count) (a .order .now)) (plan-in (a .t .count) (a .p))
-    (sym (i .ensures (a .t .count) (s .pre .1 .1 .1) .are) ∙ ap (λ (j : ℕ). take j (i .result .rows)) (c .if1 .taken))
+    (i .result .rows) (i .result .count) (i .ensures (a .t .count) (s .pre .1 .1 .1) .are) (c .if1 .taken)
 
 returns-2 : tie.Need-returns-2
 returns-2 c =
@@ -38,7 +36,7 @@ returns-2 c =
     let o = c .before .before .before .before .before .before .of-role2 in
     λ b given k.
     laws.treat-no-outputs b given (ranges-in (a .t .count) (a .ranges)) (take (a .count) (a .order .now)) (plan-in (a .t .count) (a .p))
-    (sym (o .ensures (a .t .count) (s .pre .1 .1 .1) .are) ∙ ap (λ (j : ℕ). take j (o .result .rows)) (c .if2 .taken))
+    (o .result .rows) (o .result .count) (o .ensures (a .t .count) (s .pre .1 .1 .1) .are) (c .if2 .taken)
 
 slice-aggregate-inputs-extent : tie.Need-slice-aggregate-inputs-extent
 slice-aggregate-inputs-extent c = search needs
