@@ -1,2 +1,3 @@
 pub mod Turns
 pub mod Settles
+pub mod Joins

@@ -1,11 +1,11 @@
 -- The turns of the loops over lists of bundles: those of a role, how far they go, those given up, the x of the first pass.
 -- Assumes nothing.
-use mathlib.Core.Path.{_≡_, refl, sym, _∙_, ap, subst}
+use mathlib.Core.Path.{_≡_, sym, _∙_, ap}
 use mathlib.Core.Bool.{Bool, true, false, cond}
 use mathlib.Core.List.{List, [], _∷_, _++_, map, map-append, append-assoc, append-nil}
 use Prim.Native.Nat.{ℕ, zero, suc, _+_, _≤_, _<_}
 use native.Mathlib.Omega.{arith}
-use lib.ListN.{length, getD, take, drop, set, List·getD-map}
+use lib.ListN.{length, getD, take, set, List·getD-map}
 use lib.Seq.{getD-take, take-suc, take-suc-set}
 use lib.Ieee.{Float}
 use Rattle.binary64.specs.Order.{least, greatest}

@@ -1,22 +1,22 @@
 -- What the functions over components hand to one another, told in the words of the plan's definitions. What their contracts say; no reader of the plan needs it. Definitions only.
 -- Assumes nothing.
 use mathlib.Core.Path.{_≡_}
-use mathlib.Core.Bool.{Bool, cond}
-use mathlib.Core.List.{List, [], _∷_, map}
-use Prim.Native.Nat.{ℕ, _≤_, _<_}
-use lib.ListN.{take}
+use mathlib.Core.Bool.{Bool, false, cond}
+use mathlib.Core.List.{List, map}
+use Prim.Native.Nat.{ℕ, _<_}
+use lib.ListN.{length, take, replicate}
 use lib.Ieee.{Float}
 use Rattle.geometry.specs.declared.Role.{Role}
-use Rattle.plan.specs.declared.Range.{Range}
 use Rattle.plan.specs.declared.Ranges.{Ranges}
-use Rattle.plan.specs.declared.Planning.{Planning}
-use Rattle.plan.specs.Plan.{Ranged, of-role, largest, smallest, minimum-at, desired-at, maximum-at}
+use Rattle.plan.specs.Plan.{Ranged, FirstPass, near, indices-from, components, initial-x, of-role, largest, smallest, minimum-at, desired-at, maximum-at}
 use Rattle.plan.specs.Plan as plan
 use Rattle.geometry.specs.Points.{Route}
 use Rattle.board.specs.Board.{Board}
 use Rattle.plan.specs.Depths.{parting-pitch}
 use Rattle.plan.specs.declared.Reaches.{Reaches}
-use Rattle.plan.specs.Prepared.{Listing, AllTell, SameBundles, passed, plan-in}
+use Rattle.plan.specs.Prepared.{Listing, AllTell, SameBundles, EdgesOf, range-at, passed, plan-in}
+use Rattle.plan.specs.Stack.{row-of}
+use Rattle.search.specs.Search.{search-of}
 use Rattle.components.specs.declared.Places.{Places}
 use Rattle.components.specs.declared.Extent.{Extent}
 use Rattle.components.specs.declared.Step.{Step}
@@ -46,3 +46,16 @@ pub record Known (b : Board) (given : List Route) (points : List Float) (starts 
   pub pitch-is : pitch ≡ parting-pitch b
   pub told : AllTell b given points starts counts rail pitch t
   pub same : SameBundles ranges t
+
+-- rows of the table of neighbours
+pub record Neighboured (b : Board) (given : List Route) (ranges : List Ranged) (n : ℕ) (a : List Bool) : Type 0 where
+  pub rows-are : (i : ℕ) → i < n → row-of a n i ≡ near b given ranges i
+
+-- the edges of every bundle's members
+pub record AllEdges (b : Board) (edges : List ℕ) (t : Ranges) (n : ℕ) : Type 0 where
+  pub each : (i : ℕ) → i < n → EdgesOf b edges (range-at t i .bundle)
+
+-- the plan after the first pass, before the separation: the first part of plan-from
+abbrev pub settled : Board → List Route → FirstPass → plan.Step
+settled b given s =
+    components search-of b given (s .ranges) (indices-from 0 (s .ranges)) (replicate (length (s .ranges)) false) (record { xs = map initial-x (s .ranges); left = s .left })

@@ -4,24 +4,23 @@
 // Ported from cachanova/schemweave, commit c4a1a2c60a, crates/schemweave/src/boundary_bundles.rs
 // (Apache-2.0, see NOTICE): plan_interior_collectors, without its separation.
 ghost use mathlib.Core.Path.{_≡_};
-ghost use mathlib.Core.List.{List, [], _∷_, map};
+ghost use mathlib.Core.List.{List, map};
 ghost use Prim.Native.Nat.{ℕ, _+_, _≤_, _<_};
-ghost use lib.ListN.{length, getD, take, drop};
-ghost use lib.Ieee.{Float};
+ghost use mathlib.Core.Bool.{false};
+ghost use lib.ListN.{getD, take, drop, replicate};
 ghost use Rattle.binary64.specs.Sign.{zero64};
 ghost use Rattle.search.specs.declared.Bounds.{Bounds};
 ghost use Rattle.plan.specs.declared.Bound.the-variants.{None, At};
 ghost use Rattle.geometry.specs.Points.{Route};
 ghost use Rattle.board.specs.Board.{Board};
 ghost use Rattle.search.specs.Search.{search-of};
-ghost use Rattle.plan.specs.Plan.{Ranged, if-between, of-role, drop-all, input-split, exceeds, split, limited, outputs-last, initial-x};
-ghost use Rattle.plan.specs.Prepared.{Listing, Searchable, AllAmong, plan-in};
-ghost use Rattle.components.specs.Settled.{ranges-in, step-in, Chosen, inputs-extent, outputs-extent, Known};
+ghost use Rattle.plan.specs.Plan.{Ranged, if-between, drop-all, input-split, exceeds, split, limited, outputs-last, settle, treated, indices-from, components, initial-x};
+ghost use Rattle.plan.specs.Prepared.{Listing, Searchable, AllAmong, RangesAmong, passed, plan-in};
+ghost use Rattle.components.specs.Settled.{ranges-in, step-in, Chosen, inputs-extent, outputs-extent, Known, Neighboured, AllEdges, settled};
 use geometry::Role;
 use plan::Bound;
 use plan::Planned;
 use plan::Planning;
-use plan::Range;
 use plan::Ranges;
 use plan::Reaches;
 use plan::Upper;
@@ -338,6 +337,152 @@ fn outputs_last(
     )
 }
 
+// Inputs and outputs with these extents.
+fn settle(
+    points: &[f64],
+    starts: &[usize],
+    counts: &[usize],
+    rail: f64,
+    pitch: f64,
+    t: Reaches,
+    order: &[usize],
+    order_count: usize,
+    inputs: &[usize],
+    input_count: usize,
+    outputs: &[usize],
+    output_count: usize,
+    near: Extent,
+    far: Extent,
+    p: Planning,
+    xs: &mut [f64],
+    scratch: &mut [f64],
+) -> Step
+    requires { ⌜ Searchable (now points) (now starts) (now counts) (now xs) (now scratch) ⌝ }
+    requires { ⌜ AllAmong (now starts) t ⌝ }
+    requires { ⌜ Listing (now order) «order_count» (t .count) ⌝ }
+    requires { ⌜ Listing (now inputs) «input_count» (t .count) ⌝ }
+    requires { ⌜ Listing (now outputs) «output_count» (t .count) ⌝ }
+    ensures { λ r. ⌜ ((b : Board) (given : List Route) (ranges : List Ranged) → Known b given (now (points .entry)) (now (starts .entry)) (now (counts .entry)) rail pitch t ranges → step-in (t .count) r ≡ settle search-of b given ranges (take «order_count» (now (order .entry))) (near .bound) (far .bound) (near .desired) (far .desired) (take «input_count» (now (inputs .entry))) (take «output_count» (now (outputs .entry))) (plan-in (t .count) p)) ⌝ }
+{
+    if near.bound + pitch > far.bound {
+        let dropped = drop_all(order, order_count, p);
+        return Step {
+            refused: false,
+            plan: dropped,
+        };
+    }
+    let s = split(
+        points,
+        starts,
+        counts,
+        rail,
+        pitch,
+        t,
+        inputs,
+        input_count,
+        near,
+        far,
+        p,
+        &mut xs[..],
+        &mut scratch[..],
+    );
+    if s.refused {
+        return s;
+    }
+    let q = limited(
+        points,
+        starts,
+        counts,
+        rail,
+        pitch,
+        t,
+        inputs,
+        input_count,
+        far.bound,
+        s.plan,
+        &mut xs[..],
+        &mut scratch[..],
+    );
+    let last = outputs_last(
+        points,
+        starts,
+        counts,
+        rail,
+        pitch,
+        t,
+        inputs,
+        input_count,
+        outputs,
+        output_count,
+        q,
+        &mut xs[..],
+        &mut scratch[..],
+    );
+    Step {
+        refused: false,
+        plan: last,
+    }
+}
+
+// A component of one role only is left as it is.
+fn treat(
+    points: &[f64],
+    starts: &[usize],
+    counts: &[usize],
+    rail: f64,
+    pitch: f64,
+    t: Reaches,
+    ranges: Ranges,
+    order: &[usize],
+    count: usize,
+    p: Planning,
+    xs: &mut [f64],
+    scratch: &mut [f64],
+) -> Step
+    requires { ⌜ Searchable (now points) (now starts) (now counts) (now xs) (now scratch) ⌝ }
+    requires { ⌜ AllAmong (now starts) t ⌝ }
+    requires { ⌜ (count ≤ 32) × Listing (now order) count (t .count) ⌝ }
+    ensures { λ r. ⌜ ((b : Board) (given : List Route) → Known b given (now (points .entry)) (now (starts .entry)) (now (counts .entry)) rail pitch t (ranges-in (t .count) ranges) → step-in (t .count) r ≡ treated search-of b given (ranges-in (t .count) ranges) (take count (now (order .entry))) (plan-in (t .count) p)) ⌝ }
+{
+    let i = of_role(Role::Input, ranges, order, count);
+    let o = of_role(Role::Output, ranges, order, count);
+    let inputs = i.rows;
+    let outputs = o.rows;
+    if i.count == 0 {
+        return Step {
+            refused: false,
+            plan: p,
+        };
+    }
+    if o.count == 0 {
+        return Step {
+            refused: false,
+            plan: p,
+        };
+    }
+    let near = inputs_extent(ranges, &inputs[..], i.count);
+    let far = outputs_extent(ranges, &outputs[..], o.count);
+    settle(
+        points,
+        starts,
+        counts,
+        rail,
+        pitch,
+        t,
+        order,
+        count,
+        &inputs[..],
+        i.count,
+        &outputs[..],
+        o.count,
+        near,
+        far,
+        p,
+        &mut xs[..],
+        &mut scratch[..],
+    )
+}
+
 // ---- every component
 
 // The x that the first search found.
@@ -356,17 +501,113 @@ fn initial(t: Ranges, n: usize) -> Planning
     ensures { λ r. ⌜ plan-in n r ≡ record { xs = map initial-x (ranges-in n t); left = t .left .0 } ⌝ }
 {
     let mut rows = [Planned { x: Bound::None }; 32];
-    let mut i: usize = 0;
-    while i < n {
-        let s = t.rows[i];
+    let mut at: usize = 0;
+    while at < n {
+        let s = t.rows[at];
         let b = s.bounds;
         let x = initial_x(b);
-        rows[i] = Planned { x: x };
-        i += 1;
+        rows[at] = Planned { x: x };
+        at += 1;
     }
     let left = t.left;
     Planning {
         rows: rows,
         left: left,
     }
+}
+
+// Each bundle that found an x and is in no component yet starts one.
+fn components(
+    points: &[f64],
+    starts: &[usize],
+    counts: &[usize],
+    adjacent: &[bool; 1024],
+    rail: f64,
+    pitch: f64,
+    t: Reaches,
+    ranges: Ranges,
+    before: Planning,
+    xs: &mut [f64],
+    scratch: &mut [f64],
+) -> Step
+    requires { ⌜ Searchable (now points) (now starts) (now counts) (now xs) (now scratch) ⌝ }
+    requires { ⌜ AllAmong (now starts) t ⌝ }
+    ensures { λ r. ⌜ ((b : Board) (given : List Route) → Known b given (now (points .entry)) (now (starts .entry)) (now (counts .entry)) rail pitch t (ranges-in (t .count) ranges) → Neighboured b given (ranges-in (t .count) ranges) (t .count) (now (adjacent .entry)) → step-in (t .count) r ≡ components search-of b given (ranges-in (t .count) ranges) (indices-from 0 (ranges-in (t .count) ranges)) (replicate (t .count) false) (plan-in (t .count) before)) ⌝ }
+{
+    let n = t.count;
+    let mut seen = [false; 32];
+    let mut p = before;
+    let mut i: usize = 0;
+    while i < n {
+        let at = i;
+        i += 1;
+        let s = ranges.rows[at];
+        let b = s.bounds;
+        if !seen[at] {
+            if plan::is_found(b) {
+                let w = plan::component(adjacent, n, at, seen);
+                let order = w.order;
+                seen = w.seen;
+                let step = treat(
+                    points,
+                    starts,
+                    counts,
+                    rail,
+                    pitch,
+                    t,
+                    ranges,
+                    &order[..],
+                    w.count,
+                    p,
+                    &mut xs[..],
+                    &mut scratch[..],
+                );
+                if step.refused {
+                    return step;
+                }
+                p = step.plan;
+            }
+        }
+    }
+    Step {
+        refused: false,
+        plan: p,
+    }
+}
+
+// The plan after the first pass, component after component.
+pub fn settle_components(
+    points: &[f64],
+    starts: &[usize],
+    counts: &[usize],
+    edges: &[usize],
+    rail: f64,
+    pitch: f64,
+    t: Reaches,
+    ranges: Ranges,
+    xs: &mut [f64],
+    scratch: &mut [f64],
+) -> Step
+    requires { ⌜ Searchable (now points) (now starts) (now counts) (now xs) (now scratch) ⌝ }
+    requires { ⌜ AllAmong (now starts) t ⌝ }
+    requires { ⌜ RangesAmong (now edges) ranges (t .count) ⌝ }
+    ensures { λ r. ⌜ ((b : Board) (given : List Route) → Known b given (now (points .entry)) (now (starts .entry)) (now (counts .entry)) rail pitch t (ranges-in (t .count) ranges) → AllEdges b (now (edges .entry)) ranges (t .count) → step-in (t .count) r ≡ settled b given (passed (t .count) ranges)) ⌝ }
+{
+    let n = t.count;
+    let a = plan::adjacency(edges, ranges, n);
+    let adjacent = a.rows;
+    let p = initial(ranges, n);
+    components(
+        points,
+        starts,
+        counts,
+        &adjacent,
+        rail,
+        pitch,
+        t,
+        ranges,
+        p,
+        &mut xs[..],
+        &mut scratch[..],
+    )
 }

@@ -1,13 +1,13 @@
 -- `components::drop_all` meets its contract. Assumes nothing.
-use mathlib.Core.Path.{_≡_, refl, sym, _∙_, ap}
+use mathlib.Core.Path.{_≡_, refl, _∙_, ap}
 use mathlib.Core.List.{List, map}
-use Prim.Native.Nat.{ℕ, _+_, _-_, _≤_, _<_}
+use Prim.Native.Nat.{ℕ, _-_, _≤_}
 use native.Mathlib.Omega.{arith}
 use borrow.Author.Needs.{needs}
 use lib.ListN.{length, getD, take, drop, length-set}
 use Rattle.plan.specs.declared.Bound.{Bound}
 use Rattle.plan.specs.declared.Bound.the-variants.{None}
-use Rattle.plan.specs.Plan.{Plan, drop-all}
+use Rattle.plan.specs.Plan.{drop-all}
 use Rattle.plan.specs.Prepared.{Listing, x-of}
 use Rattle.plan.proofs.Rows as rows
 use Rattle.plan.proofs.Agains as agains

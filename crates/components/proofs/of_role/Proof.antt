@@ -1,11 +1,10 @@
 -- `components::of_role` meets its contract. Assumes nothing.
 use mathlib.Core.Path.{_≡_, refl, sym, _∙_, ap, subst}
-use mathlib.Core.List.{List, _++_}
+use mathlib.Core.List.{_++_}
 use Prim.Native.Nat.{ℕ, _+_, _-_, _≤_, _<_}
 use native.Mathlib.Omega.{arith}
 use borrow.Author.Needs.{needs}
 use lib.ListN.{length, getD, take, drop, length-set}
-use Rattle.geometry.specs.declared.Role.{Role}
 use Rattle.plan.specs.Plan.{Ranged, of-role}
 use Rattle.plan.specs.Prepared.{Listing, range-at}
 use Rattle.plan.proofs.Rows as rows

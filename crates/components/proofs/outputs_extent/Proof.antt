@@ -1,10 +1,10 @@
 -- `components::outputs_extent` meets its contract. Assumes nothing.
-use mathlib.Core.Path.{_≡_, refl, sym, _∙_, ap}
+use mathlib.Core.Path.{_≡_, _∙_, ap}
 use mathlib.Core.List.{List}
-use Prim.Native.Nat.{ℕ, _+_, _-_, _≤_, _<_}
+use Prim.Native.Nat.{ℕ, _-_, _≤_, _<_}
 use native.Mathlib.Omega.{arith}
 use borrow.Author.Needs.{needs}
-use lib.ListN.{length, getD, take, drop}
+use lib.ListN.{getD, take, drop}
 use lib.Ieee.{Float}
 use Rattle.binary64.specs.Sign.{zero64}
 use Rattle.plan.specs.Plan.{Ranged, if-between, smallest, maximum-at, desired-at}
