@@ -11,7 +11,10 @@ use Rattle.board.specs.declared.Members.{Members}
 use Rattle.board.specs.declared.Bundles.{Bundles}
 use Rattle.plan.specs.declared.Reaches.{Reaches}
 use Rattle.plan.specs.Tables.{no-edge, no-member, no-bundle}
-use Rattle.plan.specs.Prepared.{reached-at}
+use Rattle.geometry.specs.Points.{Route}
+use Rattle.board.specs.Board.{Board}
+use lib.Ieee.{Float}
+use Rattle.plan.specs.Prepared.{reached-at, AllTell, EdgesOf}
 
 abbrev pub member-at : Members → ℕ → Member
 member-at members i = getD (members .rows) i no-member
@@ -35,3 +38,13 @@ pub record RowsOf (table : Edges) (members : Members) (starts counts edges : Lis
 pub record Listed (t : Reaches) (bundles : Bundles) : Type 0 where
   pub as-many : t .count ≡ bundles .count
   pub bundle-is : (i : ℕ) → i < bundles .count → reached-at t i .bundle ≡ getD (bundles .rows) i no-bundle
+
+-- there is a board of which the table tells
+pub record Worked (points : List Float) (starts counts : List ℕ) (rail pitch : Float) (t : Reaches) : Type 0 where
+  pub board : Board
+  pub given : List Route
+  pub told : AllTell board given points starts counts rail pitch t
+
+-- the edges of every bundle's members
+pub record EdgesIn (b : Board) (edges : List ℕ) (t : Reaches) : Type 0 where
+  pub each : (i : ℕ) → i < t .count → EdgesOf b edges (reached-at t i .bundle)

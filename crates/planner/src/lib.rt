@@ -16,7 +16,7 @@ ghost use Rattle.plan.specs.Tables.{Sound, RoutesIn, board-of, given-routes, co
 ghost use Rattle.plan.specs.Plan.{plan-with, plan-of};
 ghost use Rattle.plan.specs.Prepared.{other, Inside, Searchable, Windowed, Cornered, AllTell, AllAmong};
 ghost use Rattle.components.specs.Settled.{step-in};
-ghost use Rattle.planner.specs.Members.{member-at, RowsOf, Listed};
+ghost use Rattle.planner.specs.Members.{member-at, RowsOf, Listed, Worked, EdgesIn};
 use board::Bundle;
 use board::Bundles;
 use board::Edges;
@@ -24,11 +24,13 @@ use board::Members;
 use board::Nodes;
 use board::Options;
 use board::Ports;
+use components::Step;
 use geometry::Role;
 use plan::Bound;
 use plan::Corridors;
 use plan::Reached;
 use plan::Reaches;
+use search::TapVisits;
 
 // Of each member: where its given route starts, how many points it has, and its edge.
 pub struct MemberRows {
@@ -195,5 +197,110 @@ pub fn reach_bundles(
         points,
         starts,
         counts,
+    )
+}
+
+// The plan, once what was worked out of every bundle is at hand.
+fn plan_reached(
+    points: &[f64],
+    starts: &[usize],
+    counts: &[usize],
+    edges: &[usize],
+    rail: f64,
+    pitch: f64,
+    t: Reaches,
+    separate: bool,
+    granted: TapVisits,
+    xs: &mut [f64],
+    scratch: &mut [f64],
+) -> Step
+    requires { ⌜ Searchable (now points) (now starts) (now counts) (now xs) (now scratch) ⌝ }
+    requires { ⌜ AllAmong (now starts) t × (length (now starts) ≤ length (now edges)) ⌝ }
+    requires { ⌜ Worked (now points) (now starts) (now counts) rail pitch t ⌝ }
+    ensures { λ r. ⌜ ((b : Board) (given : List Route) → pitch ≡ parting-pitch b → AllTell b given (now (points .entry)) (now (starts .entry)) (now (counts .entry)) rail pitch t → EdgesIn b (now (edges .entry)) t → step-in (t .count) r ≡ plan-with search-of b given separate (granted .0)) ⌝ }
+{
+    let ranges = plan::first_pass(
+        points,
+        starts,
+        counts,
+        rail,
+        pitch,
+        t,
+        granted,
+        &mut xs[..],
+        &mut scratch[..],
+    );
+    let s = components::settle_components(
+        points,
+        starts,
+        counts,
+        edges,
+        rail,
+        pitch,
+        t,
+        ranges,
+        &mut xs[..],
+        &mut scratch[..],
+    );
+    if s.refused {
+        return s;
+    }
+    if !separate {
+        return s;
+    }
+    let q = separation::separate(
+        points,
+        starts,
+        counts,
+        pitch,
+        ranges,
+        t.count,
+        s.plan,
+        &mut xs[..],
+        &mut scratch[..],
+    );
+    Step {
+        refused: false,
+        plan: q,
+    }
+}
+
+// An x or none for each bundle, with the visits left; or that the plan is refused.
+pub fn plan_interior_collectors(
+    o: Options,
+    nodes: Nodes,
+    ports: Ports,
+    table: Edges,
+    bundles: Bundles,
+    members: Members,
+    points: &[f64],
+    separate: bool,
+    granted: TapVisits,
+    xs: &mut [f64],
+    scratch: &mut [f64],
+) -> Step
+    requires { ⌜ Sound nodes ports bundles members × RoutesIn (now points) table members ⌝ }
+    requires { ⌜ (4096 < length (now xs)) × (length (now xs) ≤ length (now scratch)) ⌝ }
+    ensures { λ r. ⌜ step-in (bundles .count) r ≡ plan-of (board-of o nodes ports (take (table .count) (table .rows)) bundles members) (given-routes (now (points .entry)) table) separate (granted .0) ⌝ }
+{
+    let w = member_rows(table, members);
+    let starts = w.starts;
+    let counts = w.counts;
+    let edges = w.edges;
+    let t = reach_bundles(o, nodes, ports, bundles, members, points, &starts, &counts);
+    let rail = board::boundary_bundle_rail_depth(o);
+    let pitch = board::pitch_of_sheet(o);
+    plan_reached(
+        points,
+        &starts[..],
+        &counts[..],
+        &edges[..],
+        rail,
+        pitch,
+        t,
+        separate,
+        granted,
+        &mut xs[..],
+        &mut scratch[..],
     )
 }
