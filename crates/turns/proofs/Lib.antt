@@ -1,3 +1,4 @@
 pub mod Turning
 pub mod Counting
 pub mod Resting
+pub mod Filling

@@ -24,7 +24,7 @@ use Rattle.board.specs.declared.DrawnBundles.{DrawnBundles}
 use Rattle.board.specs.Board.{Board, members-of}
 use Rattle.plan.specs.declared.Bound.{Bound}
 use Rattle.plan.specs.Depths.{same-role, no-port}
-use Rattle.plan.specs.Tables.{no-bundle, no-member}
+use Rattle.plan.specs.Tables.{no-bundle, no-member, no-edge}
 use Rattle.drawing.specs.declared.GeometryVisits.{GeometryVisits}
 use Rattle.drawing.specs.declared.Verdict.{Verdict}
 use Rattle.drawing.specs.declared.Verdict.the-variants.{Clean, Refused}
@@ -138,3 +138,15 @@ Rows (u ∷ us) (d ∷ ds) = Row u d × Rows us ds
 unfoldable pub Full : Verdict → ℕ → ℕ → Type 0
 Full (Clean p) drawn all = drawn ≡ all
 Full (Refused e p) drawn all = drawn < all
+
+-- ---- before the first turn
+
+-- the given routes lie in the slice of coordinates
+pub record GivenIn (points : List Float) (table : Edges) : Type 0 where
+  pub few : table .count ≤ 256
+  pub short : (i : ℕ) → i < table .count → getD (table .rows) i no-edge .count ≤ 64
+  pub inside : (i : ℕ) → i < table .count → 2 * (getD (table .rows) i no-edge .first + getD (table .rows) i no-edge .count) ≤ length points
+
+-- the edges and lanes of the first n members
+abbrev pub Listed : List ℕ → List ℕ → List Member → ℕ → Type 0
+Listed edges lanes rows n = (k : ℕ) → k < n → (getD edges k 0 ≡ getD rows k no-member .edge) × (getD lanes k 0 ≡ getD rows k no-member .«tap_lane»)

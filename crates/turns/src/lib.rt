@@ -12,16 +12,18 @@ ghost use lib.ListN.{length, getD, take};
 ghost use Rattle.route.specs.Slots.{routes-of, Held};
 ghost use Rattle.board.specs.Board.{Board};
 ghost use Rattle.plan.specs.Depths.{no-port, endpoint-of};
+ghost use Rattle.plan.specs.Tables.{given-routes};
 ghost use Rattle.plan.specs.Prepared.{x-of};
 ghost use Rattle.drawing.specs.Sheet.{turn, turns-from, sheet-of, blank};
 ghost use Rattle.checks.specs.Rows.{drawn-of};
 ghost use Rattle.building.specs.Rows.{members-from, Row};
-ghost use Rattle.turns.specs.Rows.{turn-of, standing, ends-as, drawn-in, Faced, Ready, Longer, Shows, Named, Lists, Room, Short, Rows, Full, members-all};
+ghost use Rattle.turns.specs.Rows.{turn-of, standing, ends-as, drawn-in, Faced, Ready, Longer, Shows, Named, Lists, Room, Short, Rows, Full, members-all, GivenIn, Listed};
 use board::Bundle;
 use board::Bundles;
 use board::DrawnBundle;
 use board::DrawnBundles;
 use board::Edges;
+use board::Members;
 use board::Nodes;
 use board::Options;
 use board::Ports;
@@ -44,6 +46,8 @@ pub struct Drawing {
     pub verdict: Verdict,
     pub drawn: DrawnBundles,
 }
+
+// ---- one bundle
 
 // One bundle: build_geometry, rewrite_member_routes, verify_one_bundle_route_node_interiors,
 // verify_new_bundle_route_contacts.
@@ -120,6 +124,40 @@ fn draw_bundle(
     );
     Turned { verdict: v, row: d }
 }
+
+// ---- the given routes, and the members' edges and lanes
+
+// The given routes, each in its slot.
+fn store_routes(table: Edges, given: &[f64], points: &mut [f64], counts: &mut [usize])
+    requires { ⌜ GivenIn (now given) table × (length (now counts) ≡ table .count) × (136 * length (now counts) ≤ length (now points)) ⌝ }
+    ensures routes { λ _. ⌜ routes-of (now (points .exit)) (now (counts .exit)) ≡ given-routes (now (given .entry)) table ⌝ }
+    ensures short { λ _. ⌜ Short (now (counts .exit)) ⌝ }
+{
+    let n = table.count;
+    let mut i: usize = 0;
+    while i < n {
+        let e = table.rows[i];
+        route::store_route(given, e.first, e.count, &mut points[..], &mut counts[..], i);
+        i += 1;
+    }
+}
+
+// The edge and the tap lane of each member.
+fn member_rows(members: Members, edges: &mut [usize], lanes: &mut [u32])
+    requires { ⌜ (members .count ≤ 256) × (length (now edges) ≡ members .count) × (length (now lanes) ≡ members .count) ⌝ }
+    ensures { λ _. ⌜ Listed (now (edges .exit)) (now (lanes .exit)) (members .rows) (members .count) ⌝ }
+{
+    let n = members.count;
+    let mut i: usize = 0;
+    while i < n {
+        let m = members.rows[i];
+        edges[i] = m.edge;
+        lanes[i] = m.tap_lane;
+        i += 1;
+    }
+}
+
+// ---- bundle after bundle
 
 // A drawn bundle more.
 fn drawn_with(t: DrawnBundles, d: DrawnBundle) -> DrawnBundles
