@@ -12,12 +12,12 @@ ghost use lib.ListN.{length, getD, take};
 ghost use Rattle.route.specs.Slots.{routes-of, Held};
 ghost use Rattle.board.specs.Board.{Board};
 ghost use Rattle.plan.specs.Depths.{no-port, endpoint-of};
-ghost use Rattle.plan.specs.Tables.{given-routes};
+ghost use Rattle.plan.specs.Tables.{board-of, given-routes, Sound, RoutesIn};
 ghost use Rattle.plan.specs.Prepared.{x-of};
 ghost use Rattle.drawing.specs.Sheet.{turn, turns-from, sheet-of, blank};
 ghost use Rattle.checks.specs.Rows.{drawn-of};
 ghost use Rattle.building.specs.Rows.{members-from, Row};
-ghost use Rattle.turns.specs.Rows.{turn-of, standing, ends-as, drawn-in, Faced, Ready, Longer, Shows, Named, Lists, Room, Short, Rows, Full, members-all, GivenIn, Listed};
+ghost use Rattle.turns.specs.Rows.{turn-of, standing, ends-as, drawn-in, Faced, Ready, Longer, Shows, Named, Lists, Room, Short, Rows, Full, members-all, GivenIn, Listed, Follow, Once};
 use board::Bundle;
 use board::Bundles;
 use board::DrawnBundle;
@@ -206,7 +206,7 @@ fn endpoint(nodes: Nodes, ports: Ports, u: Bundle) -> Point
 }
 
 // Every bundle in job order; after a refusal, those drawn before it.
-pub fn draw_bundles(
+fn draw_bundles(
     o: Options,
     allow: bool,
     nodes: Nodes,
@@ -280,4 +280,60 @@ pub fn draw_bundles(
         verdict: Verdict::Clean(left),
         drawn: drawn,
     }
+}
+
+// ---- the sheet before the last shift
+
+// Every bundle in job order, from the given routes on: what points, counts, edges and taps hold then
+// is the sheet before the last shift. After a refusal they hold anything.
+pub fn draw_sheet(
+    o: Options,
+    allow: bool,
+    nodes: Nodes,
+    ports: Ports,
+    table: Edges,
+    bundles: Bundles,
+    members: Members,
+    plan: [Planned; 32],
+    offsets: Offsets,
+    given: &[f64],
+    edges: &mut [usize],
+    lanes: &mut [u32],
+    taps: &mut [f64],
+    points: &mut [f64],
+    counts: &mut [usize],
+    mask: &mut [bool],
+    scratch: &mut [f64],
+    granted: GeometryVisits,
+) -> Drawing
+    requires tables { ⌜ Sound nodes ports bundles members × RoutesIn (now given) table members ⌝ }
+    requires once { ⌜ Follow 0 (members .count) (take (bundles .count) (bundles .rows)) × Once (take (members .count) (members .rows)) (take (bundles .count) (bundles .rows)) ⌝ }
+    requires exact { ⌜ (length (now edges) ≡ members .count) × (length (now lanes) ≡ members .count) × (length (now counts) ≡ table .count) ⌝ }
+    requires room { ⌜ Room (members .count) (now taps) (now points) (now counts) (now mask) (now scratch) ⌝ }
+    ensures told { λ r. ⌜ ends-as (r .verdict) (routes-of (now (points .exit)) (now (counts .exit))) (drawn-in (now (edges .exit)) (now (taps .exit)) (r .drawn)) ≡ sheet-of (board-of o nodes ports (take (table .count) (table .rows)) bundles members) allow (turns-from (take (bundles .count) (bundles .rows)) (map x-of (take (bundles .count) plan)) (take (bundles .count) (offsets .rows))) (blank (given-routes (now (given .entry)) table) (granted .0)) ⌝ }
+    ensures members { λ r. ⌜ Listed (now (edges .exit)) (now (lanes .exit)) (members .rows) (members .count) ⌝ }
+    ensures rows { λ r. ⌜ Rows (take (r .drawn .count) (bundles .rows)) (take (r .drawn .count) (r .drawn .rows)) ⌝ }
+    ensures full { λ r. ⌜ Full (r .verdict) (r .drawn .count) (bundles .count) ⌝ }
+    ensures hold { λ r. ⌜ Held (now (counts .exit)) ⌝ }
+{
+    member_rows(members, &mut edges[..], &mut lanes[..]);
+    store_routes(table, given, &mut points[..], &mut counts[..]);
+    draw_bundles(
+        o,
+        allow,
+        nodes,
+        ports,
+        table,
+        bundles,
+        plan,
+        offsets,
+        &edges[..],
+        &lanes[..],
+        &mut taps[..],
+        &mut points[..],
+        &mut counts[..],
+        &mut mask[..],
+        &mut scratch[..],
+        granted,
+    )
 }
