@@ -93,7 +93,7 @@ sheet-size bytes s c =
     let u = c .sheet-made in
     let b = j .board in
     let a = accepted-sound bytes j (c .is-read) .0 in
-    let k = counts b (j .flags .«permits_crossings») (j .points) (c .plan-made .xs) (j .grants .«geometry_visits») u (c .is-drawn) in
+    let k = counts b _ (j .points) (c .plan-made .xs) (j .grants .«geometry_visits») u (c .is-drawn) in
     let m = moved-counts (record { nodes = b .nodes; routes = u .routes; drawn = u .drawn }) in
     let p = normalized b u .sheet in
     let n = length-map (p .nodes) spot-of in
@@ -115,11 +115,11 @@ told-size bytes t (a-sheet s c) = sheet-size bytes s c
 -- a buffer that is too short, and one that is not
 pub short : (bytes : List ℕ) (room : ℕ) → room < 65536 → written bytes room ≡ []
 unfolding written
-short bytes room h = rw (lt-ltb room 65536 h)
+short bytes room h = ap (λ (t : Bool). cond t [] (told-bytes (told bytes))) (lt-ltb room 65536 h)
 
 pub roomy : (bytes : List ℕ) (room : ℕ) → 65536 ≤ room → written bytes room ≡ told-bytes (told bytes)
 unfolding written
-roomy bytes room h = rw (le-ltb room 65536 h)
+roomy bytes room h = ap (λ (t : Bool). cond t [] (told-bytes (told bytes))) (le-ltb room 65536 h)
 
 pub data Room (room : ℕ) : Type 0 where
   too-short : room < 65536 → Room room
