@@ -129,7 +129,7 @@ sheet-taps b allow (t ∷ ts) s u e =
 
 -- ---- windows are no longer than their counts
 
-window-count : {A : Type 0} (first count : ℕ) (l : List A) → length (take count (drop first l)) ≤ count
+pub window-count : {A : Type 0} (first count : ℕ) (l : List A) → length (take count (drop first l)) ≤ count
 window-count first count l = let e = length-take count (drop first l) in omega arith
 
 turns-count : (b : Board) (us : List Bundle) (xs : List Bound) (ds : List Float) → members-with b (turns-from us xs ds) ≤ sum (map (λ (u : Bundle). u .count) us)

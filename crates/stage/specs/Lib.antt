@@ -11,3 +11,4 @@ pub mod Refusals
 pub mod Size
 pub mod Flags
 pub mod Demand
+pub mod Lengths
