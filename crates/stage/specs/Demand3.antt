@@ -3,12 +3,11 @@
 -- Assumes nothing.
 use mathlib.Core.Path.{_≡_}
 use mathlib.Core.Logic.{_⊎_}
-use mathlib.Core.Bool.{Bool, true, false}
-use mathlib.Core.List.{List, [], _∷_, List·Memᴰ}
-use mathlib.Core.Option.{Option, none}
+use mathlib.Core.Bool.{false}
+use mathlib.Core.List.{List, List·Memᴰ}
+use mathlib.Core.Option.{none}
 use Prim.Native.Nat.{ℕ, _/_, _%_, _≤_, _<_}
 use lib.ListN.{length, getD, take}
-use lib.Ieee.{Float}
 use Rattle.binary64.specs.Fraction.{Fraction, AtMostℚ, Sameℚ, value}
 use Rattle.geometry.specs.declared.Point.{Point}
 use Rattle.geometry.specs.declared.Segment.{Segment}
@@ -19,13 +18,13 @@ use Rattle.geometry.specs.Contact.{slanted}
 use Rattle.geometry.specs.Enters.{enters}
 use Rattle.exact.specs.Exact.{Exact, Same, exact, OnSegment, SamePlace, Finite}
 use Rattle.exact.specs.Promise.{HasLength}
-use Rattle.board.specs.declared.Edge.{Edge}
 use Rattle.board.specs.declared.Bundle.{Bundle}
 use Rattle.board.specs.declared.Member.{Member}
 use Rattle.board.specs.Board.{Board}
 use Rattle.search.specs.declared.Bounds.{Bounds}
 use Rattle.search.specs.declared.CollectorBounds.the-variants.{Between}
-use Rattle.search.specs.Best.{Good}
+use Rattle.search.specs.Best.{Real, RealStretch, Good}
+use Rattle.sorting.specs.Sorted.{Every}
 use Rattle.plan.specs.declared.Bound.the-variants.{None}
 use Rattle.plan.specs.Depths.{members-in, no-node}
 use Rattle.plan.specs.Bounds.{bounds-of, trunks}
@@ -91,6 +90,11 @@ pub record Allowed (b : Board) (given : List Route) (u : Bundle) (q : Fraction) 
   pub are-bounds : bounds-of b given u None None ≡ Between bounds
   pub good : Good bounds (trunks b given u) q
 
+-- these bounds and stretches are finite numbers too
+pub record FiniteLimits (b : Board) (given : List Route) (u : Bundle) : Type 0 where
+  pub bounds : (r : Bounds) → bounds-of b given u None None ≡ Between r → Real (r .minimum) × Real (r .maximum)
+  pub stretches : Every (Every RealStretch) (trunks b given u)
+
 -- p is no better than q: "the rightmost (Input; leftmost for Output)"
 abbrev pub NoBetter : Role → Fraction → Fraction → Type 0
 NoBetter Input p q = AtMostℚ p q
@@ -143,6 +147,7 @@ pub record Kept (bytes : List ℕ) (room : ℕ) : Type 0 where
   -- a bundle of the sheet for each of the job's
   pub each-drawn : length (comes .sheet-made .drawn) ≡ length (comes .said .board .bundles)
   pub all-finite : AllFinite (comes .sheet-made .routes) (comes .sheet-made .drawn)
+  pub limits-finite : (u : Bundle) → FiniteLimits (comes .said .board) (given-routes (comes .said)) u
   pub joints : NoFalseJoint (comes .said .board) (comes .sheet-made .routes) (comes .sheet-made .drawn)
   -- "lane separation is off if bit 0 is clear", and the tap grant is sufficient: each bundle that shares no edge with the other role stands at its best place
   pub places : separation-bit bytes ≡ 0 → due (comes .said .board) (given-routes (comes .said)) false ≤ comes .said .grants .«tap_visits»

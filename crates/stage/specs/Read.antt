@@ -1,7 +1,7 @@
 -- What the reader leaves of an accepted job is what demand 3's proof asks for. Assumes nothing.
-use Prim.Native.Nat.{ℕ, zero, suc, _+_, _≤_, _<_}
+use Prim.Native.Nat.{ℕ, zero, suc, _<_}
 use mathlib.Core.Path.{_≡_, refl, sym, ap, _∙_, subst}
-use mathlib.Core.Logic.{_⊎_, inl, inr}
+use mathlib.Core.Logic.{inl, inr}
 use mathlib.Core.Bool.{Bool, true, false, _||_, true≢false}
 use mathlib.Core.List.{List, [], _∷_, _++_, map}
 use native.Mathlib.Omega.{arith}
@@ -13,13 +13,10 @@ use Rattle.binary64.specs.Kind.{accepted, two-to, is-coordinate, coordinate-wit
 use Rattle.geometry.specs.declared.Point.{Point}
 use Rattle.geometry.specs.declared.Role.{Role}
 use Rattle.geometry.specs.declared.Role.the-variants.{Input, Output}
-use Rattle.geometry.specs.Points.{Route}
-use Rattle.board.specs.declared.PlacedNode.{PlacedNode}
-use Rattle.board.specs.declared.Port.{Port}
 use Rattle.board.specs.declared.Edge.{Edge}
 use Rattle.board.specs.declared.Bundle.{Bundle}
 use Rattle.board.specs.declared.Member.{Member}
-use Rattle.board.specs.Board.{Board, members-of, routes-of}
+use Rattle.board.specs.Board.{members-of, routes-of}
 use Rattle.wire.specs.All.{All}
 use Rattle.sorting.specs.Sorted.{In, Every}
 use Rattle.job.specs.Keys.{Key, same, stands-in, twice}
@@ -27,8 +24,7 @@ use Rattle.job.specs.Claims.{claims, claim-of, by-role}
 use Rattle.job.specs.Sound.{GoodNumber, GoodPoint, GoodNode, GoodPort, GoodBundle, GoodMember, Sound, edge-at, accepted-sound}
 use Rattle.job.specs.Job.{Job, given-routes, read-job}
 use Rattle.job.specs.Job as job
-use Rattle.plan.specs.Depths.{same-role, members-in}
-use Rattle.plan.specs.Lone.{Disjoint}
+use Rattle.plan.specs.Depths.{same-role}
 use Rattle.plan.specs.Numbers.{Small, Numbers, every-take, every-drop}
 use Rattle.plan.specs.Placed.{Windowed}
 use Rattle.stage.specs.Finite.{Limits}

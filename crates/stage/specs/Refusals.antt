@@ -1,6 +1,6 @@
 -- The numbers that each phase refuses with: the reader with 1 to 9, and each exactly when it is due, the sheet with 10 to 14. Assumes nothing.
-use Prim.Native.Nat.{ℕ, zero, suc, _+_, _-_, _≤_, _<_}
-use mathlib.Core.Path.{_≡_, refl, sym, ap, _∙_, subst}
+use Prim.Native.Nat.{ℕ, zero, suc, _+_, _-_, _≤_}
+use mathlib.Core.Path.{_≡_, refl, sym, _∙_, subst}
 use mathlib.Core.Bool.{Bool, true, false, _&&_, cond, true≢false}
 use mathlib.Core.List.{List, [], _∷_}
 use mathlib.Core.Option.{Option, none, some}
@@ -24,7 +24,7 @@ use Rattle.job.specs.Job.{flags-of, side-of, role-of, options, grants, counts, 
 use Rattle.drawing.specs.declared.Verdict.{Verdict}
 use Rattle.drawing.specs.declared.Verdict.the-variants.{Clean, Refused}
 use Rattle.drawing.specs.Build.{Drawn}
-use Rattle.drawing.specs.Check.{Test, due, barred, walk, among, contact-tests, interior-tests}
+use Rattle.drawing.specs.Check.{Test, due, barred, walk, contact-tests, interior-tests}
 use Rattle.drawing.specs.Sheet.{Turn, Progress, after-check, after-rewrite, after-turn, drawn-at, rewritten-by, checked, turn, sheet-of}
 use Rattle.drawing.specs.Sheet as drawing
 use Rattle.stage.specs.Due.{LengthFits, Begun, FieldsRead, DueInReading, one, three, in-head, in-tables, eight, nine}

@@ -1,9 +1,9 @@
 -- What holds of the bytes that the stage writes, whatever the job's bytes are: how many there are, which number they carry, and what is left of the buffer.
 -- Assumes nothing.
-use Prim.Native.Nat.{ℕ, zero, suc, _+_, _*_, _%_, _≤_, _<_}
+use Prim.Native.Nat.{ℕ, _+_, _%_, _≤_, _<_}
 use mathlib.Core.Path.{_≡_, refl, sym, ap, _∙_, subst}
 use mathlib.Core.Bool.{Bool, true, false, cond}
-use mathlib.Core.List.{List, [], _∷_, _++_, map}
+use mathlib.Core.List.{List, [], _∷_, _++_}
 use native.Mathlib.Omega.{arith}
 use lib.Dec.{ltb}
 use lib.ListN.{length, getD, take, drop, length-map}
@@ -12,16 +12,14 @@ use borrow.Author.Tests.{ltb-true, ltb-false, lt-ltb, le-ltb}
 use Rattle.geometry.specs.Points.{Route}
 use Rattle.board.specs.declared.Edge.{Edge}
 use Rattle.board.specs.declared.Bundle.{Bundle}
-use Rattle.board.specs.Board.{Board}
 use Rattle.wire.specs.Bytes as wire
 use Rattle.job.specs.Job.{Job, read-job}
 use Rattle.job.specs.Job as job
-use Rattle.job.specs.Sound.{Sound, sum, accepted-sound}
+use Rattle.job.specs.Sound.{sum, accepted-sound}
 use Rattle.plan.specs.Plan.{Plan, Step}
 use Rattle.plan.specs.Plan as plan
 use Rattle.drawing.specs.Build.{Drawn}
-use Rattle.drawing.specs.Normal.{page-of, moved}
-use Rattle.drawing.specs.Sheet.{Progress}
+use Rattle.drawing.specs.Normal.{page-of}
 use Rattle.drawing.specs.Sheet as drawing
 use Rattle.answer.specs.Answer.{Sheet, spot-of, lines-of, head-bytes, body-bytes, answer-bytes, notice-bytes}
 use Rattle.answer.specs.Laws.{total-points, total-taps, answer-length, answer-at-most, notice-length}
@@ -156,6 +154,25 @@ notice-byte n = refl
 answer-byte : (s : Sheet) → getD (answer-bytes s) 5 1 ≡ 0
 unfolding answer-bytes body-bytes head-bytes wire.bytes
 answer-byte s = refl
+
+-- one number at most is due
+pub due-once : (bytes : List ℕ) (room m n : ℕ) → Due bytes room m → Due bytes room n → m ≡ n
+due-once bytes room m n d e = go (room-of room)
+  where
+    short-two : (k : ℕ) → room < 65536 → Due bytes room k → k ≡ 2
+    short-two k h (two l) = refl
+    short-two k h (in-reading l i r) = absurd (omega arith)
+    short-two k h (thirteen l j r v q) = absurd (omega arith)
+    short-two k h (in-sheet l j r p q i f) = absurd (omega arith)
+
+    go : Room room → m ≡ n
+    go (too-short h) = short-two m h d ∙ sym (short-two n h e)
+    go (enough h) =
+        let same : notice-bytes m ≡ notice-bytes n = sym (due-written bytes room h m d) ∙ due-written bytes room h n e in
+        let f : m % 256 ≡ n % 256 = sym (notice-byte m) ∙ ap (λ (l : List ℕ). getD l 5 1) same ∙ notice-byte n in
+        let k = due-number bytes room m d in
+        let l = due-number bytes room n e in
+        omega (arith, f, k .0, k .1, l .0, l .1)
 
 -- NUMBER 0, exactly when no refusal is due; where no byte 5 is written, 1 stands for it
 pub zero-written : (bytes : List ℕ) (room : ℕ) → ((n : ℕ) → Due bytes room n → ⊥) → (getD (written bytes room) 5 1 ≡ 0) × (6 < length (written bytes room))

@@ -1,14 +1,14 @@
 -- Demand 3 of the plan and the sheet of a board, whole: what the reader gives is asked for in `Readable`, and everything else is shown.
 -- Assumes nothing.
-use Prim.Native.Nat.{ℕ, zero, suc, _≤_, _<_}
-use mathlib.Core.Path.{_≡_, refl, sym, ap, _∙_, subst}
+use Prim.Native.Nat.{ℕ, _≤_, _<_}
+use mathlib.Core.Path.{_≡_, refl, sym, _∙_}
 use mathlib.Core.Logic.{_⊎_, inl, inr}
 use mathlib.Core.List.{List, [], _∷_, List·Memᴰ, List·Memᴰ·head, List·Memᴰ·tail, List·Memᴰ·not-nil, List·Memᴰ·cases-cons}
-use mathlib.Core.Bool.{Bool, true, false}
+use mathlib.Core.Bool.{Bool, false}
 use native.Mathlib.Omega.{arith}
 use lib.ListN.{length, getD}
 use lib.Ieee.{Float}
-use Rattle.binary64.specs.Range.{Within, within-mono}
+use Rattle.binary64.specs.Range.{within-mono}
 use Rattle.geometry.specs.Points.{Route}
 use Rattle.board.specs.declared.Bundle.{Bundle}
 use Rattle.board.specs.Board.{Board}
@@ -18,10 +18,9 @@ use Rattle.plan.specs.declared.Bound.the-variants.{None, At}
 use Rattle.plan.specs.Depths.{offsets-of}
 use Rattle.plan.specs.Plan.{Plan, going, due, plan-of}
 use Rattle.plan.specs.Lone.{Lone}
-use Rattle.plan.specs.Numbers.{Small, Numbers, offsets-small}
+use Rattle.plan.specs.Numbers.{Small, offsets-small}
 use Rattle.plan.specs.Placed.{Windowed, SmallX, planned-shape}
-use Rattle.drawing.specs.Build.{Drawn}
-use Rattle.drawing.specs.Sheet.{Turn, Progress, sheet-of, blank}
+use Rattle.drawing.specs.Sheet.{Turn, Progress}
 use Rattle.drawing.specs.Sheet as sheet
 use Rattle.drawing.specs.Assembly.{sound}
 use Rattle.drawing.specs.Promise.{no-drawn, built-length}
