@@ -4,13 +4,13 @@ use mathlib.Core.Path.{_≡_, refl, sym, ap, _∙_, subst}
 use mathlib.Core.Bool.{Bool, false}
 use mathlib.Core.List.{List, [], _∷_}
 use native.Mathlib.Omega.{arith}
-use lib.ListN.{length, getD, take}
+use lib.ListN.{length, getD, take, length-map}
 use Rattle.geometry.specs.declared.Point.{Point}
 use Rattle.geometry.specs.declared.Segment.{Segment}
 use Rattle.geometry.specs.Points.{Route}
 use Rattle.exact.specs.Exact.{Finite}
 use Rattle.board.specs.declared.Bundle.{Bundle}
-use Rattle.board.specs.Board.{Board}
+use Rattle.board.specs.Board.{Board, route-of}
 use Rattle.job.specs.Job.{given-routes}
 use Rattle.plan.specs.Plan.{due, plan-of}
 use Rattle.plan.specs.Plan as plan
@@ -26,7 +26,7 @@ use Rattle.answer.specs.Laws.{notice-length}
 use Rattle.stage.specs.Order.{turns-of, drawn-of}
 use Rattle.stage.specs.Stage.{Comes, Told, told, told-bytes, written}
 use Rattle.stage.specs.Finite.{OkPoint, OkTap, OkDrawn, OkSheet}
-use Rattle.stage.specs.Whole.{Readable, sheet-fine, drawn-length, joints, places}
+use Rattle.stage.specs.Whole.{Readable, routes-length, sheet-fine, drawn-length, joints, places}
 use Rattle.stage.specs.Read.{readable}
 use Rattle.stage.specs.Flags.{no-separation, no-crossings}
 use Rattle.stage.specs.Size.{Cause, a-refusal, a-sheet, cause, Room, too-short, enough, room-of, short, roomy}
@@ -130,6 +130,7 @@ module _ (bytes : List ℕ) (s : Sheet) (c : Comes bytes s) where
         sheet = s;
         is-written = e;
         comes = c;
+        each-routed = routes-length b given permits (c .plan-made .xs) visits (c .sheet-made) (c .is-drawn) ∙ length-map (b .edges) (route-of (c .said .points));
         each-drawn = drawn-length b given fit separates taps visits (c .plan-made) (c .is-planned) permits (c .sheet-made) (c .is-drawn);
         all-finite = all-finite (c .sheet-made) (sheet-fine b given fit separates taps visits (c .plan-made) (c .is-planned) permits (c .sheet-made) (c .is-drawn));
         limits-finite = limits-finite b given (fit .limits .numbers);
