@@ -1,19 +1,21 @@
--- The numbers that each phase refuses with: the reader with 1 to 9, the sheet with 10 to 14. Assumes nothing.
-use Prim.Native.Nat.{ℕ, zero, suc, _+_, _≤_, _<_}
-use mathlib.Core.Path.{_≡_, refl, sym, ap, _∙_, subst}
-use mathlib.Core.Bool.{Bool, true, false, cond}
+-- The numbers that each phase refuses with: the reader with 1 to 9, and each exactly when it is due, the sheet with 10 to 14. Assumes nothing.
+use Prim.Native.Nat.{ℕ, zero, suc, _+_, _-_, _≤_}
+use mathlib.Core.Path.{_≡_, refl, sym, _∙_, subst}
+use mathlib.Core.Bool.{Bool, true, false, _&&_, cond, true≢false}
 use mathlib.Core.List.{List, [], _∷_}
 use mathlib.Core.Option.{Option, none, some}
 use native.Mathlib.Omega.{arith}
 use lib.Dec.{leb, eqb}
 use lib.Ieee.{Float, binary64, ofBits}
-use lib.ListN.{length, drop}
+use lib.ListN.{length, getD, take, drop}
+use borrow.Author.Tests.{leb-true, eqb-true, eqb-false, le-leb, eq-eqb, ne-eqb}
 use Rattle.geometry.specs.Points.{Route}
 use Rattle.geometry.specs.declared.Point.{Point}
 use Rattle.geometry.specs.declared.Role.{Role}
 use Rattle.board.specs.Board.{Board}
 use Rattle.binary64.specs.Kind.{accepted}
-use Rattle.wire.specs.Read.{Read, refused, got, Reader, after, read, give, field, limited, at-most, many}
+use Rattle.wire.specs.Bytes.{number, number-one}
+use Rattle.wire.specs.Read.{Read, refused, got, Reader, after, read, give, field, limited, at-most, many, field-at}
 use Rattle.wire.specs.Accept.{taken, number-in, coordinate, size, option}
 use Rattle.job.specs.Keys.{Known, unknown, known}
 use Rattle.job.specs.declared.Counts.{Counts}
@@ -22,9 +24,10 @@ use Rattle.job.specs.Job.{flags-of, side-of, role-of, options, grants, counts, 
 use Rattle.drawing.specs.declared.Verdict.{Verdict}
 use Rattle.drawing.specs.declared.Verdict.the-variants.{Clean, Refused}
 use Rattle.drawing.specs.Build.{Drawn}
-use Rattle.drawing.specs.Check.{Test, due, barred, walk, among, contact-tests, interior-tests}
+use Rattle.drawing.specs.Check.{Test, due, barred, walk, contact-tests, interior-tests}
 use Rattle.drawing.specs.Sheet.{Turn, Progress, after-check, after-rewrite, after-turn, drawn-at, rewritten-by, checked, turn, sheet-of}
 use Rattle.drawing.specs.Sheet as drawing
+use Rattle.stage.specs.Due.{LengthFits, Begun, FieldsRead, DueInReading, one, three, in-head, in-tables, eight, nine}
 
 -- from low to high
 abbrev pub From-to : ℕ → ℕ → ℕ → Type 0
@@ -216,6 +219,98 @@ reader-numbers s =
     (outcome-numbered (header t) _ (header-refuses t) (λ h u. outcome-numbered (tables (h .counts) u) _ (tables-refuses (h .counts) u) (λ w x. settled-numbered h w)))
     (omega arith, omega arith)))
     (omega arith, omega arith)
+
+-- ---- the reader refuses with a number exactly when it is due
+
+fits-so : (s : List ℕ) → lengths-fit s ≡ true → LengthFits s
+unfolding lengths-fit
+fits-so s e =
+    let p = both-true (leb 5 (length s)) (eqb (number (take 4 s)) (length s - 4)) e in
+    let a = leb-true 5 (length s) (p .0) in
+    record { five = a; counted = omega (arith, a, eqb-true (number (take 4 s)) (length s - 4) (p .1)) }
+  where
+    both-true : (a b : Bool) → (a && b) ≡ true → (a ≡ true) × (b ≡ true)
+    both-true true b q = (refl, q)
+    both-true false b q = let z : _≡_ {A = ℕ} 0 1 = cc in absurd (omega arith)
+
+so-fits : (s : List ℕ) → LengthFits s → lengths-fit s ≡ true
+unfolding lengths-fit
+so-fits s l =
+    let a = l .counted in
+    let b = l .five in
+    let e : number (take 4 s) ≡ length s - 4 = omega arith in
+    rw (le-leb 5 (length s) b, eq-eqb (number (take 4 s)) (length s - 4) e)
+
+unfits : (s : List ℕ) → lengths-fit s ≡ false → read-job s ≡ refusal 1
+unfolding read-job
+unfits s e = rw e
+
+other-version : (v : ℕ) (s : List ℕ) → (v ≡ 1 → ⊥) → version v s ≡ refusal 3
+unfolding version
+other-version v s h = rw (ne-eqb v 1 h)
+
+-- past the length stands the version, past it the head
+version-read : (s : List ℕ) → LengthFits s → read-job s ≡ version (getD s 4 0) (drop 5 s)
+unfolding read-job outcome
+version-read s l =
+    let h : 4 + 1 ≤ length s = l .five in
+    rw (so-fits s l, field-at 1 4 s h, number-one s 4 (l .five))
+
+begun-read : (s : List ℕ) → Begun s → read-job s ≡ fields header (drop 5 s)
+unfolding version
+begun-read s b = version-read s (b .length-fits) ∙ rw (b .version)
+
+pub due-read : (s : List ℕ) (n : ℕ) → DueInReading s n → read-job s ≡ refusal n
+unfolding fields outcome settled or-nine
+due-read s n (one h) = go (lengths-fit s) refl
+  where
+    go : (b : Bool) → lengths-fit s ≡ b → read-job s ≡ refusal 1
+    go true e = absurd (h (fits-so s e))
+    go false e = unfits s e
+due-read s n (three l h) = version-read s l ∙ other-version (getD s 4 0) (drop 5 s) h
+due-read s n (in-head b m e) = begun-read s b ∙ rw e
+due-read s n (in-tables b h t e m f) = begun-read s b ∙ rw (e, f)
+due-read s n (eight h t r e) = begun-read s (r .begun) ∙ rw (r .head, r .body, e)
+due-read s n (nine h t r e u) = begun-read s (r .begun) ∙ rw (r .head, r .body, e, u)
+
+settled-due : (s : List ℕ) (h : Header) (t : Tables) → FieldsRead s h t → (n : ℕ) → settled h t ≡ refusal n → DueInReading s n
+unfolding settled or-nine
+settled-due s h t r n e = go (some-twice t) refl e
+  where
+    known-or : (k : Known Board) → some-twice t ≡ false → resolved (h .options) t ≡ k → or-nine k h (t .edges .points) ≡ refusal n → DueInReading s n
+    known-or unknown a q f = let z : 9 ≡ n = cc in subst (DueInReading s) z (nine h t r a q)
+    known-or (known b) a q f = let z : _≡_ {A = ℕ} 0 1 = cc in absurd (omega arith)
+
+    go : (b : Bool) → some-twice t ≡ b → cond b (refusal 8) (or-nine (resolved (h .options) t) h (t .edges .points)) ≡ refusal n → DueInReading s n
+    go true a f = let z : 8 ≡ n = cc in subst (DueInReading s) z (eight h t r a)
+    go false a f = known-or (resolved (h .options) t) a refl f
+
+fields-due : (s : List ℕ) → Begun s → (n : ℕ) → fields header (drop 5 s) ≡ refusal n → DueInReading s n
+unfolding fields outcome
+fields-due s b n e = of-head (header (drop 5 s)) refl e
+  where
+    of-tables : (h : Header) (rest : List ℕ) → header (drop 5 s) ≡ got h rest → (x : Read Tables) → tables (h .counts) rest ≡ x → outcome x (λ t end. settled h t) ≡ refusal n → DueInReading s n
+    of-tables h rest p (refused m) q f = let z : m ≡ n = cc in subst (DueInReading s) z (in-tables b h rest p m q)
+    of-tables h rest p (got t end) q f = settled-due s h t (record { begun = b; rest = rest; head = p; end = end; body = q }) n f
+
+    of-head : (x : Read Header) → header (drop 5 s) ≡ x → outcome x (λ h rest. outcome (tables (h .counts) rest) (λ t end. settled h t)) ≡ refusal n → DueInReading s n
+    of-head (refused m) q f = let z : m ≡ n = cc in subst (DueInReading s) z (in-head b m q)
+    of-head (got h rest) q f = of-tables h rest q (tables (h .counts) rest) refl f
+
+pub read-due : (s : List ℕ) (n : ℕ) → read-job s ≡ refusal n → DueInReading s n
+unfolding version
+read-due s n e = go (lengths-fit s) refl
+  where
+    of-version : LengthFits s → (b : Bool) → eqb (getD s 4 0) 1 ≡ b → cond b (fields header (drop 5 s)) (refusal 3) ≡ refusal n → DueInReading s n
+    of-version l true q f = fields-due s (record { length-fits = l; version = eqb-true (getD s 4 0) 1 q }) n f
+    of-version l false q f = let z : 3 ≡ n = cc in subst (DueInReading s) z (three l (eqb-false (getD s 4 0) 1 q))
+
+    go : (b : Bool) → lengths-fit s ≡ b → DueInReading s n
+    go true q = let l = fits-so s q in of-version l (eqb (getD s 4 0) 1) refl (sym (version-read s l) ∙ e)
+    go false q =
+        let z : refusal 1 ≡ refusal n = sym (unfits s q) ∙ e in
+        let y : 1 ≡ n = cc in
+        subst (DueInReading s) y (one (λ l. true≢false (sym (so-fits s l) ∙ q)))
 
 -- ---- the sheet: 10, 11, 12 and 14
 

@@ -1,9 +1,9 @@
 -- What holds of the bytes that the stage writes, whatever the job's bytes are: how many there are, which number they carry, and what is left of the buffer.
 -- Assumes nothing.
-use Prim.Native.Nat.{ℕ, zero, suc, _+_, _*_, _%_, _≤_, _<_}
+use Prim.Native.Nat.{ℕ, _+_, _%_, _≤_, _<_}
 use mathlib.Core.Path.{_≡_, refl, sym, ap, _∙_, subst}
 use mathlib.Core.Bool.{Bool, true, false, cond}
-use mathlib.Core.List.{List, [], _∷_, _++_, map}
+use mathlib.Core.List.{List, [], _∷_, _++_}
 use native.Mathlib.Omega.{arith}
 use lib.Dec.{ltb}
 use lib.ListN.{length, getD, take, drop, length-map}
@@ -12,35 +12,23 @@ use borrow.Author.Tests.{ltb-true, ltb-false, lt-ltb, le-ltb}
 use Rattle.geometry.specs.Points.{Route}
 use Rattle.board.specs.declared.Edge.{Edge}
 use Rattle.board.specs.declared.Bundle.{Bundle}
-use Rattle.board.specs.Board.{Board}
 use Rattle.wire.specs.Bytes as wire
 use Rattle.job.specs.Job.{Job, read-job}
 use Rattle.job.specs.Job as job
-use Rattle.job.specs.Sound.{Sound, sum, accepted-sound}
+use Rattle.job.specs.Sound.{sum, accepted-sound}
 use Rattle.plan.specs.Plan.{Plan, Step}
 use Rattle.plan.specs.Plan as plan
 use Rattle.drawing.specs.Build.{Drawn}
-use Rattle.drawing.specs.Normal.{page-of, moved}
-use Rattle.drawing.specs.Sheet.{Progress}
+use Rattle.drawing.specs.Normal.{page-of}
 use Rattle.drawing.specs.Sheet as drawing
 use Rattle.answer.specs.Answer.{Sheet, spot-of, lines-of, head-bytes, body-bytes, answer-bytes, notice-bytes}
 use Rattle.answer.specs.Laws.{total-points, total-taps, answer-length, answer-at-most, notice-length}
 use Rattle.stage.specs.Counted.{points-in, taps-in, counts, moved-counts}
-use Rattle.stage.specs.Refusals.{From-to, reader-numbers, sheet-numbers}
+use Rattle.stage.specs.Refusals.{From-to, reader-numbers, due-read, read-due, sheet-numbers}
+use Rattle.stage.specs.Due.{Due, two, in-reading, thirteen, in-sheet}
 use Rattle.stage.specs.Stage.{Comes, normalized, tap-told, bundles-told, page-told, Told, refused, drawn, planned, sheet-drawn, after-sheet, after-plan, after-reading, told, told-bytes, written, stage-of}
 
--- ---- which refusal is due
-
--- document 01's "Who can cause a refusal": each number with its cause, in the order in which they are looked at
-pub data Due (bytes : List ℕ) (room : ℕ) : ℕ → Type 0 where
-  -- 2
-  no-room : room < 65536 → Due bytes room 2
-  -- 1, and 3 to 9
-  by-reader : 65536 ≤ room → (n : ℕ) → read-job bytes ≡ job.refusal n → Due bytes room n
-  -- 13
-  by-plan : 65536 ≤ room → (j : Job) → read-job bytes ≡ job.accepted j → (v : ℕ) → planned j ≡ plan.refused v → Due bytes room 13
-  -- 10, 11, 12 and 14
-  by-sheet : 65536 ≤ room → (j : Job) → read-job bytes ≡ job.accepted j → (p : Plan) → planned j ≡ plan.going p → (n : ℕ) → sheet-drawn j p ≡ drawing.refused n → Due bytes room n
+-- ---- what a job comes to
 
 -- what was told, taken apart
 pub data Cause (bytes : List ℕ) : Told → Type 0 where
@@ -51,19 +39,19 @@ sheet-cause : (bytes : List ℕ) (j : Job) → read-job bytes ≡ job.accepted j
 unfolding after-sheet
 sheet-cause bytes j r p q (drawing.refused n) e =
     let h = sheet-numbers (j .board) _ _ _ n e in
-    a-refusal n (omega (arith, h .0), h .1) (λ room l. by-sheet l j r p q n e)
+    a-refusal n (omega (arith, h .0), h .1) (λ room l. in-sheet l j r p q n e)
 sheet-cause bytes j r p q (drawing.going u) e = a-sheet _ (record { said = j; is-read = r; plan-made = p; is-planned = q; sheet-made = u; is-drawn = e; is-answer = refl })
 
 plan-cause : (bytes : List ℕ) (j : Job) → read-job bytes ≡ job.accepted j → (s : Step) → planned j ≡ s → Cause bytes (after-plan j s)
 unfolding after-plan
-plan-cause bytes j r (plan.refused v) e = a-refusal 13 (omega arith, omega arith) (λ room l. by-plan l j r v e)
+plan-cause bytes j r (plan.refused v) e = a-refusal 13 (omega arith, omega arith) (λ room l. thirteen l j r v e)
 plan-cause bytes j r (plan.going p) e = sheet-cause bytes j r p e (sheet-drawn j p) refl
 
 reading-cause : (bytes : List ℕ) (o : job.Outcome) → read-job bytes ≡ o → Cause bytes (after-reading o)
 unfolding after-reading
 reading-cause bytes (job.refusal n) e =
     let h = reader-numbers bytes n e in
-    a-refusal n (h .0, omega (arith, h .1)) (λ room l. by-reader l n e)
+    a-refusal n (h .0, omega (arith, h .1)) (λ room l. in-reading l n (read-due bytes n e))
 reading-cause bytes (job.accepted j) e = plan-cause bytes j e (planned j) refl
 
 pub cause : (bytes : List ℕ) → Cause bytes (told bytes)
@@ -93,7 +81,7 @@ sheet-size bytes s c =
     let u = c .sheet-made in
     let b = j .board in
     let a = accepted-sound bytes j (c .is-read) .0 in
-    let k = counts b (j .flags .«permits_crossings») (j .points) (c .plan-made .xs) (j .grants .«geometry_visits») u (c .is-drawn) in
+    let k = counts b _ (j .points) (c .plan-made .xs) (j .grants .«geometry_visits») u (c .is-drawn) in
     let m = moved-counts (record { nodes = b .nodes; routes = u .routes; drawn = u .drawn }) in
     let p = normalized b u .sheet in
     let n = length-map (p .nodes) spot-of in
@@ -115,11 +103,11 @@ told-size bytes t (a-sheet s c) = sheet-size bytes s c
 -- a buffer that is too short, and one that is not
 pub short : (bytes : List ℕ) (room : ℕ) → room < 65536 → written bytes room ≡ []
 unfolding written
-short bytes room h = rw (lt-ltb room 65536 h)
+short bytes room h = ap (λ (t : Bool). cond t [] (told-bytes (told bytes))) (lt-ltb room 65536 h)
 
 pub roomy : (bytes : List ℕ) (room : ℕ) → 65536 ≤ room → written bytes room ≡ told-bytes (told bytes)
 unfolding written
-roomy bytes room h = rw (le-ltb room 65536 h)
+roomy bytes room h = ap (λ (t : Bool). cond t [] (told-bytes (told bytes))) (le-ltb room 65536 h)
 
 pub data Room (room : ℕ) : Type 0 where
   too-short : room < 65536 → Room room
@@ -147,16 +135,16 @@ written-size bytes room = go (room-of room)
 -- the number that is due is the one of the notice
 pub due-written : (bytes : List ℕ) (room : ℕ) → 65536 ≤ room → (n : ℕ) → Due bytes room n → written bytes room ≡ notice-bytes n
 unfolding after-sheet after-plan after-reading told-bytes
-due-written bytes room h n (no-room l) = absurd (omega arith)
-due-written bytes room h n (by-reader l m e) = roomy bytes room h ∙ rw e
-due-written bytes room h n (by-plan l j e v q) = roomy bytes room h ∙ rw (e, q)
-due-written bytes room h n (by-sheet l j e p q m d) = roomy bytes room h ∙ rw (e, q, d)
+due-written bytes room h n (two l) = absurd (omega arith)
+due-written bytes room h n (in-reading l m d) = roomy bytes room h ∙ rw (due-read bytes m d)
+due-written bytes room h n (thirteen l j e v q) = roomy bytes room h ∙ rw (e, q)
+due-written bytes room h n (in-sheet l j e p q m d) = roomy bytes room h ∙ rw (e, q, d)
 
 due-number : (bytes : List ℕ) (room n : ℕ) → Due bytes room n → From-to 1 14 n
-due-number bytes room n (no-room l) = (omega arith, omega arith)
-due-number bytes room n (by-reader l m e) = let h = reader-numbers bytes n e in (h .0, omega (arith, h .1))
-due-number bytes room n (by-plan l j e v q) = (omega arith, omega arith)
-due-number bytes room n (by-sheet l j e p q m d) = let h = sheet-numbers (j .board) _ _ _ n d in (omega (arith, h .0), h .1)
+due-number bytes room n (two l) = (omega arith, omega arith)
+due-number bytes room n (in-reading l m d) = let h = reader-numbers bytes m (due-read bytes m d) in (h .0, omega (arith, h .1))
+due-number bytes room n (thirteen l j e v q) = (omega arith, omega arith)
+due-number bytes room n (in-sheet l j e p q m d) = let h = sheet-numbers (j .board) _ _ _ n d in (omega (arith, h .0), h .1)
 
 -- byte 5 of a notice and of an answer
 notice-byte : (n : ℕ) → getD (notice-bytes n) 5 1 ≡ n % 256
@@ -166,6 +154,25 @@ notice-byte n = refl
 answer-byte : (s : Sheet) → getD (answer-bytes s) 5 1 ≡ 0
 unfolding answer-bytes body-bytes head-bytes wire.bytes
 answer-byte s = refl
+
+-- one number at most is due
+pub due-once : (bytes : List ℕ) (room m n : ℕ) → Due bytes room m → Due bytes room n → m ≡ n
+due-once bytes room m n d e = go (room-of room)
+  where
+    short-two : (k : ℕ) → room < 65536 → Due bytes room k → k ≡ 2
+    short-two k h (two l) = refl
+    short-two k h (in-reading l i r) = absurd (omega arith)
+    short-two k h (thirteen l j r v q) = absurd (omega arith)
+    short-two k h (in-sheet l j r p q i f) = absurd (omega arith)
+
+    go : Room room → m ≡ n
+    go (too-short h) = short-two m h d ∙ sym (short-two n h e)
+    go (enough h) =
+        let same : notice-bytes m ≡ notice-bytes n = sym (due-written bytes room h m d) ∙ due-written bytes room h n e in
+        let f : m % 256 ≡ n % 256 = sym (notice-byte m) ∙ ap (λ (l : List ℕ). getD l 5 1) same ∙ notice-byte n in
+        let k = due-number bytes room m d in
+        let l = due-number bytes room n e in
+        omega (arith, f, k .0, k .1, l .0, l .1)
 
 -- NUMBER 0, exactly when no refusal is due; where no byte 5 is written, 1 stands for it
 pub zero-written : (bytes : List ℕ) (room : ℕ) → ((n : ℕ) → Due bytes room n → ⊥) → (getD (written bytes room) 5 1 ≡ 0) × (6 < length (written bytes room))
@@ -177,7 +184,7 @@ zero-written bytes room none = go (room-of room)
     of-cause t (a-sheet s c) l = (answer-byte s, omega (arith, answer-length s))
 
     go : Room room → (getD (written bytes room) 5 1 ≡ 0) × (6 < length (written bytes room))
-    go (too-short h) = absurd (none 2 (no-room h))
+    go (too-short h) = absurd (none 2 (two h))
     go (enough h) = rw (roomy bytes room h) (of-cause (told bytes) (cause bytes) h)
 
 pub due-not-zero : (bytes : List ℕ) (room n : ℕ) → Due bytes room n → (getD (written bytes room) 5 1 ≡ 0 → ⊥) × (length (written bytes room) ≤ 6)
