@@ -2,3 +2,4 @@ pub mod Looks
 pub mod Whole
 pub mod Corridors
 pub mod Planned
+pub mod Plain
