@@ -4,8 +4,9 @@ use mathlib.Core.Path.{_≡_, refl, sym, ap, subst, _∙_}
 use mathlib.Core.Bool.{Bool, true, false, not, cond, _&&_, _||_}
 use mathlib.Core.List.{List, [], _∷_, _++_, map}
 use native.Mathlib.Omega.{arith}
-use lib.Dec.{leb, eqb}
-use lib.Ieee.{Float, binary64, ofBits}
+use lib.Dec.{T, leb, eqb}
+use lib.Ieee.{Float, binary64, fits, ofBits}
+use lib.Ieee.Bits.{ofBits-fits}
 use lib.ListN.{length, take, drop, getD, length-append, length-map, length-drop}
 use borrow.Author.Tests.{leb-true, eqb-true}
 use Rattle.wire.specs.Bytes.{number}
@@ -43,26 +44,31 @@ use Rattle.job.specs.Claims.{Claim, claims, claim-of, raw-claim, edge-id
 use Rattle.job.specs.Claims as claim
 
 -- ---- the words
+-- a number of a kind, and of the format
+pub record GoodNumber (kind : Float → Bool) (x : Float) : Type 0 where
+  pub in-range : kind x ≡ true
+  pub of-format : T (fits binary64 x)
+
 pub record GoodPoint (p : Point) : Type 0 where
-  pub x : is-coordinate (p .x) ≡ true
-  pub y : is-coordinate (p .y) ≡ true
+  pub x : GoodNumber is-coordinate (p .x)
+  pub y : GoodNumber is-coordinate (p .y)
 
 pub record GoodOptions (o : Options) : Type 0 where
-  pub stub : is-option (o .«port_stub») ≡ true
-  pub gap : is-option (o .«route_lane_gap») ≡ true
-  pub clearance : is-option (o .«edge_node_clearance») ≡ true
-  pub spacing : is-option (o .«minimum_parallel_wire_spacing») ≡ true
-  pub reserve : is-option (o .«member_endpoint_reserve») ≡ true
+  pub stub : GoodNumber is-option (o .«port_stub»)
+  pub gap : GoodNumber is-option (o .«route_lane_gap»)
+  pub clearance : GoodNumber is-option (o .«edge_node_clearance»)
+  pub spacing : GoodNumber is-option (o .«minimum_parallel_wire_spacing»)
+  pub reserve : GoodNumber is-option (o .«member_endpoint_reserve»)
 
 pub record GoodNode (n : PlacedNode) : Type 0 where
   pub corner : GoodPoint (n .body .corner)
-  pub width : is-size (n .body .width) ≡ true
-  pub height : is-size (n .body .height) ≡ true
+  pub width : GoodNumber is-size (n .body .width)
+  pub height : GoodNumber is-size (n .body .height)
 
 -- of so many nodes
 pub record GoodPort (nodes : ℕ) (p : Port) : Type 0 where
   pub node : p .node < nodes
-  pub offset : is-coordinate (p .offset) ≡ true
+  pub offset : GoodNumber is-coordinate (p .offset)
 
 -- of so many nodes and points
 pub record GoodEdge (nodes points : ℕ) (e : Edge) : Type 0 where
@@ -81,20 +87,20 @@ pub record GoodMember (edges : ℕ) (m : Member) : Type 0 where
   pub lane : m .«tap_lane» ≤ 255
 
 -- ---- numbers
-picked : {A : Type 0} (b : Bool) (x y : A) (s t : List ℕ) (r : ℕ) → cond b (got x s) (refused r) ≡ got y t → (b ≡ true) × (x ≡ y) × (s ≡ t)
+pub picked : {A : Type 0} (b : Bool) (x y : A) (s t : List ℕ) (r : ℕ) → cond b (got x s) (refused r) ≡ got y t → (b ≡ true) × (x ≡ y) × (s ≡ t)
 picked true x y s t r e = (refl, cc, cc)
 picked false x y s t r e = let z : _≡_ {A = ℕ} 0 1 = cc in absurd (omega arith)
 
-number-good : (low high : Float) (s : List ℕ) (x : Float) (t : List ℕ) → number-in low high s ≡ got x t → (accepted low high x ≡ true) × (length s ≡ 8 + length t)
+number-good : (low high : Float) (s : List ℕ) (x : Float) (t : List ℕ) → number-in low high s ≡ got x t → GoodNumber (accepted low high) x × (length s ≡ 8 + length t)
 unfolding taken
 number-good low high s x t e =
     let a = came (field 8 s) (λ b. taken low high (ofBits binary64 b)) x t e in
     let f = field-takes 8 s (a .value) (a .rest) (a .first) in
     let c = picked (accepted low high (ofBits binary64 (a .value))) (ofBits binary64 (a .value)) x (a .rest) t 7 (a .second) in
     let l = ap length (c .2) in
-    (subst (λ (z : Float). accepted low high z ≡ true) (c .1) (c .0), omega (arith, f .1, l))
+    (subst (GoodNumber (accepted low high)) (c .1) (record { in-range = c .0; of-format = ofBits-fits binary64 (a .value) }), omega (arith, f .1, l))
 
-same : {A : Type 0} (a b : A) (s t : List ℕ) → got a s ≡ got b t → (a ≡ b) × (s ≡ t)
+pub same : {A : Type 0} (a b : A) (s t : List ℕ) → got a s ≡ got b t → (a ≡ b) × (s ≡ t)
 same a b s t e = (cc, cc)
 
 point-good : (s : List ℕ) (p : Point) (t : List ℕ) → point s ≡ got p t → GoodPoint p × (length s ≡ 16 + length t)
@@ -144,7 +150,7 @@ unfolding role-of
 role-takes n s d t e = listed (eqb n 0) Input (cond (eqb n 1) (got Output s) (refused 6)) s t d (listed (eqb n 1) Output (refused 6) s t d (none-listed 6 s t d)) e
 
 abbrev RawGoodPort : RawPort → Type 0
-RawGoodPort p = is-coordinate (p .offset) ≡ true
+RawGoodPort p = GoodNumber is-coordinate (p .offset)
 
 port-good : (s : List ℕ) (p : RawPort) (t : List ℕ) → port s ≡ got p t → RawGoodPort p × (length s ≡ 17 + length t)
 port-good s p t e =
@@ -240,6 +246,15 @@ bundle-takes total s e t h =
     )
 
 -- ---- edges with their points, bundles with their members
+unfoldable pub sum : List ℕ → ℕ
+sum [] = 0
+sum (n ∷ l) = n + sum l
+
+sum-last : {A : Type 0} (f : A → ℕ) (l : List A) (a : A) → sum (map f (l ++ (a ∷ []))) ≡ sum (map f l) + f a
+unfolding sum
+sum-last f [] a = omega arith
+sum-last f (b ∷ l) a = let e = sum-last f l a in omega arith
+
 pub record RawGoodEdge (points : ℕ) (e : RawEdge) : Type 0 where
   pub count : e .count ≤ 64
   pub window : e .first + e .count ≤ points
@@ -248,6 +263,7 @@ pub record EdgesSo (from : ℕ) (l : EdgeList) (s : List ℕ) : Type 0 where
   pub edges : All (RawGoodEdge (length (l .points))) (l .edges)
   pub points : All GoodPoint (l .points)
   pub total : length (l .points) ≤ 2048
+  pub counts : sum (map (λ (e : RawEdge). e .count) (l .edges)) ≡ length (l .points)
   pub bytes : from ≡ 22 * length (l .edges) + 16 * length (l .points) + length s
 
 edges-as : (from : ℕ) (l m : EdgeList) (s t : List ℕ) → l ≡ m → s ≡ t → EdgesSo from l s → EdgesSo from m t
@@ -274,6 +290,7 @@ edges-step from l s m t h e =
           (record { count = w .own; window = omega (arith, w .starts) });
       points = g .all;
       total = omega (arith, w .total, n);
+      counts = omega (arith, sum-last (λ (e : RawEdge). e .count) (l .edges) (a .value), h .counts, n);
       bytes = rw x (omega arith);
     })
 
@@ -285,6 +302,7 @@ pub record BundlesSo (from : ℕ) (l : BundleList) (s : List ℕ) : Type 0 where
   pub bundles : All (RawGoodBundle (length (l .members))) (l .bundles)
   pub members : All RawGoodMember (l .members)
   pub total : length (l .members) ≤ 256
+  pub counts : sum (map (λ (b : RawBundle). b .count) (l .bundles)) ≡ length (l .members)
   pub claimed : claims (map raw-claim (l .bundles)) (map edge-id (l .members)) ≡ map member-key (l .members)
   pub bytes : from ≡ 19 * length (l .bundles) + 6 * length (l .members) + length s
 
@@ -317,6 +335,7 @@ bundles-step from l s m t h e =
           (record { count = w .own; window = omega (arith, w .starts) });
       members = g .all;
       total = omega (arith, w .total, n);
+      counts = omega (arith, sum-last (λ (b : RawBundle). b .count) (l .bundles) (a .value), h .counts, n);
       claimed = claim.claimed (l .bundles) (a .value) ms (b .value) (inside-all (length ms) (l .bundles) (h .bundles)) (w .starts)
           (members-pushed (a .value .role) (a .value .count) ms (a .rest) (b .value) (b .rest) (b .first)) (h .claimed);
       bytes = rw x (omega arith);
@@ -415,6 +434,8 @@ pub record RawSound (c : Counts) (size : ℕ) (t : Tables) : Type 0 where
   pub bundle-count : length (t .bundles .bundles) ≡ c .bundles
   pub point-total : length (t .edges .points) ≤ 2048
   pub member-total : length (t .bundles .members) ≤ 256
+  pub point-counts : sum (map (λ (e : RawEdge). e .count) (t .edges .edges)) ≡ length (t .edges .points)
+  pub member-counts : sum (map (λ (b : RawBundle). b .count) (t .bundles .bundles)) ≡ length (t .bundles .members)
   pub claimed : claims (map raw-claim (t .bundles .bundles)) (map edge-id (t .bundles .members)) ≡ map member-key (t .bundles .members)
   pub bytes : size ≡ 36 * length (t .nodes) + 17 * length (t .ports) + 22 * length (t .edges .edges) + 16 * length (t .edges .points) + 19 * length (t .bundles .bundles) + 6 * length (t .bundles .members)
 
@@ -449,7 +470,7 @@ bundles-count (suc n) l s m t e =
     omega arith
 
 tables-good : (c : Counts) (s : List ℕ) (t : Tables) (u : List ℕ) → tables c s ≡ got t u → RawSound c (length s) t
-unfolding ended All claims
+unfolding ended All claims sum
 tables-good c s t u e =
     let a = came (many (c .nodes) (push node) [] s) _ t u e in
     let b = came (many (c .ports) (push port) [] (a .rest)) _ t u (a .second) in
@@ -461,9 +482,9 @@ tables-good c s t u e =
     let n = pushes-good node GoodNode 36 node-good (c .nodes) (length s) 0 [] s (a .value) (a .rest) (record { all = tt; bytes = omega arith }) (a .first) in
     let p = pushes-good port RawGoodPort 17 port-good (c .ports) (length (a .rest)) 0 [] (a .rest) (b .value) (b .rest) (record { all = tt; bytes = omega arith }) (b .first) in
     let g = many-keeps next-edge (EdgesSo (length (b .rest))) (edges-step (length (b .rest))) (c .edges) (record { edges = []; points = [] }) (b .rest) (d .value) (d .rest)
-    (record { edges = tt; points = tt; total = omega arith; bytes = omega arith }) (d .first) in
+    (record { edges = tt; points = tt; total = omega arith; counts = refl; bytes = omega arith }) (d .first) in
     let h = many-keeps next-bundle (BundlesSo (length (d .rest))) (bundles-step (length (d .rest))) (c .bundles) (record { bundles = []; members = [] }) (d .rest) (f .value) (f .rest)
-    (record { bundles = tt; members = tt; total = omega arith; claimed = refl; bytes = omega arith }) (f .first) in
+    (record { bundles = tt; members = tt; total = omega arith; counts = refl; claimed = refl; bytes = omega arith }) (f .first) in
     subst (λ (x : Tables). RawSound c (length s) x) (k .1) (record {
       nodes = n .all;
       ports = p .all;
@@ -477,6 +498,8 @@ tables-good c s t u e =
       bundle-count = bundles-count (c .bundles) (record { bundles = []; members = [] }) (d .rest) (f .value) (f .rest) (f .first) ∙ omega arith;
       point-total = g .total;
       member-total = h .total;
+      point-counts = g .counts;
+      member-counts = h .counts;
       claimed = h .claimed;
       bytes = omega (arith, n .bytes, p .bytes, g .bytes, h .bytes, z);
     })
@@ -579,6 +602,9 @@ pub record Sound (j : Job) : Type 0 where
   pub bundle-total : length (j .board .bundles) ≤ 32
   pub member-total : length (j .board .members) ≤ 256
   pub point-total : length (j .points) ≤ 2048
+  -- the windows of the routes, and those of the bundles, are as long together as their tables
+  pub point-counts : sum (map (λ (e : Edge). e .count) (j .board .edges)) ≡ length (j .points)
+  pub member-counts : sum (map (λ (b : Bundle). b .count) (j .board .bundles)) ≡ length (j .board .members)
   -- ids stand once: among nodes, edges, bundles, and the ports of one node
   pub node-ids : twice (map node-key (j .board .nodes)) ≡ false
   pub edge-ids : twice (map (λ (e : Edge). (e .id, 0)) (j .board .edges)) ≡ false
@@ -655,7 +681,7 @@ module _ (h : Header) (size : ℕ) (t : Tables) (g : GoodHeader h) (r : RawSound
           nodes = r .nodes;
           ports = each-all (port-of node-keys) RawGoodPort (GoodPort (length (t .nodes)))
               (λ a b x y. let f = port-from node-keys a b y in
-              record { node = inside (a .node, 0) node-keys (b .node) _ (f .found) ln; offset = subst (λ (z : Float). is-coordinate z ≡ true) (sym (f .offset)) x })
+              record { node = inside (a .node, 0) node-keys (b .node) _ (f .found) ln; offset = subst (GoodNumber is-coordinate) (sym (f .offset)) x })
               (t .ports) [] ps (r .ports) tt kp;
           edges = each-all (edge-of node-keys) (RawGoodEdge (length (t .edges .points))) (GoodEdge (length (t .nodes)) (length (t .edges .points)))
               (λ a b x y. let f = edge-from node-keys a b y in
@@ -685,6 +711,8 @@ module _ (h : Header) (size : ℕ) (t : Tables) (g : GoodHeader h) (r : RawSound
           bundle-total = omega (arith, nb, r .bundle-count, c .bundles);
           member-total = omega (arith, nm, r .member-total);
           point-total = r .point-total;
+          point-counts = ap sum (each-map (edge-of node-keys) (λ (e : Edge). e .count) (λ (e : RawEdge). e .count) (λ a b y. edge-from node-keys a b y .count) (t .edges .edges) [] es ke) ∙ r .point-counts;
+          member-counts = ap sum (each-map (bundle-of node-keys port-keys) (λ (b : Bundle). b .count) (λ (b : RawBundle). b .count) (λ a b y. bundle-from node-keys port-keys a b y .count) (t .bundles .bundles) [] bs kb) ∙ r .member-counts ∙ omega (arith, nm);
           node-ids = o .0;
           edge-ids = ap twice (each-map (edge-of node-keys) (λ (e : Edge). (e .id, 0)) edge-key (λ a b y. pair-is _ _ _ _ (edge-from node-keys a b y .id) refl) (t .edges .edges) [] es ke) ∙ o2 .0;
           bundle-ids = ap twice (each-map (bundle-of node-keys port-keys) (λ (e : Bundle). (e .id, 0)) bundle-key (λ a b y. pair-is _ _ _ _ (bundle-from node-keys port-keys a b y .id) refl) (t .bundles .bundles) [] bs kb) ∙ o3 .0;
@@ -736,12 +764,12 @@ pub record OutcomeCame {A : Type 0} (x : Read A) (f : A → List ℕ → Outcome
   pub first : x ≡ got value rest
   pub second : f value rest ≡ job.accepted j
 
-outcome-came : {A : Type 0} (x : Read A) (f : A → List ℕ → Outcome) (j : Job) → outcome x f ≡ job.accepted j → OutcomeCame x f j
+pub outcome-came : {A : Type 0} (x : Read A) (f : A → List ℕ → Outcome) (j : Job) → outcome x f ≡ job.accepted j → OutcomeCame x f j
 unfolding outcome
 outcome-came (refused r) f j e = let z : _≡_ {A = ℕ} 0 1 = cc in absurd (omega arith)
 outcome-came (got a s) f j e = record { value = a; rest = s; first = refl; second = e }
 
-guarded : (b : Bool) (x : Outcome) (r : ℕ) (j : Job) → cond b x (refusal r) ≡ job.accepted j → x ≡ job.accepted j
+pub guarded : (b : Bool) (x : Outcome) (r : ℕ) (j : Job) → cond b x (refusal r) ≡ job.accepted j → x ≡ job.accepted j
 guarded true x r j e = e
 guarded false x r j e = let z : _≡_ {A = ℕ} 0 1 = cc in absurd (omega arith)
 

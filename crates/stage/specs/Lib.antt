@@ -4,3 +4,10 @@ pub mod Demand3
 pub mod Joints
 pub mod Places
 pub mod Whole
+pub mod Read
+pub mod Stage
+pub mod Counted
+pub mod Refusals
+pub mod Size
+pub mod Flags
+pub mod Demand

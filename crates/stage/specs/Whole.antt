@@ -24,12 +24,13 @@ use Rattle.plan.specs.Placed.{SmallX, planned-shape}
 use Rattle.drawing.specs.Build.{Drawn}
 use Rattle.drawing.specs.Sheet.{Turn, Progress, sheet-of, blank}
 use Rattle.drawing.specs.Sheet as sheet
-use Rattle.drawing.specs.Promise.{no-drawn}
+use Rattle.drawing.specs.Assembly.{sound}
+use Rattle.drawing.specs.Promise.{no-drawn, built-length}
 use Rattle.stage.specs.Order.{planned-x, turns-from, turns-of, drawn-of}
-use Rattle.stage.specs.Finite.{Limits, OkTurn}
-use Rattle.stage.specs.Demand3.{NoFalseJoint, BestPlace}
+use Rattle.stage.specs.Finite.{Limits, OkTurn, OkSheet, sheet-ok}
+use Rattle.stage.specs.Demand3.{NoFalseJoint, BestPlace, no-bundle}
 use Rattle.stage.specs.Joints.{no-false-joint}
-use Rattle.stage.specs.Places.{no-bundle, OnceARole, offsets-length, best-place}
+use Rattle.stage.specs.Places.{OnceARole, offsets-length, turns-length, best-place}
 
 -- what an accepted job's board is: its numbers within their limits, its windows within its tables, and an edge once in the bundles of a role
 pub record Readable (b : Board) (given : List Route) : Type 0 where
@@ -70,6 +71,17 @@ module _ (b : Board) (given : List Route) (readable : Readable b given) (separat
 
   offsets-fine : Every (Small 1000) (offsets-of b)
   offsets-fine = offsets-small b given (readable .limits .numbers) (b .bundles) 31 (record { input = None; output = None }) (omega arith) (omega (arith, readable .limits .numbers .few)) (tt, tt)
+
+  pub sheet-fine : (allow : Bool) (u : Progress) → drawn-of b allow given (p .xs) geometry ≡ sheet.going u → OkSheet u
+  unfolding shape offsets-fine
+  sheet-fine allow u drawn = sheet-ok b given (readable .limits) allow (turns-of b (p .xs)) geometry u (turns-fine (b .bundles) (p .xs) (offsets-of b) (shape .0) offsets-fine) drawn
+
+  -- each bundle is drawn
+  pub drawn-length : (allow : Bool) (u : Progress) → drawn-of b allow given (p .xs) geometry ≡ sheet.going u → length (u .drawn) ≡ length (b .bundles)
+  unfolding shape
+  drawn-length allow u drawn =
+      built-length b given [] (turns-of b (p .xs)) (u .drawn) (sound b allow given geometry (turns-of b (p .xs)) u drawn .built)
+      ∙ turns-length (b .bundles) (p .xs) (offsets-of b) (shape .1) (offsets-length b (b .bundles) (record { input = None; output = None }))
 
   -- with crossings forbidden: no false joint
   pub joints : (u : Progress) → drawn-of b false given (p .xs) geometry ≡ sheet.going u → NoFalseJoint b (u .routes) (u .drawn)
