@@ -3,3 +3,5 @@ pub mod Whole
 pub mod Corridors
 pub mod Planned
 pub mod Plain
+pub mod Made
+pub mod NoMinusZero
