@@ -5,3 +5,5 @@ pub mod Planned
 pub mod Plain
 pub mod Made
 pub mod NoMinusZero
+pub mod Drawn
+pub mod Extent
