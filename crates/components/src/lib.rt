@@ -4,16 +4,16 @@
 // Ported from cachanova/schemweave, commit c4a1a2c60a, crates/schemweave/src/boundary_bundles.rs
 // (Apache-2.0, see NOTICE): plan_interior_collectors, without its separation.
 ghost use mathlib.Core.Path.{_≡_};
-ghost use mathlib.Core.List.{List, map};
-ghost use Prim.Native.Nat.{ℕ, _+_, _≤_, _<_};
 ghost use mathlib.Core.Bool.{false};
+ghost use mathlib.Core.List.{List, map};
+ghost use Prim.Native.Nat.{ℕ, _≤_, _<_};
 ghost use lib.ListN.{getD, take, drop, replicate};
 ghost use Rattle.binary64.specs.Sign.{zero64};
-ghost use Rattle.search.specs.declared.Bounds.{Bounds};
-ghost use Rattle.plan.specs.declared.Bound.the-variants.{None, At};
 ghost use Rattle.geometry.specs.Points.{Route};
 ghost use Rattle.board.specs.Board.{Board};
+ghost use Rattle.search.specs.declared.Bounds.{Bounds};
 ghost use Rattle.search.specs.Search.{search-of};
+ghost use Rattle.plan.specs.declared.Bound.the-variants.{None, At};
 ghost use Rattle.plan.specs.Plan.{Ranged, if-between, drop-all, input-split, exceeds, split, limited, outputs-last, settle, treated, indices-from, components, initial-x};
 ghost use Rattle.plan.specs.Prepared.{Listing, Searchable, AllAmong, RangesAmong, passed, plan-in};
 ghost use Rattle.components.specs.Settled.{ranges-in, step-in, Chosen, inputs-extent, outputs-extent, Known, Neighboured, AllEdges, settled};
@@ -39,7 +39,8 @@ pub struct Extent {
     pub desired: f64,
 }
 
-// A plan, or that it is refused: the clamp of the split would have its low end above its high end.
+// A plan, or that it is refused (13): the clamp of the split would have its low end above its high
+// end.
 pub struct Step {
     pub refused: bool,
     pub plan: Planning,
