@@ -65,9 +65,9 @@ module _ (ms : List Member) (mask : List Bool) (rs : List Route) (marks : Marks 
 
 -- ---- one check after the other
 
-pub both-off : (xs ys zs : List Test) (n e : ℕ) → walk 12 xs n ≡ Refused e → xs ≡ ys → Refused e ≡ then-walk (walk 12 ys n) (λ k. walk 11 zs k)
+pub both-off : (xs ys zs : List Test) (n e : ℕ) (p : GeometryVisits) → walk 12 xs n ≡ Refused e p → xs ≡ ys → Refused e p ≡ then-walk (walk 12 ys n) (λ k. walk 11 zs k)
 unfolding then-walk
-both-off xs ys zs n e h q = sym (ap (λ (v : Verdict). then-walk v (λ k. walk 11 zs k)) (ap (λ (x : List Test). walk 12 x n) (sym q) ∙ h))
+both-off xs ys zs n e p h q = sym (ap (λ (v : Verdict). then-walk v (λ k. walk 11 zs k)) (ap (λ (x : List Test). walk 12 x n) (sym q) ∙ h))
 
 pub both-on : (xs ys ws zs : List Test) (n : ℕ) (p : GeometryVisits) → walk 12 xs n ≡ Clean p → xs ≡ ys → ws ≡ zs → walk 11 ws (p .0) ≡ then-walk (walk 12 ys n) (λ k. walk 11 zs k)
 unfolding then-walk

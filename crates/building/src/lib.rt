@@ -19,8 +19,9 @@ ghost use Rattle.board.specs.Board.{bundle-pitch};
 ghost use Rattle.drawing.specs.Build.{route-at, trunk-met, trunk-taps, lowest, highest, center, rail-low, rail-high, all-at};
 ghost use Rattle.drawing.specs.Rewrite.{rewritten, put-route, rewrite-all};
 ghost use Rattle.drawing.specs.Check.{walk, among, over-routes, contact-tests};
+ghost use Rattle.drawing.specs.Sheet.{planned-x};
 ghost use Rattle.checks.specs.Rows.{taps-from, drawn-of, inside-route, Tabled, AllTabled, Slotted};
-ghost use Rattle.building.specs.Rows.{members-from, depth-at, rewrite-with, routes-in, CountsKept, Laned, Roomy, Placed, Untouched, Slots, Blank, Known, Marks, then-walk, rail-point, tapped-in, interior-at, drawn-row, inside-with, railed-with, corner-with, planned-at, Draws};
+ghost use Rattle.building.specs.Rows.{members-from, depth-at, rewrite-with, routes-in, CountsKept, Laned, Roomy, Placed, Untouched, Slots, Blank, Known, Marks, then-walk, rail-point, tapped-in, interior-at, Row, drawn-row, inside-with, railed-with, corner-with, Draws};
 use board::Bundle;
 use board::DrawnBundle;
 use board::DrawnBundles;
@@ -165,7 +166,8 @@ pub fn rewrite_member_routes(
     scratch: &mut [f64],
 ) -> bool
     requires { ⌜ Tabled first count (now edges) (now taps) × Laned first count (now lanes) × Roomy (now edges) first 0 count (now points) (now counts) × (136 ≤ length (now scratch)) ⌝ }
-    ensures { λ r. ⌜ routes-in r (now (points .exit)) (now (counts .exit)) ≡ rewrite-all inside role pitch offset (taps-from (now (edges .entry)) (now (taps .entry)) first count) (members-from (now (edges .entry)) (now (lanes .entry)) first count) (routes-of (now (points .entry)) (now (counts .entry))) ⌝ }
+    ensures told { λ r. ⌜ routes-in r (now (points .exit)) (now (counts .exit)) ≡ rewrite-all inside role pitch offset (taps-from (now (edges .entry)) (now (taps .entry)) first count) (members-from (now (edges .entry)) (now (lanes .entry)) first count) (routes-of (now (points .entry)) (now (counts .entry))) ⌝ }
+    ensures hold { λ r. ⌜ Held (now (counts .exit)) ⌝ }
 {
     let mut i: usize = 0;
     while i < count {
@@ -492,8 +494,8 @@ pub fn build_geometry(
     taps: &mut [f64],
 ) -> DrawnBundle
     requires { ⌜ Tabled (u .first) (u .count) (now edges) (now taps) × (u .first + u .count ≤ length (now lanes)) × Slots (now edges) (u .first) (u .count) (now points) (now counts) ⌝ }
-    ensures drawn { λ r. ⌜ Draws o u end (members-from (now (edges .entry)) (now (lanes .entry)) (u .first) (u .count)) (planned-at planned) (routes-of (now (points .entry)) (now (counts .entry))) (drawn-of (now (edges .entry)) (now (taps .exit)) r) ⌝ }
-    ensures members { λ r. ⌜ (r .first ≡ u .first) × (r .count ≡ u .count) ⌝ }
+    ensures drawn { λ r. ⌜ Draws o u end (members-from (now (edges .entry)) (now (lanes .entry)) (u .first) (u .count)) (planned-x planned) (routes-of (now (points .entry)) (now (counts .entry))) (drawn-of (now (edges .entry)) (now (taps .exit)) r) ⌝ }
+    ensures row { λ r. ⌜ Row u r ⌝ }
     ensures kept { λ r. ⌜ Untouched (now (taps .entry)) (now (taps .exit)) (u .first) (u .count) ⌝ }
 {
     match planned {
@@ -572,7 +574,7 @@ pub fn verify_bundle(
         visits,
     );
     match v {
-        Verdict::Refused(r) => Verdict::Refused(r),
+        Verdict::Refused(r, p) => Verdict::Refused(r, p),
         Verdict::Clean(q) => checks::verify_new_bundle_route_contacts(
             o,
             allow,

@@ -29,21 +29,21 @@ use Rattle.drawing.specs.declared.Verdict.the-variants.{Clean, Refused}
 use Rattle.geometry.specs.Contact.{slanted}
 use Rattle.geometry.specs.Enters.{passes-inside}
 use Rattle.drawing.specs.Build.{seg, tap-of}
-use Rattle.drawing.specs.Check.{Test, due, barred, clean, walk, own, node-tests, inside-tests, no-edge, clash, run-tests, over-routes, drawn-tests, pair-tests, prior-tests}
+use Rattle.drawing.specs.Check.{Test, due, barred, clean, failed, walk, own, node-tests, inside-tests, no-edge, clash, run-tests, over-routes, drawn-tests, pair-tests, prior-tests}
 use Rattle.drawing.specs.Laws.{walk-on, walk-off}
 use Rattle.checks.specs.Rows.{taps-from, drawn-of, inside-route, Tabled, AllTabled}
 
 -- ---- one test
 
 module _ (e : ℕ) (b : Bool) (ts : List Test) where
-  pub due-spent : (n : ℕ) → n ≡ 0 → walk e (due b ∷ ts) n ≡ Refused 14
+  pub due-spent : (n : ℕ) → n ≡ 0 → walk e (due b ∷ ts) n ≡ failed 14 n
   unfolding walk
   due-spent n z = rw z
 
-  pub due-hit : (n : ℕ) → (n ≡ 0 → ⊥) → b ≡ true → walk e (due b ∷ ts) n ≡ Refused e
+  pub due-hit : (n : ℕ) → (n ≡ 0 → ⊥) → b ≡ true → walk e (due b ∷ ts) n ≡ failed e (n - 1)
   unfolding walk
   due-hit zero z h = absurd (z refl)
-  due-hit (suc n) z h = rw h
+  due-hit (suc n) z h = let a : suc n - 1 ≡ n = omega arith in rw (h, a)
 
   pub due-clean : (n : ℕ) → (n ≡ 0 → ⊥) → b ≡ false → walk e (due b ∷ ts) n ≡ walk e ts (n - 1)
   unfolding walk
@@ -73,10 +73,10 @@ module _ (o : Options) (allow : Bool) (bus : Segment) (tap : Tap) (s : List Floa
       let b : n - 0 ≡ n = omega arith in
       rw (a, b)
 
-  pub walk-spent : (i k : ℕ) → i + 1 < n → k ≡ 0 → walk 11 (tests-at i) k ≡ Refused 14
+  pub walk-spent : (i k : ℕ) → i + 1 < n → k ≡ 0 → walk 11 (tests-at i) k ≡ failed 14 k
   walk-spent i k h z = ap (λ (l : List Test). walk 11 l k) (tests-next i h) ∙ due-spent 11 (clash-at i) (tests-at (i + 1)) k z
 
-  pub walk-hit : (i k : ℕ) → i + 1 < n → (k ≡ 0 → ⊥) → clash-at i ≡ true → walk 11 (tests-at i) k ≡ Refused 11
+  pub walk-hit : (i k : ℕ) → i + 1 < n → (k ≡ 0 → ⊥) → clash-at i ≡ true → walk 11 (tests-at i) k ≡ failed 11 (k - 1)
   walk-hit i k h z e = ap (λ (l : List Test). walk 11 l k) (tests-next i h) ∙ due-hit 11 (clash-at i) (tests-at (i + 1)) k z e
 
   pub walk-next : (i k : ℕ) → i + 1 < n → (k ≡ 0 → ⊥) → clash-at i ≡ false → walk 11 (tests-at (i + 1)) (k - 1) ≡ walk 11 (tests-at i) k
@@ -135,8 +135,8 @@ module _ (er : ℕ) (f : ℕ → Route → List Test) (chosen : ℕ → Bool) (s
   pub over-on : (i k : ℕ) (q : GeometryVisits) → i < length ns → chosen i ≡ true → walk er (f i (slot-at i)) k ≡ Clean q → walk er (rest-of (i + 1)) (q .0) ≡ walk er (rest-of i) k
   over-on i k q h e w = sym (ap (λ (l : List Test). walk er l k) (chosen-next i h e) ∙ walk-on er (f i (slot-at i)) (rest-of (i + 1)) k q w)
 
-  pub over-off : (i k r : ℕ) → i < length ns → chosen i ≡ true → walk er (f i (slot-at i)) k ≡ Refused r → walk er (rest-of i) k ≡ Refused r
-  over-off i k r h e w = ap (λ (l : List Test). walk er l k) (chosen-next i h e) ∙ walk-off er (f i (slot-at i)) (rest-of (i + 1)) k r w
+  pub over-off : (i k r : ℕ) (p : GeometryVisits) → i < length ns → chosen i ≡ true → walk er (f i (slot-at i)) k ≡ Refused r p → walk er (rest-of i) k ≡ Refused r p
+  over-off i k r p h e w = ap (λ (l : List Test). walk er l k) (chosen-next i h e) ∙ walk-off er (f i (slot-at i)) (rest-of (i + 1)) k r p w
 
   pub over-end : (i k : ℕ) → length ns ≤ i → walk er (rest-of i) k ≡ clean k
   unfolding over-routes routes-from walk
@@ -182,8 +182,8 @@ module _ (o : Options) (allow : Bool) (new : DrawnBundle) (changed : ℕ → Boo
   pub prior-on : (i : ℕ) (d : DrawnBundle) (k : ℕ) (q : GeometryVisits) → i < n → n ≤ length l → walk 11 (one-at (getD l i d)) k ≡ Clean q → walk 11 (priors-at (i + 1)) (q .0) ≡ walk 11 (priors-at i) k
   prior-on i d k q h m w = sym (ap (λ (x : List Test). walk 11 x k) (prior-next i d h m) ∙ walk-on 11 (one-at (getD l i d)) (priors-at (i + 1)) k q w)
 
-  pub prior-off : (i : ℕ) (d : DrawnBundle) (k r : ℕ) → i < n → n ≤ length l → walk 11 (one-at (getD l i d)) k ≡ Refused r → walk 11 (priors-at i) k ≡ Refused r
-  prior-off i d k r h m w = ap (λ (x : List Test). walk 11 x k) (prior-next i d h m) ∙ walk-off 11 (one-at (getD l i d)) (priors-at (i + 1)) k r w
+  pub prior-off : (i : ℕ) (d : DrawnBundle) (k r : ℕ) (p : GeometryVisits) → i < n → n ≤ length l → walk 11 (one-at (getD l i d)) k ≡ Refused r p → walk 11 (priors-at i) k ≡ Refused r p
+  prior-off i d k r p h m w = ap (λ (x : List Test). walk 11 x k) (prior-next i d h m) ∙ walk-off 11 (one-at (getD l i d)) (priors-at (i + 1)) k r p w
 
   pub prior-end : (i k : ℕ) → n ≤ i → n ≤ length l → walk 11 (priors-at i) k ≡ clean k
   unfolding prior-tests walk
@@ -209,10 +209,10 @@ module _ (e : Edge) (s : Segment) (l : List PlacedNode) (n : ℕ) (rest : List T
   pub node-own : (j : ℕ) (d : PlacedNode) (k : ℕ) → j < n → n ≤ length l → own e j ≡ true → walk 12 (nodes-at (j + 1)) k ≡ walk 12 (nodes-at j) k
   node-own j d k h m o = sym (ap (λ (x : List Test). walk 12 x k) (own-next j d h m o))
 
-  pub node-spent : (j : ℕ) (d : PlacedNode) (k : ℕ) → j < n → n ≤ length l → own e j ≡ false → k ≡ 0 → walk 12 (nodes-at j) k ≡ Refused 14
+  pub node-spent : (j : ℕ) (d : PlacedNode) (k : ℕ) → j < n → n ≤ length l → own e j ≡ false → k ≡ 0 → walk 12 (nodes-at j) k ≡ failed 14 k
   node-spent j d k h m o z = ap (λ (x : List Test). walk 12 x k) (due-next j d h m o) ∙ due-spent 12 _ (nodes-at (j + 1)) k z
 
-  pub node-hit : (j : ℕ) (d : PlacedNode) (k : ℕ) → j < n → n ≤ length l → own e j ≡ false → (k ≡ 0 → ⊥) → passes-inside (s .start) (s .end) (getD l j d .body) ≡ true → walk 12 (nodes-at j) k ≡ Refused 12
+  pub node-hit : (j : ℕ) (d : PlacedNode) (k : ℕ) → j < n → n ≤ length l → own e j ≡ false → (k ≡ 0 → ⊥) → passes-inside (s .start) (s .end) (getD l j d .body) ≡ true → walk 12 (nodes-at j) k ≡ failed 12 (k - 1)
   node-hit j d k h m o z x = ap (λ (x : List Test). walk 12 x k) (due-next j d h m o) ∙ due-hit 12 _ (nodes-at (j + 1)) k z x
 
   pub node-clean : (j : ℕ) (d : PlacedNode) (k : ℕ) → j < n → n ≤ length l → own e j ≡ false → (k ≡ 0 → ⊥) → passes-inside (s .start) (s .end) (getD l j d .body) ≡ false → walk 12 (nodes-at (j + 1)) (k - 1) ≡ walk 12 (nodes-at j) k
@@ -238,7 +238,7 @@ module _ (ns : List PlacedNode) (e : Edge) (s : List Float) (start n : ℕ) wher
   unfolding inside-tests
   inside-next i h = rw (runs-next s start n i h)
 
-  pub inside-slanted : (i k : ℕ) → i + 1 < n → slanted (point-at s (start + i)) (point-at s (start + i + 1)) ≡ true → walk 12 (inside-at i) k ≡ Refused 12
+  pub inside-slanted : (i k : ℕ) → i + 1 < n → slanted (point-at s (start + i)) (point-at s (start + i + 1)) ≡ true → walk 12 (inside-at i) k ≡ failed 12 k
   unfolding walk
   inside-slanted i k h x = ap (λ (l : List Test). walk 12 l k) (inside-next i h) ∙ ap (λ (b : Bool). walk 12 (cond b (barred ∷ []) (node-tests e (run-at s (start + i)) ns 0) ++ inside-at (i + 1)) k) x
 

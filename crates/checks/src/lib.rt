@@ -54,13 +54,13 @@ fn bus_on_route(
     while i + 1 < count {
         let n = left.0;
         if n == 0 {
-            return Verdict::Refused(14);
+            return Verdict::Refused(14, left);
         }
         left = GeometryVisits(n - 1);
         let a = geometry::point_at(points, start + i);
         let b = geometry::point_at(points, start + i + 1);
         if clashes(o, allow, bus, tap, Segment { start: a, end: b }) {
-            return Verdict::Refused(11);
+            return Verdict::Refused(11, left);
         }
         i += 1;
     }
@@ -109,8 +109,8 @@ fn bus_on_routes(
             let tap = tap_on_route(edges, taps, first, count, k);
             let v = bus_on_route(o, allow, bus, tap, points, 68 * k, counts[k], left);
             match v {
-                Verdict::Refused(r) => {
-                    return Verdict::Refused(r);
+                Verdict::Refused(r, p) => {
+                    return Verdict::Refused(r, p);
                 }
                 Verdict::Clean(q) => {
                     left = q;
@@ -152,7 +152,7 @@ fn drawn_on_routes(
         visits,
     );
     match v {
-        Verdict::Refused(r) => Verdict::Refused(r),
+        Verdict::Refused(r, p) => Verdict::Refused(r, p),
         Verdict::Clean(q) => bus_on_routes(
             o,
             allow,
@@ -176,12 +176,13 @@ fn looked(bad: bool, visits: GeometryVisits) -> Verdict
 {
     let n = visits.0;
     if n == 0 {
-        return Verdict::Refused(14);
+        return Verdict::Refused(14, visits);
     }
+    let left = GeometryVisits(n - 1);
     if bad {
-        return Verdict::Refused(11);
+        return Verdict::Refused(11, left);
     }
-    Verdict::Clean(GeometryVisits(n - 1))
+    Verdict::Clean(left)
 }
 
 // Two segments of two bundles.
@@ -203,7 +204,7 @@ fn bus_on_drawn(
 {
     let v = bus_on_bus(o, allow, a, prior.collector, visits);
     match v {
-        Verdict::Refused(r) => Verdict::Refused(r),
+        Verdict::Refused(r, p) => Verdict::Refused(r, p),
         Verdict::Clean(q) => bus_on_bus(o, allow, a, prior.spine, q),
     }
 }
@@ -219,7 +220,7 @@ fn drawn_on_drawn(
 {
     let v = bus_on_drawn(o, allow, new.collector, prior, visits);
     match v {
-        Verdict::Refused(r) => Verdict::Refused(r),
+        Verdict::Refused(r, p) => Verdict::Refused(r, p),
         Verdict::Clean(q) => bus_on_drawn(o, allow, new.spine, prior, q),
     }
 }
@@ -253,7 +254,7 @@ fn verify_prior(
         visits,
     );
     match v {
-        Verdict::Refused(r) => Verdict::Refused(r),
+        Verdict::Refused(r, p) => Verdict::Refused(r, p),
         Verdict::Clean(q) => drawn_on_drawn(o, allow, new, prior, q),
     }
 }
@@ -291,8 +292,8 @@ fn verify_priors(
             left,
         );
         match v {
-            Verdict::Refused(r) => {
-                return Verdict::Refused(r);
+            Verdict::Refused(r, p) => {
+                return Verdict::Refused(r, p);
             }
             Verdict::Clean(q) => {
                 left = q;
@@ -333,7 +334,7 @@ pub fn verify_new_bundle_route_contacts(
         visits,
     );
     match v {
-        Verdict::Refused(r) => Verdict::Refused(r),
+        Verdict::Refused(r, p) => Verdict::Refused(r, p),
         Verdict::Clean(q) => verify_priors(
             o,
             allow,
@@ -377,7 +378,7 @@ fn route_inside(
         let a = geometry::point_at(points, start + i);
         let b = geometry::point_at(points, start + i + 1);
         if geometry::is_slanted(a, b) {
-            return Verdict::Refused(12);
+            return Verdict::Refused(12, left);
         }
         let mut j: usize = 0;
         while j < n {
@@ -388,12 +389,12 @@ fn route_inside(
             }
             let g = left.0;
             if g == 0 {
-                return Verdict::Refused(14);
+                return Verdict::Refused(14, left);
             }
             left = GeometryVisits(g - 1);
             let row = nodes.rows[k];
             if geometry::run_passes_inside(a, b, row.body) {
-                return Verdict::Refused(12);
+                return Verdict::Refused(12, left);
             }
         }
         i += 1;
@@ -421,8 +422,8 @@ pub fn verify_one_bundle_route_node_interiors(
         if mask[k] {
             let v = route_inside(nodes, edges.rows[k], points, 68 * k, counts[k], left);
             match v {
-                Verdict::Refused(r) => {
-                    return Verdict::Refused(r);
+                Verdict::Refused(r, p) => {
+                    return Verdict::Refused(r, p);
                 }
                 Verdict::Clean(q) => {
                     left = q;

@@ -6,8 +6,8 @@
 // Geometry visits left: they pay for the looks of the two checks, and for nothing else.
 pub struct GeometryVisits(pub u32);
 
-// How a check ends: with the visits left, or with the number of a refusal.
+// How a check ends: with the visits left, or with the number of a refusal and the visits left then.
 pub enum Verdict {
     Clean(GeometryVisits),
-    Refused(u8),
+    Refused(u8, GeometryVisits),
 }

@@ -37,9 +37,9 @@ pub data Cause (bytes : List ℕ) : Told → Type 0 where
 
 sheet-cause : (bytes : List ℕ) (j : Job) → read-job bytes ≡ job.accepted j → (p : Plan) → planned j ≡ plan.going p → (o : drawing.Outcome) → sheet-drawn j p ≡ o → Cause bytes (after-sheet (j .board) p o)
 unfolding after-sheet
-sheet-cause bytes j r p q (drawing.refused n) e =
-    let h = sheet-numbers (j .board) _ _ _ n e in
-    a-refusal n (omega (arith, h .0), h .1) (λ room l. in-sheet l j r p q n e)
+sheet-cause bytes j r p q (drawing.refused n v) e =
+    let h = sheet-numbers (j .board) _ _ _ n v e in
+    a-refusal n (omega (arith, h .0), h .1) (λ room l. in-sheet l j r p q n v e)
 sheet-cause bytes j r p q (drawing.going u) e = a-sheet _ (record { said = j; is-read = r; plan-made = p; is-planned = q; sheet-made = u; is-drawn = e; is-answer = refl })
 
 plan-cause : (bytes : List ℕ) (j : Job) → read-job bytes ≡ job.accepted j → (s : Step) → planned j ≡ s → Cause bytes (after-plan j s)
@@ -138,13 +138,13 @@ unfolding after-sheet after-plan after-reading told-bytes
 due-written bytes room h n (two l) = absurd (omega arith)
 due-written bytes room h n (in-reading l m d) = roomy bytes room h ∙ rw (due-read bytes m d)
 due-written bytes room h n (thirteen l j e v q) = roomy bytes room h ∙ rw (e, q)
-due-written bytes room h n (in-sheet l j e p q m d) = roomy bytes room h ∙ rw (e, q, d)
+due-written bytes room h n (in-sheet l j e p q m v d) = roomy bytes room h ∙ rw (e, q, d)
 
 due-number : (bytes : List ℕ) (room n : ℕ) → Due bytes room n → From-to 1 14 n
 due-number bytes room n (two l) = (omega arith, omega arith)
 due-number bytes room n (in-reading l m d) = let h = reader-numbers bytes m (due-read bytes m d) in (h .0, omega (arith, h .1))
 due-number bytes room n (thirteen l j e v q) = (omega arith, omega arith)
-due-number bytes room n (in-sheet l j e p q m d) = let h = sheet-numbers (j .board) _ _ _ n d in (omega (arith, h .0), h .1)
+due-number bytes room n (in-sheet l j e p q m v d) = let h = sheet-numbers (j .board) _ _ _ m v d in (omega (arith, h .0), h .1)
 
 -- byte 5 of a notice and of an answer
 notice-byte : (n : ℕ) → getD (notice-bytes n) 5 1 ≡ n % 256
@@ -163,7 +163,7 @@ due-once bytes room m n d e = go (room-of room)
     short-two k h (two l) = refl
     short-two k h (in-reading l i r) = absurd (omega arith)
     short-two k h (thirteen l j r v q) = absurd (omega arith)
-    short-two k h (in-sheet l j r p q i f) = absurd (omega arith)
+    short-two k h (in-sheet l j r p q i v f) = absurd (omega arith)
 
     go : Room room → m ≡ n
     go (too-short h) = short-two m h d ∙ sym (short-two n h e)

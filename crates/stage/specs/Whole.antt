@@ -19,7 +19,8 @@ use Rattle.plan.specs.Depths.{offsets-of}
 use Rattle.plan.specs.Plan.{Plan, going, due, plan-of}
 use Rattle.plan.specs.Lone.{Lone}
 use Rattle.plan.specs.Numbers.{Small, offsets-small}
-use Rattle.plan.specs.Placed.{Windowed, SmallX, planned-shape}
+use Rattle.plan.specs.Carried.{Windowed}
+use Rattle.plan.specs.Placed.{SmallX, planned-shape}
 use Rattle.drawing.specs.Sheet.{Turn, Progress}
 use Rattle.drawing.specs.Sheet as sheet
 use Rattle.drawing.specs.Assembly.{touched, sound}

@@ -63,7 +63,7 @@ returns c =
     let w = s .slots in
     let x = s .masked in
     let y = routes-length (now (a .points)) 0 (now (a .counts)) in
-    both-off _ _ (contact-tests (a .o) (a .allow) (drawn-of (now (a .edges)) (now (a .taps)) (a .new)) (among (members-from (now (a .edges)) [] (a .new .first) (a .new .count))) (map (drawn-of (now (a .edges)) (now (a .taps))) (take (a .priors .count) (a .priors .rows))) (routes-of (now (a .points)) (now (a .counts)))) (a .visits .0) _ (sym (c .before .before .before .verify-one-bundle-route-node-interiors .ensures) ∙ c .before .v .given .1) (inside-masked (members-from (now (a .edges)) [] (a .new .first) (a .new .count)) (f .last .1 .1 .1 .0) (routes-of (now (a .points)) (now (a .counts))) (f .ensures) (omega (arith, k, x, y)) (take (a .nodes .count) (a .nodes .rows)) (take (a .table .count) (a .table .rows)))
+    both-off _ _ (contact-tests (a .o) (a .allow) (drawn-of (now (a .edges)) (now (a .taps)) (a .new)) (among (members-from (now (a .edges)) [] (a .new .first) (a .new .count))) (map (drawn-of (now (a .edges)) (now (a .taps))) (take (a .priors .count) (a .priors .rows))) (routes-of (now (a .points)) (now (a .counts)))) (a .visits .0) _ _ (sym (c .before .before .before .verify-one-bundle-route-node-interiors .ensures) ∙ c .before .v .given .1) (inside-masked (members-from (now (a .edges)) [] (a .new .first) (a .new .count)) (f .last .1 .1 .1 .0) (routes-of (now (a .points)) (now (a .counts))) (f .ensures) (omega (arith, k, x, y)) (take (a .nodes .count) (a .nodes .rows)) (take (a .table .count) (a .table .rows)))
 
 same-length-2 : tie.Need-same-length-2
 same-length-2 c = search needs

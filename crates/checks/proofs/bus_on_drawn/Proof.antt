@@ -29,7 +29,7 @@ returns : tie.Need-returns
 returns c =
     let a = c .before .before .before .before .args in
     let w = sym (c .before .before .before .bus-on-bus .ensures) ∙ c .before .v .given .1 in
-    sym (walk-off 11 (due (clash (a .o) (a .allow) (a .a) Absent (a .prior .collector)) ∷ []) (due (clash (a .o) (a .allow) (a .a) Absent (a .prior .spine)) ∷ []) (a .visits .0) _ w)
+    sym (walk-off 11 (due (clash (a .o) (a .allow) (a .a) Absent (a .prior .collector)) ∷ []) (due (clash (a .o) (a .allow) (a .a) Absent (a .prior .spine)) ∷ []) (a .visits .0) _ _ w)
 
 returns-2 : tie.Need-returns-2
 returns-2 c =

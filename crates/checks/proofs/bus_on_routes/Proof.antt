@@ -61,7 +61,7 @@ returns c =
     let a = c .before .before .before .before .before .before .before .before .before .before .before .before .before .before .before .args in
     let l = c .before .before .before .before .before .before .before .before .before .loop in
     let w = rw (c .before .before .before .before .before .tap-on-route .ensures) at (sym (c .before .before .before .bus-on-route .ensures) ∙ c .before .v .given .1) in
-    sym (over-off 11 (route-tests (a .o) (a .allow) (a .bus) (taps-from (now (a .edges)) (now (a .taps)) (a .first) (a .count))) (chosen-by (a .all) (now (a .mask))) (now (a .points)) (now (a .counts)) (l .e) (l .left .0) _ (c .before .before .before .before .before .before .before .before .loop-test .taken) (c .before .before .before .before .before .before .if1 .taken) w) ∙ l .inv .3
+    sym (over-off 11 (route-tests (a .o) (a .allow) (a .bus) (taps-from (now (a .edges)) (now (a .taps)) (a .first) (a .count))) (chosen-by (a .all) (now (a .mask))) (now (a .points)) (now (a .counts)) (l .e) (l .left .0) _ _ (c .before .before .before .before .before .before .before .before .loop-test .taken) (c .before .before .before .before .before .before .if1 .taken) w) ∙ l .inv .3
 
 enum-known-v-2 : tie.Need-enum-known-v-2 Inv-loop μ-loop
 enum-known-v-2 c = search needs

@@ -30,7 +30,7 @@ unfolding pair-tests
 returns c =
     let a = c .before .before .before .before .args in
     let w = sym (c .before .before .before .bus-on-drawn .ensures) ∙ c .before .v .given .1 in
-    sym (walk-off 11 (due (clash (a .o) (a .allow) (a .new .collector) Absent (a .prior .collector)) ∷ due (clash (a .o) (a .allow) (a .new .collector) Absent (a .prior .spine)) ∷ []) (due (clash (a .o) (a .allow) (a .new .spine) Absent (a .prior .collector)) ∷ due (clash (a .o) (a .allow) (a .new .spine) Absent (a .prior .spine)) ∷ []) (a .visits .0) _ w)
+    sym (walk-off 11 (due (clash (a .o) (a .allow) (a .new .collector) Absent (a .prior .collector)) ∷ due (clash (a .o) (a .allow) (a .new .collector) Absent (a .prior .spine)) ∷ []) (due (clash (a .o) (a .allow) (a .new .spine) Absent (a .prior .collector)) ∷ due (clash (a .o) (a .allow) (a .new .spine) Absent (a .prior .spine)) ∷ []) (a .visits .0) _ _ w)
 
 returns-2 : tie.Need-returns-2
 unfolding pair-tests

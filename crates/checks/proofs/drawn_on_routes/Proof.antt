@@ -30,7 +30,7 @@ unfolding drawn-tests
 returns c =
     let a = c .before .before .before .before .before .before .before .before .before .args in
     let w = sym (c .before .before .before .bus-on-routes .ensures) ∙ c .before .v .given .1 in
-    sym (walk-off 11 (over-routes (route-tests (a .o) (a .allow) (a .d .collector) (taps-from (now (a .edges)) (now (a .taps)) (a .d .first) (a .d .count))) (chosen-by (a .all) (now (a .mask))) (routes-of (now (a .points)) (now (a .counts))) 0) (over-routes (route-tests (a .o) (a .allow) (a .d .spine) (taps-from (now (a .edges)) (now (a .taps)) (a .d .first) (a .d .count))) (chosen-by (a .all) (now (a .mask))) (routes-of (now (a .points)) (now (a .counts))) 0) (a .visits .0) _ w)
+    sym (walk-off 11 (over-routes (route-tests (a .o) (a .allow) (a .d .collector) (taps-from (now (a .edges)) (now (a .taps)) (a .d .first) (a .d .count))) (chosen-by (a .all) (now (a .mask))) (routes-of (now (a .points)) (now (a .counts))) 0) (over-routes (route-tests (a .o) (a .allow) (a .d .spine) (taps-from (now (a .edges)) (now (a .taps)) (a .d .first) (a .d .count))) (chosen-by (a .all) (now (a .mask))) (routes-of (now (a .points)) (now (a .counts))) 0) (a .visits .0) _ _ w)
 
 returns-2 : tie.Need-returns-2
 unfolding drawn-tests

@@ -32,7 +32,7 @@ unfolding contact-tests
 returns c =
     let a = c .before .before .before .before .before .before .before .before .before .args in
     let w = sym (c .before .before .before .drawn-on-routes .ensures) ∙ c .before .v .given .1 in
-    sym (walk-off 11 (drawn-tests (a .o) (a .allow) (drawn-of (now (a .edges)) (now (a .taps)) (a .new)) (chosen-by true (now (a .changed))) (routes-of (now (a .points)) (now (a .counts)))) (prior-tests (a .o) (a .allow) (drawn-of (now (a .edges)) (now (a .taps)) (a .new)) (chosen-by false (now (a .changed))) (map (drawn-of (now (a .edges)) (now (a .taps))) (take (a .priors .count) (a .priors .rows))) (routes-of (now (a .points)) (now (a .counts)))) (a .visits .0) _ w)
+    sym (walk-off 11 (drawn-tests (a .o) (a .allow) (drawn-of (now (a .edges)) (now (a .taps)) (a .new)) (chosen-by true (now (a .changed))) (routes-of (now (a .points)) (now (a .counts)))) (prior-tests (a .o) (a .allow) (drawn-of (now (a .edges)) (now (a .taps)) (a .new)) (chosen-by false (now (a .changed))) (map (drawn-of (now (a .edges)) (now (a .taps))) (take (a .priors .count) (a .priors .rows))) (routes-of (now (a .points)) (now (a .counts)))) (a .visits .0) _ _ w)
 
 returns-2 : tie.Need-returns-2
 unfolding contact-tests

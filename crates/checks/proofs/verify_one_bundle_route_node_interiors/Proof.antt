@@ -71,7 +71,7 @@ returns c =
     let r = rows t in
     let h : l .e < a .t2 .count = omega arith in
     let w = edge-tests (take (a .nodes .count) (a .nodes .rows)) (a .t2 .rows) (a .t2 .count) (l .e) _ _ _ h (omega arith) ∙ sym (c .before .before .before .route-inside .ensures) ∙ c .before .v .given .1 in
-    sym (over-off 12 (inside-route (take (a .nodes .count) (a .nodes .rows)) (take (a .t2 .count) (a .t2 .rows))) (chosen-by false (now (a .mask))) (now (a .points)) (now (a .counts)) (l .e) (l .left .0) _ (c .before .before .before .before .before .before .before .before .loop-test .taken) (c .before .before .before .before .before .before .if1 .taken) w) ∙ l .inv .5
+    sym (over-off 12 (inside-route (take (a .nodes .count) (a .nodes .rows)) (take (a .t2 .count) (a .t2 .rows))) (chosen-by false (now (a .mask))) (now (a .points)) (now (a .counts)) (l .e) (l .left .0) _ _ (c .before .before .before .before .before .before .before .before .loop-test .taken) (c .before .before .before .before .before .before .if1 .taken) w) ∙ l .inv .5
 
 enum-known-v-2 : tie.Need-enum-known-v-2 Inv-loop μ-loop
 enum-known-v-2 c = search needs

@@ -33,7 +33,7 @@ returns : tie.Need-returns
 returns c =
     let a = c .before .before .before .before .before .before .before .before .before .args in
     let w = sym (c .before .before .before .drawn-on-routes .ensures) ∙ c .before .v .given .1 in
-    sym (walk-off 11 (drawn-tests (a .o) (a .allow) (drawn-of (now (a .edges)) (now (a .taps)) (a .prior)) (chosen-by false (now (a .changed))) (routes-of (now (a .points)) (now (a .counts)))) (pair-tests (a .o) (a .allow) (drawn-of (now (a .edges)) (now (a .taps)) (a .new)) (drawn-of (now (a .edges)) (now (a .taps)) (a .prior))) (a .visits .0) _ w)
+    sym (walk-off 11 (drawn-tests (a .o) (a .allow) (drawn-of (now (a .edges)) (now (a .taps)) (a .prior)) (chosen-by false (now (a .changed))) (routes-of (now (a .points)) (now (a .counts)))) (pair-tests (a .o) (a .allow) (drawn-of (now (a .edges)) (now (a .taps)) (a .new)) (drawn-of (now (a .edges)) (now (a .taps)) (a .prior))) (a .visits .0) _ _ w)
 
 returns-2 : tie.Need-returns-2
 unfolding pair-tests

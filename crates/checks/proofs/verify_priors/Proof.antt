@@ -56,7 +56,7 @@ returns c =
     let l = c .before .before .before .before .before .before .loop in
     let r = rows t in
     let w = sym (c .before .before .before .verify-prior .ensures) ∙ c .before .v .given .1 in
-    sym (prior-off (a .o) (a .allow) (a .new) (chosen-by false (now (a .changed))) (now (a .edges)) (now (a .taps)) (routes-of (now (a .points)) (now (a .counts))) (a .t4 .rows) (a .t4 .count) (l .i) _ (l .left .0) _ (c .before .before .before .before .before .loop-test .taken) (omega arith) w) ∙ l .inv .4
+    sym (prior-off (a .o) (a .allow) (a .new) (chosen-by false (now (a .changed))) (now (a .edges)) (now (a .taps)) (routes-of (now (a .points)) (now (a .counts))) (a .t4 .rows) (a .t4 .count) (l .i) _ (l .left .0) _ _ (c .before .before .before .before .before .loop-test .taken) (omega arith) w) ∙ l .inv .4
 
 enum-known-v-2 : tie.Need-enum-known-v-2 Inv-loop μ-loop
 enum-known-v-2 c = search needs

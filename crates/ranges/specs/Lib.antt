@@ -1,0 +1,4 @@
+pub mod Looks
+pub mod Whole
+pub mod Corridors
+pub mod Planned
