@@ -9,7 +9,8 @@ use borrow.Author.Tests.{leb-false}
 use lib.Dec.{T, leb}
 use lib.ListN.{length, getD, set, replicate}
 use lib.Ieee as Ieee
-use lib.Ieee.{Float, lt}
+use lib.Ieee.{Float, binary64, lt, fits}
+use lib.Ieee.Fits.{div-fits}
 use Rattle.binary64.specs.Order.{least, greatest}
 use Rattle.binary64.specs.Sign.{zero64}
 use Rattle.geometry.specs.declared.Point.{Point}
@@ -52,12 +53,15 @@ pub record Traits (look : Look) (b : Board) (routes : List Route) : Type 1 where
   pub P : Float → Type 0
   pub Q : Float → Type 0
   pub weaker : (x : Float) → P x → Q x
-  pub plus : (x d : Float) → Q x → Q (x ⊕ d)
-  pub minus : (x d : Float) → Q x → Q (x ⊖ d)
+  pub plus : (x d : Float) → T (fits binary64 d) → Q x → Q (x ⊕ d)
+  pub minus : (x d : Float) → T (fits binary64 d) → Q x → Q (x ⊖ d)
   pub none : Q zero64
   pub end : (u : Bundle) → Q (endpoint-of b u .x)
   pub points : Every (Every (λ (p : Point). Q (p .x))) routes
   pub corridor : (role : Role) (e : ℕ) → OfBound Q (corridor-of b role e)
+  pub pitch-fits : T (fits binary64 (parting-pitch b))
+  pub rail-fits : T (fits binary64 (rail-depth (b .options)))
+  pub reserve-fits : T (fits binary64 (b .options .«member_endpoint_reserve»))
   pub found : (u : Bundle) (r : Bounds) (v : ℕ) → Windowed b u → 1 < u .count → OfBounds Q r → OfBound P (found-x (look (u .role) r (trunks b routes u) v .outcome))
 
 pick : (t : Bool) (x y : Float) (P : Float → Type 0) → P x → P y → P (cond t x y)
@@ -158,11 +162,11 @@ module _ (look : Look) (b : Board) (routes : List Route) (traits : Traits look b
   reach-fine Input m =
       let reserve = b .options .«member_endpoint_reserve» in
       of-map Q (reach-x Input reserve (corridor-of b Output (m .edge))) (last-x (route-of b routes m)) (of-last Q (route-of b routes m) (route-fine m))
-      (λ x s. of-lowered Q (x ⊖ reserve) (corridor-of b Output (m .edge)) (traits .minus x reserve s) (traits .corridor Output (m .edge)))
+      (λ x s. of-lowered Q (x ⊖ reserve) (corridor-of b Output (m .edge)) (traits .minus x reserve (traits .reserve-fits) s) (traits .corridor Output (m .edge)))
   reach-fine Output m =
       let reserve = b .options .«member_endpoint_reserve» in
       of-map Q (reach-x Output reserve (corridor-of b Input (m .edge))) (first-x (route-of b routes m)) (of-first Q (route-of b routes m) (route-fine m))
-      (λ x s. of-raised Q (x ⊕ reserve) (corridor-of b Input (m .edge)) (traits .plus x reserve s) (traits .corridor Input (m .edge)))
+      (λ x s. of-raised Q (x ⊕ reserve) (corridor-of b Input (m .edge)) (traits .plus x reserve (traits .reserve-fits) s) (traits .corridor Input (m .edge)))
 
   reach-all-fine : (role : Role) (o : Bound) (ms : List Member) → OfBound Q o → OfBound Q (reach-all b routes role o ms)
   unfolding reach-all
@@ -189,12 +193,12 @@ module _ (look : Look) (b : Board) (routes : List Route) (traits : Traits look b
       let x = endpoint-of b u .x in
       let low = x ⊕ rail-depth (b .options) ⊕ pitch-of b u in
       crossed-fine (raised low lower) d (lowered d upper)
-      (of-raised Q low lower (traits .plus (x ⊕ rail-depth (b .options)) (pitch-of b u) (traits .plus x (rail-depth (b .options)) (traits .end u))) l) s (of-lowered Q d upper s h)
+      (of-raised Q low lower (traits .plus (x ⊕ rail-depth (b .options)) (pitch-of b u) (traits .pitch-fits) (traits .plus x (rail-depth (b .options)) (traits .rail-fits) (traits .end u))) l) s (of-lowered Q d upper s h)
   between-fine u lower upper Output d l h s =
       let x = endpoint-of b u .x in
       let high = x ⊖ rail-depth (b .options) ⊖ pitch-of b u in
       crossed-fine (raised d lower) d (lowered high upper) (of-raised Q d lower s l) s
-      (of-lowered Q high upper (traits .minus (x ⊖ rail-depth (b .options)) (pitch-of b u) (traits .minus x (rail-depth (b .options)) (traits .end u))) h)
+      (of-lowered Q high upper (traits .minus (x ⊖ rail-depth (b .options)) (pitch-of b u) (traits .pitch-fits) (traits .minus x (rail-depth (b .options)) (traits .rail-fits) (traits .end u))) h)
 
   bounds-fine : (u : Bundle) (lower upper : Bound) → OfBound Q lower → OfBound Q upper → FineBounds (bounds-of b routes u lower upper)
   unfolding bounds-of
@@ -305,7 +309,7 @@ module _ (look : Look) (b : Board) (routes : List Route) (traits : Traits look b
     where
       go : (o : Bound) → OfBound Q o → OfBound Q (if-at o None (λ d. At (greatest (c ⊕ parting-pitch b) (d ⊕ parting-pitch b))))
       go None t = tt
-      go (At d) t = of-greatest Q (c ⊕ parting-pitch b) (d ⊕ parting-pitch b) (traits .plus c (parting-pitch b) s) (traits .plus d (parting-pitch b) t)
+      go (At d) t = of-greatest Q (c ⊕ parting-pitch b) (d ⊕ parting-pitch b) (traits .plus c (parting-pitch b) (traits .pitch-fits) s) (traits .plus d (parting-pitch b) (traits .pitch-fits) t)
 
   required-fine : (ranges : List Ranged) (xs : List Bound) (r : Bound) (is : List ℕ) → Every (OfBound P) xs → OfBound Q r → OfBound Q (required b routes ranges xs r is)
   unfolding required
@@ -319,13 +323,14 @@ module _ (look : Look) (b : Board) (routes : List Route) (traits : Traits look b
       go (At x) t = of-further Q r x s t
 
   limit-fine : (limit : Float) (x : Bound) → Q limit → OfBound Q x → OfBound Q (input-limit (parting-pitch b) limit x)
-  limit-fine limit None l s = of-least Q limit (limit ⊖ parting-pitch b) l (traits .minus limit (parting-pitch b) l)
-  limit-fine limit (At y) l s = of-least Q y (limit ⊖ parting-pitch b) s (traits .minus limit (parting-pitch b) l)
+  limit-fine limit None l s = of-least Q limit (limit ⊖ parting-pitch b) l (traits .minus limit (parting-pitch b) (traits .pitch-fits) l)
+  limit-fine limit (At y) l s = of-least Q y (limit ⊖ parting-pitch b) s (traits .minus limit (parting-pitch b) (traits .pitch-fits) l)
 
   split-fine : (low limit deepest earliest : Float) → Q low → Q limit → Q earliest → Q (input-split (parting-pitch b) low limit deepest earliest)
   split-fine low limit deepest earliest s t w =
       let a = earliest ⊖ parting-pitch b in
-      of-clamped Q (middle deepest a) low (limit ⊖ parting-pitch b) (traits .plus a (Ieee.div Ieee.binary64 (deepest ⊖ a) (number 2)) (traits .minus earliest (parting-pitch b) w)) s (traits .minus limit (parting-pitch b) t)
+      of-clamped Q (middle deepest a) low (limit ⊖ parting-pitch b) (traits .plus a (Ieee.div binary64 (deepest ⊖ a) (number 2)) (div-fits binary64 (deepest ⊖ a) (number 2)) (traits .minus earliest (parting-pitch b) (traits .pitch-fits) w)) s
+      (traits .minus limit (parting-pitch b) (traits .pitch-fits) t)
 
   -- ---- one component
   module _ (ranges : List Ranged) (fine : Every Fine ranges) (n : ℕ) where
@@ -424,9 +429,9 @@ module _ (look : Look) (b : Board) (routes : List Route) (traits : Traits look b
   add-fine Input (At x) l s h = (every-last Q x (l .input) (h .0) (traits .weaker x s), h .1)
   add-fine Output (At x) l s h = (h .0, every-last Q x (l .output) (h .1) (traits .weaker x s))
 
-  moved-fine : (pitch : Float) (role : Role) (r : Bounds) (x : Float) (ys : List Float) → OfBounds Q r → Q x → Every Q ys → Q (moved pitch role r x ys)
-  moved-fine pitch Input r x ys f s e = of-clamped Q (smallest-of x ys ⊖ pitch) (r .minimum) (r .maximum) (traits .minus (smallest-of x ys) pitch (of-smallest-of Q x ys s e)) (f .0) (f .2)
-  moved-fine pitch Output r x ys f s e = of-clamped Q (largest-of x ys ⊕ pitch) (r .minimum) (r .maximum) (traits .plus (largest-of x ys) pitch (of-largest-of Q x ys s e)) (f .0) (f .2)
+  moved-fine : (pitch : Float) (role : Role) (r : Bounds) (x : Float) (ys : List Float) → T (fits binary64 pitch) → OfBounds Q r → Q x → Every Q ys → Q (moved pitch role r x ys)
+  moved-fine pitch Input r x ys k f s e = of-clamped Q (smallest-of x ys ⊖ pitch) (r .minimum) (r .maximum) (traits .minus (smallest-of x ys) pitch k (of-smallest-of Q x ys s e)) (f .0) (f .2)
+  moved-fine pitch Output r x ys k f s e = of-clamped Q (largest-of x ys ⊕ pitch) (r .minimum) (r .maximum) (traits .plus (largest-of x ys) pitch k (of-largest-of Q x ys s e)) (f .0) (f .2)
 
   cut-fine : (role : Role) (r : Bounds) (d : Float) → OfBounds Q r → Q d → OfBounds Q (cut-to role r d)
   cut-fine Input r d f s = (f .0, s, s)
@@ -441,7 +446,7 @@ module _ (look : Look) (b : Board) (routes : List Route) (traits : Traits look b
       at Absent f g = tt
       at (Between r) f g =
           let d = moved (pitch-of b (s .bundle)) (s .bundle .role) r x ys in
-          traits .found (s .bundle) (cut-to (s .bundle .role) r d) v (o .windowed) (f refl) (cut-fine (s .bundle .role) r d g (moved-fine (pitch-of b (s .bundle)) (s .bundle .role) r x ys g (traits .weaker x h) e))
+          traits .found (s .bundle) (cut-to (s .bundle .role) r d) v (o .windowed) (f refl) (cut-fine (s .bundle .role) r d g (moved-fine (pitch-of b (s .bundle)) (s .bundle .role) r x ys (traits .pitch-fits) g (traits .weaker x h) e))
 
       go : (t : Bool) → OfBound P (found-x (cond t (answer (outcome.Found x) v) (look-beside look b routes s x ys v) .outcome))
       go true = h

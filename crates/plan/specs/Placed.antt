@@ -36,7 +36,7 @@ use Rattle.plan.specs.Bounds.{trunks, route-of}
 use Rattle.plan.specs.Lone.{every-getD}
 use Rattle.plan.specs.Plan.{found-x, Plan, going, plan-of}
 use Rattle.plan.specs.Carried.{Windowed, OfBound, Traits, carried}
-use Rattle.plan.specs.Numbers.{Small, Numbers, add-small, sub-small, pitch-small, wider}
+use Rattle.plan.specs.Numbers.{Small, Numbers, add-small, sub-small, pitch-small, rail-small, wider}
 
 -- ---- an x in a stretch of a run lies between the ends of the run, by and large
 SmallStretch : Stretch → Type 0
@@ -161,12 +161,15 @@ module _ (b : Board) (routes : List Route) (good : Numbers b routes) where
         P = Within 31;
         Q = λ x. Unit {0};
         weaker = λ x s. tt;
-        plus = λ x d s. tt;
-        minus = λ x d s. tt;
+        plus = λ x d f s. tt;
+        minus = λ x d f s. tt;
         none = tt;
         end = λ u. tt;
         points = all-points routes;
         corridor = λ role e. any (corridor-of b role e);
+        pitch-fits = pitch-small b routes good .1;
+        rail-fits = rail-small b routes good .1;
+        reserve-fits = good .reserve .1;
         found = λ u r v w h s. found-held b routes (Small 30) (good .points) (Within 31) u (λ x p q k l. holds-within x (stretch (u .role) (parting-pitch b) p q) (stretch-small (u .role) p q k l)) r v w h;
       }
 

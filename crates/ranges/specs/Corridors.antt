@@ -48,7 +48,7 @@ from-zero x f h = let a = le→at-most zero64 x tt f h in omega (arith, zero-mul
 zero-bounded : (n : ℕ) → Bounded n zero64
 zero-bounded n = record { is-finite = tt; size = omega arith }
 
-held : (n : ℕ) → n ≤ 68719476736 → Held n
+pub held : (n : ℕ) → n ≤ 68719476736 → Held n
 held n h = held-small n (omega arith)
 
 -- a whole number below x is below one above x

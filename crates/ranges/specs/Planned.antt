@@ -30,7 +30,7 @@ use Rattle.sorting.specs.Sorted.{Every}
 use Rattle.plan.specs.declared.Bound.{Bound}
 use Rattle.plan.specs.Depths.{parting-pitch, corridor-of}
 use Rattle.plan.specs.Plan.{Plan, going, plan-of}
-use Rattle.plan.specs.Numbers.{Small, Numbers, pitch-small}
+use Rattle.plan.specs.Numbers.{Small, Numbers, pitch-small, rail-small}
 use Rattle.plan.specs.Carried.{Windowed, OfBound, Traits, carried}
 use Rattle.plan.specs.Placed.{any, all-points, found-held}
 use Rattle.ranges.specs.Corridors.{Signs, pitch-not-below}
@@ -107,12 +107,15 @@ module _ (b : Board) (routes : List Route) (good : Numbers b routes) (signs : Si
         P = Within 30;
         Q = λ x. Unit {0};
         weaker = λ x s. tt;
-        plus = λ x d s. tt;
-        minus = λ x d s. tt;
+        plus = λ x d f s. tt;
+        minus = λ x d f s. tt;
         none = tt;
         end = λ u. tt;
         points = all-points routes;
         corridor = λ role e. any (corridor-of b role e);
+        pitch-fits = pitch-small b routes good .1;
+        rail-fits = rail-small b routes good .1;
+        reserve-fits = good .reserve .1;
         found = λ u r v w h s. found-held b routes (Small 30) (good .points) (Within 30) u (λ x p q k l. stretch-within (u .role) p q x (k .0) (l .0)) r v w h;
       }
 
