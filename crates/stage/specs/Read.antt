@@ -26,7 +26,7 @@ use Rattle.job.specs.Job.{Job, given-routes, read-job}
 use Rattle.job.specs.Job as job
 use Rattle.plan.specs.Depths.{same-role}
 use Rattle.plan.specs.Numbers.{Small, Numbers, every-take, every-drop}
-use Rattle.plan.specs.Placed.{Windowed}
+use Rattle.plan.specs.Carried.{Windowed}
 use Rattle.stage.specs.Finite.{Limits}
 use Rattle.stage.specs.Demand3.{no-bundle}
 use Rattle.stage.specs.Places.{OnceARole}
