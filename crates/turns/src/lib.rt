@@ -13,7 +13,7 @@ ghost use Rattle.route.specs.Slots.{routes-of, Held};
 ghost use Rattle.board.specs.Board.{Board};
 ghost use Rattle.plan.specs.Depths.{no-port, endpoint-of};
 ghost use Rattle.plan.specs.Tables.{board-of, given-routes, Sound, RoutesIn};
-ghost use Rattle.plan.specs.Prepared.{x-of};
+ghost use Rattle.plan.specs.Prepared.{no-planned, x-of};
 ghost use Rattle.drawing.specs.Sheet.{turn, turns-from, sheet-of, blank};
 ghost use Rattle.checks.specs.Rows.{drawn-of};
 ghost use Rattle.building.specs.Rows.{members-from, Row};
@@ -205,6 +205,15 @@ fn endpoint(nodes: Nodes, ports: Ports, u: Bundle) -> Point
     board::endpoint_of(node, p)
 }
 
+// What the plan says of bundle i.
+fn planned_of(plan: [Planned; 32], i: usize) -> Bound
+    requires { ⌜ i < 32 ⌝ }
+    ensures { λ r. ⌜ r ≡ getD plan i no-planned .x ⌝ }
+{
+    let p = plan[i];
+    p.x
+}
+
 // Every bundle in job order; after a refusal, those drawn before it.
 fn draw_bundles(
     o: Options,
@@ -239,8 +248,7 @@ fn draw_bundles(
     while i < n {
         let u = bundles.rows[i];
         let end = endpoint(nodes, ports, u);
-        let planned = plan[i];
-        let x = planned.x;
+        let x = planned_of(plan, i);
         let offset = offsets.rows[i];
         i += 1;
         let t = draw_bundle(

@@ -10,11 +10,12 @@ use Rattle.route.specs.Slots.{routes-of}
 use Rattle.board.specs.declared.Bundle.{Bundle}
 use Rattle.board.specs.declared.DrawnBundle.{DrawnBundle}
 use Rattle.board.specs.Board.{Board}
+use Rattle.plan.specs.declared.Bound.{Bound}
 use Rattle.plan.specs.Tables.{no-bundle}
 use Rattle.plan.specs.Prepared.{no-planned}
 use Rattle.plan.proofs.Rows.{length-mapped, part-cons}
 use Rattle.drawing.specs.Build.{Drawn}
-use Rattle.drawing.specs.Sheet.{Turn, sheet-of}
+use Rattle.drawing.specs.Sheet.{Turn, turn, sheet-of}
 use Rattle.checks.specs.Rows.{drawn-of}
 use Rattle.building.specs.Rows.{Row}
 use Rattle.turns.specs.Rows.{turn-of, standing, Shows, Rows, members-all}
@@ -27,9 +28,10 @@ use Rattle.turns.proofs.draw_bundle.Reads as draw-bundle-reads
 use Rattle.turns.proofs.drawn_with.Reads as drawn-with-reads
 use Rattle.turns.proofs.endpoint.Reads as endpoint-reads
 use Rattle.turns.proofs.none_drawn.Reads as none-drawn-reads
+use Rattle.turns.proofs.planned_of.Reads as planned-of-reads
 
 abbrev Inv-loop : tie.InvT-loop
-Inv-loop o allow nodes ports table edges lanes taps₀ points₀ counts₀ mask₀ scratch₀ bundles plan offsets drawn₀ left₀ n i₀ taps points counts mask scratch drawn left i =
+Inv-loop o allow nodes ports table plan edges lanes taps₀ points₀ counts₀ mask₀ scratch₀ bundles offsets drawn₀ left₀ n i₀ taps points counts mask scratch drawn left i =
     (i ≤ n) × (drawn .count ≡ i) × (length taps ≡ length taps₀) × (length points ≡ length points₀) × (length counts ≡ length counts₀) × (length mask ≡ length mask₀) × (length scratch ≡ length scratch₀)
     × Rest (drop i (take n (bundles .rows))) (take (drawn .count) (drawn .rows)) edges lanes counts
     × Rows (take (drawn .count) (bundles .rows)) (take (drawn .count) (drawn .rows))
@@ -38,12 +40,12 @@ Inv-loop o allow nodes ports table edges lanes taps₀ points₀ counts₀ mask�
     ≡ sheet-of b allow (turns-at (bundles .rows) plan (offsets .rows) n 0) (standing (routes-of points₀ counts₀) [] (left₀ .0)))
 
 abbrev μ-loop : tie.MeasureT-loop
-μ-loop o allow nodes ports table edges lanes taps₀ points₀ counts₀ mask₀ scratch₀ bundles plan offsets drawn₀ left₀ n i₀ taps points counts mask scratch drawn left i = n - i
+μ-loop o allow nodes ports table plan edges lanes taps₀ points₀ counts₀ mask₀ scratch₀ bundles offsets drawn₀ left₀ n i₀ taps points counts mask scratch drawn left i = n - i
 
 bundles-length : (s : tie.Start Inv-loop μ-loop) → length (s .args .t6 .rows) ≡ 32
 bundles-length s = search (needs, length-mapped)
 
-plan-length : (s : tie.Start Inv-loop μ-loop) → length (s .args .t7) ≡ 32
+plan-length : (s : tie.Start Inv-loop μ-loop) → length (s .args .plan) ≡ 32
 plan-length s = search (needs, length-mapped)
 
 offsets-length : (s : tie.Start Inv-loop μ-loop) → length (s .args .t8 .rows) ≡ 32
@@ -64,17 +66,17 @@ module _ (s : tie.Start Inv-loop μ-loop) (i : ℕ) (h : i < s .args .t6 .count)
   split ds edges lanes counts r = subst (λ (us : List Bundle). Rest us ds edges lanes counts) (part-cons (s .args .t6 .rows) (s .args .t6 .count) i no-bundle h room) r
 
   abbrev turn-here : Turn
-  turn-here = turn-of this (getD (s .args .t7) i no-planned .x) (getD (s .args .t8 .rows) i nan)
+  turn-here = turn-of this (getD (s .args .plan) i no-planned .x) (getD (s .args .t8 .rows) i nan)
 
   abbrev turns-later : List Turn
-  turns-later = turns-at (s .args .t6 .rows) (s .args .t7) (s .args .t8 .rows) (s .args .t6 .count) (i + 1)
+  turns-later = turns-at (s .args .t6 .rows) (s .args .plan) (s .args .t8 .rows) (s .args .t6 .count) (i + 1)
 
-  turns-are : turns-at (s .args .t6 .rows) (s .args .t7) (s .args .t8 .rows) (s .args .t6 .count) i ≡ turn-here ∷ turns-later
+  turns-are : turns-at (s .args .t6 .rows) (s .args .plan) (s .args .t8 .rows) (s .args .t6 .count) i ≡ turn-here ∷ turns-later
   turns-are =
       let k = s .pre .0 .0 .bundles-few in
       let p = plan-length s in
       let q = offsets-length s in
-      turns-next (s .args .t6 .rows) (s .args .t7) (s .args .t8 .rows) (s .args .t6 .count) i no-bundle no-planned nan h room (omega arith) (omega arith)
+      turns-next (s .args .t6 .rows) (s .args .plan) (s .args .t8 .rows) (s .args .t6 .count) i no-bundle no-planned nan h room (omega arith) (omega arith)
 
 none-drawn-requires : tie.Need-none-drawn-requires Inv-loop μ-loop
 none-drawn-requires c κs = search needs
@@ -94,7 +96,7 @@ loop-holds c =
       refl,
       subst (λ (ds : List DrawnBundle). Rest (take (a .t6 .count) (a .t6 .rows)) ds (now (a .edges)) (now (a .lanes)) (now (a .counts))) (sym e) (rest-start (take (a .t6 .count) (a .t6 .rows)) (now (a .edges)) (now (a .lanes)) (now (a .counts)) _ (t .pre .1 .0) (t .pre .1 .1 .1)),
       rows-none (a .t6 .rows) (c .none-drawn .result .rows) (c .none-drawn .result .count) z,
-      λ b s. ap (λ (ds : List DrawnBundle). sheet-of b (a .allow) (turns-at (a .t6 .rows) (a .t7) (a .t8 .rows) (a .t6 .count) 0) (standing (routes-of (now (a .points)) (now (a .counts))) (map (drawn-of (now (a .edges)) (now (a .taps))) ds) (a .granted .0))) e,
+      λ b s. ap (λ (ds : List DrawnBundle). sheet-of b (a .allow) (turns-at (a .t6 .rows) (a .plan) (a .t8 .rows) (a .t6 .count) 0) (standing (routes-of (now (a .points)) (now (a .counts))) (map (drawn-of (now (a .edges)) (now (a .taps))) ds) (a .granted .0))) e,
     )
 
 mul-u : tie.Need-mul-u Inv-loop μ-loop
@@ -111,11 +113,11 @@ endpoint-requires c κs =
     let p = n .bundles-on (l .i) (c .before .loop-test .taken) in
     (n .nodes-few, n .ports-few, p, n .ports-on (getD (s .args .t6 .rows) (l .i) no-bundle .port) p)
 
-mul-planned : tie.Need-mul-planned Inv-loop μ-loop
-mul-planned c = let k = c .before .before .before .before .before .before .before .before .before .before .before .before .pre .0 .0 .bundles-few in search needs
-
-array-copy-out-planned : tie.Need-array-copy-out-planned Inv-loop μ-loop
-array-copy-out-planned c = let k = c .before .before .before .before .before .before .before .before .before .before .before .before .pre .0 .0 .bundles-few in search needs
+planned-of-requires : tie.Need-planned-of-requires Inv-loop μ-loop
+planned-of-requires c κs =
+    let few = c .before .before .before .before .before .before .before .before .before .before .before .before .pre .0 .0 .bundles-few in
+    let h = c .before .before .loop-test .taken in
+    omega (arith, few, h)
 
 mul-offset : tie.Need-mul-offset Inv-loop μ-loop
 mul-offset c = let k = c .before .before .before .before .before .before .before .before .before .before .before .before .before .pre .0 .0 .bundles-few in search needs
@@ -194,11 +196,12 @@ returns c =
     let h = c .before .before .before .before .before .before .before .before .before .before .before .before .before .before .before .before .before .before .before .before .before .before .before .loop-test .taken in
     let f = c .before .before .before .before .before .before .before .before .before .before .before .before .before .draw-bundle in
     let end = c .before .before .before .before .before .before .before .before .before .before .before .before .before .before .before .before .before .before .before .before .before .endpoint in
+    let p = c .before .before .before .before .before .before .before .before .before .before .before .before .before .before .before .before .before .before .before .before .planned-of in
     let r = split t (l .i) h (take (l .drawn .count) (l .drawn .rows)) (now (a .edges)) (now (a .lanes)) (l .counts) (l .inv .7) in
     let count = l .inv .1 in (
       (λ b s.
           sheet-off b (a .allow) (turn-here t (l .i) h) (turns-later t (l .i) h) (standing (routes-of (l .points) (l .counts)) (map (drawn-of (now (a .edges)) (l .taps)) (take (l .drawn .count) (l .drawn .rows))) (l .left .0)) (f .result .verdict) _ _
-          (f .ensures .0 b (faces (this t (l .i) h) (later t (l .i) h) (take (l .drawn .count) (l .drawn .rows)) (now (a .edges)) (now (a .lanes)) (l .counts) r b (a .o) (a .nodes) (a .ports) (a .table) (end .result) s (end .ensures b (s .nodes) (s .ports)))) _ _ _ _ (c .before .v .given .1)
+          (f .ensures .0 b (faces (this t (l .i) h) (later t (l .i) h) (take (l .drawn .count) (l .drawn .rows)) (now (a .edges)) (now (a .lanes)) (l .counts) r b (a .o) (a .nodes) (a .ports) (a .table) (end .result) s (end .ensures b (s .nodes) (s .ports))) ∙ ap (λ (x : Bound). turn b (a .allow) (turn-of (this t (l .i) h) x (getD (a .t8 .rows) (l .i) nan)) (standing (routes-of (l .points) (l .counts)) (map (drawn-of (now (a .edges)) (l .taps)) (take (l .drawn .count) (l .drawn .rows))) (l .left .0))) (p .ensures)) _ _ _ _ (c .before .v .given .1)
           ∙ ap (λ (ts : List Turn). sheet-of b (a .allow) ts (standing (routes-of (l .points) (l .counts)) (map (drawn-of (now (a .edges)) (l .taps)) (take (l .drawn .count) (l .drawn .rows))) (l .left .0))) (sym (turns-are t (l .i) h))
           ∙ l .inv .9 b s),
       (l .inv .8, (full-off _ _ (l .drawn .count) (a .t6 .count) (omega (arith, count, h)), f .ensures .1 .1 .0)),
@@ -227,6 +230,7 @@ loop-again c =
     let h = c .before .before .before .before .before .before .before .before .before .before .before .before .before .before .before .before .before .before .before .before .before .before .before .before .loop-test .taken in
     let f = c .before .before .before .before .before .before .before .before .before .before .before .before .before .before .draw-bundle in
     let end = c .before .before .before .before .before .before .before .before .before .before .before .before .before .before .before .before .before .before .before .before .before .before .endpoint in
+    let p = c .before .before .before .before .before .before .before .before .before .before .before .before .before .before .before .before .before .before .before .before .before .planned-of in
     let w = c .drawn-with in
     let ds = take (l .drawn .count) (l .drawn .rows) in
     let r = split t (l .i) h ds (now (a .edges)) (now (a .lanes)) (l .counts) (l .inv .7) in
@@ -256,7 +260,7 @@ loop-again c =
       rows-next (l .drawn) (w .result) (f .result .row) (w .ensures .0) (a .t6 .rows) no-bundle (omega (arith, count, h, few, long)) more (subst (λ (i : ℕ). Row (getD (a .t6 .rows) i no-bundle) (f .result .row)) (sym count) (f .ensures .1 .0)) (l .inv .8),
       λ b s.
           sheet-on b (a .allow) (turn-here t (l .i) h) (turns-later t (l .i) h) (standing (routes-of (l .points) (l .counts)) (map (drawn-of (now (a .edges)) (l .taps)) ds) (l .left .0)) (f .result .verdict) _ _
-          (f .ensures .0 b (faces (this t (l .i) h) (later t (l .i) h) ds (now (a .edges)) (now (a .lanes)) (l .counts) r b (a .o) (a .nodes) (a .ports) (a .table) (end .result) s (end .ensures b (s .nodes) (s .ports)))) _ _ (drawn-more (l .drawn) (w .result) (f .result .row) (w .ensures .0) (now (a .edges)) _) v
+          (f .ensures .0 b (faces (this t (l .i) h) (later t (l .i) h) ds (now (a .edges)) (now (a .lanes)) (l .counts) r b (a .o) (a .nodes) (a .ports) (a .table) (end .result) s (end .ensures b (s .nodes) (s .ports))) ∙ ap (λ (x : Bound). turn b (a .allow) (turn-of (this t (l .i) h) x (getD (a .t8 .rows) (l .i) nan)) (standing (routes-of (l .points) (l .counts)) (map (drawn-of (now (a .edges)) (l .taps)) ds) (l .left .0))) (p .ensures)) _ _ (drawn-more (l .drawn) (w .result) (f .result .row) (w .ensures .0) (now (a .edges)) _) v
           ∙ ap (λ (ts : List Turn). sheet-of b (a .allow) ts (standing (routes-of (l .points) (l .counts)) (map (drawn-of (now (a .edges)) (l .taps)) ds) (l .left .0))) (sym (turns-are t (l .i) h))
           ∙ l .inv .9 b s,
     )
@@ -287,7 +291,7 @@ returns-2 c =
     let long = bundles-length t in
     let few = t .pre .0 .0 .bundles-few in (
       (λ b s.
-          sheet-end b (a .allow) (l .left) _ _ (turns-at (a .t6 .rows) (a .t7) (a .t8 .rows) (a .t6 .count) (l .i)) (turns-end (a .t6 .rows) (a .t7) (a .t8 .rows) (a .t6 .count) (l .i) (omega (arith, h)) (omega (arith, long, few)))
+          sheet-end b (a .allow) (l .left) _ _ (turns-at (a .t6 .rows) (a .plan) (a .t8 .rows) (a .t6 .count) (l .i)) (turns-end (a .t6 .rows) (a .plan) (a .t8 .rows) (a .t6 .count) (l .i) (omega (arith, h)) (omega (arith, long, few)))
           ∙ l .inv .9 b s),
       (l .inv .8, (full-on (l .left) (l .drawn .count) (a .t6 .count) (omega (arith, count, least, h)), l .inv .7 .hold)),
     )
@@ -303,8 +307,7 @@ draw-bundles-spec =
     mul-u
     element-copy-out-u
     endpoint-requires
-    mul-planned
-    array-copy-out-planned
+    planned-of-requires
     mul-offset
     element-copy-out-offset
     add-i
