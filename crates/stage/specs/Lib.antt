@@ -13,3 +13,4 @@ pub mod Lengths
 pub mod Refusals
 pub mod Size
 pub mod Demand
+pub mod Tables

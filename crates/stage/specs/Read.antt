@@ -140,7 +140,7 @@ module _ (id : Member → ℕ) (ms : List Member) where
   claimed-twice k (u ∷ us) zero (suc j) h l p q = in-both k (claim u) (all-claims us) p (among-claims k us j (omega arith) q)
   claimed-twice k (u ∷ us) (suc i) (suc j) h l p q = twice-behind (claim u) (all-claims us) (claimed-twice k us i j (omega arith) (omega arith) p q)
 
-same-roles : (r s : Role) → same-role r s ≡ true → r ≡ s
+pub same-roles : (r s : Role) → same-role r s ≡ true → r ≡ s
 same-roles Input Input e = refl
 same-roles Input Output e = absurd (true≢false (sym e))
 same-roles Output Input e = absurd (true≢false (sym e))
