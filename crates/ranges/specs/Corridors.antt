@@ -45,7 +45,7 @@ pub record Signs (b : Board) : Type 0 where
 pub from-zero : (x : Float) → T (finite x) → T (le zero64 x) → AtLeastℕ 0 x
 from-zero x f h = let a = le→at-most zero64 x tt f h in omega (arith, zero-mul (den x), mul-one (over x), mul-one (under x))
 
-zero-bounded : (n : ℕ) → Bounded n zero64
+pub zero-bounded : (n : ℕ) → Bounded n zero64
 zero-bounded n = record { is-finite = tt; size = omega arith }
 
 pub held : (n : ℕ) → n ≤ 68719476736 → Held n

@@ -7,3 +7,4 @@ pub mod Made
 pub mod NoMinusZero
 pub mod Drawn
 pub mod Extent
+pub mod Page
