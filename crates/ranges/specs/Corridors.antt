@@ -190,7 +190,7 @@ module _ (b : Board) (routes : List Route) (good : Numbers b routes) (signs : Si
       )
 
   -- 2 ^ 30 + 2 ^ 21 + 32 * (2 ^ 28 + 2)
-  offsets-bounded : Every (Bounded 9665773632) (offsets-of b)
+  pub offsets-bounded : Every (Bounded 9665773632) (offsets-of b)
   offsets-bounded = offsets-within 9665773632 (b .bundles) 1075838976 (record { input = None; output = None }) (omega arith) (omega (arith, good .few)) (omega arith) (tt, tt)
 
   -- ---- corridors

@@ -160,13 +160,13 @@ center-is : (ms : List Member) → center ms ≡ half (number (lane-count ms - 1
 unfolding center
 center-is ms = let n = lane-count ms - 1 in ap (λ (d : Float). div binary64 (number n) d) two ∙ div-two (number n)
 
-center-bounded : (ms : List Member) → Every (λ (m : Member). m .«tap_lane» ≤ 255) ms → Bounded 128 (center ms)
+pub center-bounded : (ms : List Member) → Every (λ (m : Member). m .«tap_lane» ≤ 255) ms → Bounded 128 (center ms)
 center-bounded ms e =
     let n = lane-count ms - 1 in
     let h : lane-count ms ≤ 256 = lane-count-small ms e in
     subst (Bounded 128) (sym (center-is ms)) (half-bounded 128 (number n) (held 128 (omega arith)) (bounded-mono n 256 (number n) (omega arith) (of-int-bounded n (held n (omega arith)))))
 
-center-not-below : (ms : List Member) → Every (λ (m : Member). m .«tap_lane» ≤ 255) ms → T (le zero64 (center ms))
+pub center-not-below : (ms : List Member) → Every (λ (m : Member). m .«tap_lane» ≤ 255) ms → T (le zero64 (center ms))
 unfolding ofInt
 center-not-below ms e =
     let n = lane-count ms - 1 in
@@ -174,7 +174,7 @@ center-not-below ms e =
     subst (λ (x : Float). T (le zero64 x)) (sym (center-is ms)) (half-not-below (number n) n 1 (round-whole binary64 false n (omega arith)))
 
 -- a lane is at most 255 from the middle one
-lane-bounded : (n : ℕ) (middle : Float) → n ≤ 255 → Bounded 128 middle → T (le zero64 middle) → Bounded 255 (sub binary64 (number n) middle)
+pub lane-bounded : (n : ℕ) (middle : Float) → n ≤ 255 → Bounded 128 middle → T (le zero64 middle) → Bounded 255 (sub binary64 (number n) middle)
 lane-bounded n middle h b l =
     let x = number n in
     let s : Bounded n x = of-int-bounded n (held n (omega arith)) in

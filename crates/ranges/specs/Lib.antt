@@ -8,3 +8,4 @@ pub mod NoMinusZero
 pub mod Drawn
 pub mod Extent
 pub mod Page
+pub mod Overflow
