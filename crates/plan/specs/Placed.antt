@@ -1,12 +1,12 @@
 -- Every x that a search finds lies in a stretch of a given route; so every planned x lies within 2 ^ 31, and there are as many planned x as bundles. Whatever was granted, and whether collectors of one role are separated or not.
 -- Assumes nothing.
-use Prim.Native.Nat.{ℕ, zero, suc, _+_, _-_, _^_, _≤_, _<_}
-use mathlib.Core.Path.{_≡_, refl, sym, _∙_, ap, subst}
-use mathlib.Core.Bool.{Bool, true, false, not, cond, _&&_, _||_, true≢false}
-use mathlib.Core.List.{List, [], _∷_, _++_, map}
+use Prim.Native.Nat.{ℕ, _-_, _^_, _<_}
+use mathlib.Core.Path.{_≡_, refl, sym, subst}
+use mathlib.Core.Bool.{Bool, true, false, cond, _&&_, true≢false}
+use mathlib.Core.List.{List, [], _∷_, map}
 use native.Mathlib.Omega.{arith}
 use lib.Dec.{T, leb}
-use lib.ListN.{length, getD, take, drop, length-take, length-drop}
+use lib.ListN.{length, drop, length-take, length-drop}
 use lib.Ieee as Ieee
 use lib.Ieee.{Float, le}
 use lib.Ieee.Fits.{and-l, and-r}
@@ -17,7 +17,7 @@ use Rattle.geometry.specs.declared.Role.the-variants.{Input, Output}
 use Rattle.geometry.specs.declared.Stretch.{Stretch}
 use Rattle.geometry.specs.declared.Stretch.the-variants.{Nowhere, Of}
 use Rattle.geometry.specs.Points.{Route, runs}
-use Rattle.geometry.specs.Stretch.{from-to, shortened, stretch, holds}
+use Rattle.geometry.specs.Stretch.{shortened, stretch, holds}
 use Rattle.board.specs.declared.Bundle.{Bundle}
 use Rattle.board.specs.declared.Member.{Member}
 use Rattle.board.specs.Board.{Board}

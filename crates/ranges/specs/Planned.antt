@@ -1,21 +1,20 @@
 -- Every planned x has magnitude at most 2 ^ 30: it lies in a stretch of a member's run, so between two given coordinates. Whatever was granted, and whether collectors of one role are separated or not.
 -- Assumes nothing.
 use mathlib.Core.Path.{_≡_, refl, sym, subst}
-use Prim.Native.Nat.{ℕ, _+_, _*_, _^_, _≤_, _<_}
-use native.Mathlib.Nat.{mul-one, zero-mul, one-mul}
+use Prim.Native.Nat.{ℕ, _^_}
+use native.Mathlib.Nat.{mul-one, zero-mul}
 use native.Mathlib.Omega.{arith}
 use mathlib.Core.Bool.{Bool, true, false, _&&_, cond, true≢false}
 use mathlib.Core.List.{List}
 use lib.Dec.{T}
 use lib.IntN.{pos}
-use lib.ListN.{length}
 use lib.Ieee.{Float, fin, binary64, add, sub, le, ne}
 use lib.Ieee.Fits.{and-l, and-r}
 use lib.Ieee.Positive.{den}
 use Rattle.binary64.specs.Kind.{two-to}
 use Rattle.binary64.specs.Sign.{zero64}
 use Rattle.binary64.specs.Value.{over, under, num-parts, at-most→le, le-trans-finite}
-use Rattle.binary64.specs.Range.{Bounded, Within, within-mono, between-bounded, add-within, sub-within}
+use Rattle.binary64.specs.Range.{Within, within-mono, between-bounded, add-within, sub-within}
 use Rattle.binary64.specs.Monotone.{add-mono, sub-mono}
 use Rattle.geometry.specs.declared.Point.{Point}
 use Rattle.geometry.specs.declared.Role.{Role}
@@ -27,7 +26,6 @@ use Rattle.geometry.specs.Stretch.{shortened, stretch, holds}
 use Rattle.board.specs.Board.{Board}
 use Rattle.search.specs.Search.{search-of}
 use Rattle.sorting.specs.Sorted.{Every}
-use Rattle.plan.specs.declared.Bound.{Bound}
 use Rattle.plan.specs.Depths.{parting-pitch, corridor-of}
 use Rattle.plan.specs.Plan.{Plan, going, plan-of}
 use Rattle.plan.specs.Numbers.{Small, Numbers, pitch-small, rail-small}
