@@ -1,34 +1,36 @@
 -- Demand 3, proved whole: for every job's bytes and every length of the answer's buffer. Assumes nothing.
 use Prim.Native.Nat.{ℕ, zero, suc, _≤_, _<_}
 use mathlib.Core.Path.{_≡_, refl, sym, ap, _∙_, subst}
-use mathlib.Core.Bool.{Bool, true, false}
-use mathlib.Core.List.{List, [], _∷_, List·Memᴰ}
+use mathlib.Core.Bool.{Bool, false}
+use mathlib.Core.List.{List, [], _∷_}
 use native.Mathlib.Omega.{arith}
-use lib.ListN.{length, getD, take}
+use lib.ListN.{length, getD, take, length-map}
 use Rattle.geometry.specs.declared.Point.{Point}
 use Rattle.geometry.specs.declared.Segment.{Segment}
 use Rattle.geometry.specs.Points.{Route}
 use Rattle.exact.specs.Exact.{Finite}
-use Rattle.board.specs.Board.{Board}
-use Rattle.sorting.specs.Sorted.{Every}
-use Rattle.job.specs.Job.{Job, given-routes, read-job}
-use Rattle.plan.specs.Plan.{Plan, due, plan-of}
+use Rattle.board.specs.declared.Bundle.{Bundle}
+use Rattle.board.specs.Board.{Board, route-of}
+use Rattle.job.specs.Job.{given-routes}
+use Rattle.plan.specs.Plan.{due, plan-of}
 use Rattle.plan.specs.Plan as plan
+use Rattle.plan.specs.declared.Bound.the-variants.{None}
 use Rattle.plan.specs.Lone.{Lone}
-use Rattle.drawing.specs.Build.{TapOn, Drawn, route-at}
+use Rattle.plan.specs.Numbers.{Numbers, FairRange, bounds-fair, trunks-real}
+use Rattle.drawing.specs.Build.{Drawn}
 use Rattle.drawing.specs.Sheet.{Turn, Progress, Outcome, going, after-turn, turn, sheet-of, blank}
 use Rattle.drawing.specs.Assembly.{turn-went}
-use Rattle.drawing.specs.Promise.{no-drawn, every-mem}
+use Rattle.drawing.specs.Promise.{every-mem}
 use Rattle.answer.specs.Answer.{Sheet, answer-bytes}
 use Rattle.answer.specs.Laws.{notice-length}
 use Rattle.stage.specs.Order.{turns-of, drawn-of}
-use Rattle.stage.specs.Stage.{Comes, Told, told, told-bytes, written, planned, sheet-drawn}
+use Rattle.stage.specs.Stage.{Comes, Told, told, told-bytes, written}
 use Rattle.stage.specs.Finite.{OkPoint, OkTap, OkDrawn, OkSheet}
-use Rattle.stage.specs.Whole.{Readable, sheet-fine, drawn-length, joints, places}
+use Rattle.stage.specs.Whole.{Readable, routes-length, sheet-fine, drawn-length, joints, places}
 use Rattle.stage.specs.Read.{readable}
 use Rattle.stage.specs.Flags.{no-separation, no-crossings}
 use Rattle.stage.specs.Size.{Cause, a-refusal, a-sheet, cause, Room, too-short, enough, room-of, short, roomy}
-use Rattle.stage.specs.Demand3.{SegmentOf, its-collector, its-spine, AllFinite, no-bundle, separation-bit, crossing-bit, AtBestPlace, Kept, Demand3}
+use Rattle.stage.specs.Demand3.{SegmentOf, its-collector, its-spine, AllFinite, FiniteLimits, no-bundle, separation-bit, crossing-bit, AtBestPlace, Kept, Demand3}
 
 -- ---- an answer of more than six bytes is one for a sheet
 
@@ -78,6 +80,12 @@ all-finite u h = record {
     ends d k s (its-collector e) = subst (λ (z : Segment). Finite (z .start) × Finite (z .end)) (sym e) (finite-point (d .collector .start) (k .collector-start), finite-point (d .collector .end) (k .collector-end))
     ends d k s (its-spine e) = subst (λ (z : Segment). Finite (z .start) × Finite (z .end)) (sym e) (finite-point (d .spine .start) (k .spine-start), finite-point (d .spine .end) (k .spine-end))
 
+limits-finite : (b : Board) (given : List Route) → Numbers b given → (u : Bundle) → FiniteLimits b given u
+limits-finite b given n u = record {
+  bounds = λ r e. let f = subst (FairRange b given n (u .role)) e (bounds-fair b given n u None None tt tt) in (f .minimum-real, f .maximum-real);
+  stretches = trunks-real b given n u;
+}
+
 -- ---- the whole
 
 module _ (bytes : List ℕ) (s : Sheet) (c : Comes bytes s) where
@@ -122,8 +130,10 @@ module _ (bytes : List ℕ) (s : Sheet) (c : Comes bytes s) where
         sheet = s;
         is-written = e;
         comes = c;
+        each-routed = routes-length b given permits (c .plan-made .xs) visits (c .sheet-made) (c .is-drawn) ∙ length-map (b .edges) (route-of (c .said .points));
         each-drawn = drawn-length b given fit separates taps visits (c .plan-made) (c .is-planned) permits (c .sheet-made) (c .is-drawn);
         all-finite = all-finite (c .sheet-made) (sheet-fine b given fit separates taps visits (c .plan-made) (c .is-planned) permits (c .sheet-made) (c .is-drawn));
+        limits-finite = limits-finite b given (fit .limits .numbers);
         joints = joints b given fit separates taps visits (c .plan-made) (c .is-planned) (c .sheet-made) drawn;
         places = best;
       }

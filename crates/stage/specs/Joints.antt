@@ -1,29 +1,25 @@
 -- No false joint: the first three sentences of demand 3, for every plan whose numbers are finite.
 -- Assumes nothing.
-use Prim.Native.Nat.{ℕ, zero, suc, _<_}
-use mathlib.Core.Path.{_≡_, refl, sym, ap, _∙_, subst}
-use mathlib.Core.Logic.{_⊎_, inl, inr}
-use mathlib.Core.List.{List, [], _∷_, List·Memᴰ, List·Memᴰ·head, List·Memᴰ·tail, List·Memᴰ·not-nil}
+use Prim.Native.Nat.{ℕ, _<_}
+use mathlib.Core.Path.{_≡_, refl, sym, subst}
+use mathlib.Core.List.{List, [], _∷_, List·Memᴰ, List·Memᴰ·head, List·Memᴰ·tail}
 use mathlib.Core.Bool.{Bool, true, false, _||_, cond}
 use native.Mathlib.Omega.{arith}
-use lib.Dec.{T, eqb}
+use lib.Dec.{eqb}
 use lib.ListN.{length, getD}
 use borrow.Author.Tests.{eqb-true, ne-eqb}
 use Rattle.geometry.specs.declared.Point.{Point}
 use Rattle.geometry.specs.declared.Segment.{Segment}
-use Rattle.geometry.specs.declared.Tap.{Tap}
 use Rattle.geometry.specs.declared.Tap.the-variants.{Absent, At}
 use Rattle.geometry.specs.Points.{Route, runs}
 use Rattle.geometry.specs.Contact.{slanted}
-use Rattle.geometry.specs.Enters.{enters, passes-inside}
-use Rattle.exact.specs.Exact.{Exact, Same, SamePlace, Finite}
+use Rattle.geometry.specs.Enters.{passes-inside}
+use Rattle.exact.specs.Exact.{Exact, SamePlace, Finite}
 use Rattle.exact.specs.Promise as exactly
 use Rattle.exact.specs.Promise.{HasLength, Shared, Tapped, Clean, FiniteTap}
 use Rattle.exact.specs.Theorem.{no-contact, nothing-shared}
 use Rattle.route.specs.Found.{run-ends}
-use Rattle.board.specs.declared.Edge.{Edge}
 use Rattle.board.specs.declared.Bundle.{Bundle}
-use Rattle.board.specs.declared.Member.{Member}
 use Rattle.board.specs.Board.{Board}
 use Rattle.sorting.specs.Sorted.{Every}
 use Rattle.plan.specs.Depths.{members-in, no-node}
@@ -31,8 +27,8 @@ use Rattle.drawing.specs.Build.{TapOn, Drawn, route-at, tap-of}
 use Rattle.drawing.specs.Check.{own, no-edge}
 use Rattle.drawing.specs.Sheet.{Turn, Progress, going, sheet-of, blank}
 use Rattle.drawing.specs.Promise.{Free, Outside, Accepted, accepted, every-mem, every-at, no-drawn}
-use Rattle.stage.specs.Finite.{Ok, OkPoint, OkTap, OkDrawn, OkTurn, OkSheet, Limits, sheet-ok}
-use Rattle.stage.specs.Demand3.{SegmentOf, its-collector, its-spine, OnBoth, AtTapAndEnd, OnlyAtTap, StaysOut, NoFalseJoint}
+use Rattle.stage.specs.Finite.{OkPoint, OkTap, OkDrawn, OkTurn, OkSheet, Limits, sheet-ok}
+use Rattle.stage.specs.Demand3.{SegmentOf, its-collector, its-spine, OnBoth, OnlyAtTap, StaysOut, NoFalseJoint}
 
 finite : (p : Point) → OkPoint p → Finite p
 finite p k = record { x = k .0 .is-finite; y = k .1 .is-finite }

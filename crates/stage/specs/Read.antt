@@ -1,7 +1,7 @@
 -- What the reader leaves of an accepted job is what demand 3's proof asks for. Assumes nothing.
-use Prim.Native.Nat.{ℕ, zero, suc, _+_, _≤_, _<_}
+use Prim.Native.Nat.{ℕ, zero, suc, _<_}
 use mathlib.Core.Path.{_≡_, refl, sym, ap, _∙_, subst}
-use mathlib.Core.Logic.{_⊎_, inl, inr}
+use mathlib.Core.Logic.{inl, inr}
 use mathlib.Core.Bool.{Bool, true, false, _||_, true≢false}
 use mathlib.Core.List.{List, [], _∷_, _++_, map}
 use native.Mathlib.Omega.{arith}
@@ -13,13 +13,10 @@ use Rattle.binary64.specs.Kind.{accepted, two-to, is-coordinate, coordinate-wit
 use Rattle.geometry.specs.declared.Point.{Point}
 use Rattle.geometry.specs.declared.Role.{Role}
 use Rattle.geometry.specs.declared.Role.the-variants.{Input, Output}
-use Rattle.geometry.specs.Points.{Route}
-use Rattle.board.specs.declared.PlacedNode.{PlacedNode}
-use Rattle.board.specs.declared.Port.{Port}
 use Rattle.board.specs.declared.Edge.{Edge}
 use Rattle.board.specs.declared.Bundle.{Bundle}
 use Rattle.board.specs.declared.Member.{Member}
-use Rattle.board.specs.Board.{Board, members-of, routes-of}
+use Rattle.board.specs.Board.{members-of, routes-of}
 use Rattle.wire.specs.All.{All}
 use Rattle.sorting.specs.Sorted.{In, Every}
 use Rattle.job.specs.Keys.{Key, same, stands-in, twice}
@@ -27,10 +24,9 @@ use Rattle.job.specs.Claims.{claims, claim-of, by-role}
 use Rattle.job.specs.Sound.{GoodNumber, GoodPoint, GoodNode, GoodPort, GoodBundle, GoodMember, Sound, edge-at, accepted-sound}
 use Rattle.job.specs.Job.{Job, given-routes, read-job}
 use Rattle.job.specs.Job as job
-use Rattle.plan.specs.Depths.{same-role, members-in}
-use Rattle.plan.specs.Lone.{Disjoint}
+use Rattle.plan.specs.Depths.{same-role}
 use Rattle.plan.specs.Numbers.{Small, Numbers, every-take, every-drop}
-use Rattle.plan.specs.Placed.{Windowed}
+use Rattle.plan.specs.Carried.{Windowed}
 use Rattle.stage.specs.Finite.{Limits}
 use Rattle.stage.specs.Demand3.{no-bundle}
 use Rattle.stage.specs.Places.{OnceARole}
@@ -109,15 +105,15 @@ in-map : {A B : Type 0} (f : A → B) (a : A) (l : List A) → In a l → In (f 
 in-map f a (x ∷ l) (inl e) = inl (ap f e)
 in-map f a (x ∷ l) (inr i) = inr (in-map f a l i)
 
-in-take : {A B : Type 0} (f : A → B) (a : A) (n : ℕ) (l : List A) → In a (take n l) → In (f a) (take n (map f l))
-in-take f a zero l i = i
-in-take f a (suc n) (x ∷ l) (inl e) = inl (ap f e)
-in-take f a (suc n) (x ∷ l) (inr i) = inr (in-take f a n l i)
+take-map : {A B : Type 0} (f : A → B) (n : ℕ) (l : List A) → map f (take n l) ≡ take n (map f l)
+take-map f zero l = refl
+take-map f (suc n) [] = refl
+take-map f (suc n) (x ∷ l) = ap (λ k. f x ∷ k) (take-map f n l)
 
-in-window : {A B : Type 0} (f : A → B) (a : A) (m n : ℕ) (l : List A) → In a (take n (drop m l)) → In (f a) (take n (drop m (map f l)))
-in-window f a zero n l i = in-take f a n l i
-in-window f a (suc m) n [] i = in-take f a n [] i
-in-window f a (suc m) n (x ∷ l) i = in-window f a m n l i
+pub window-map : {A B : Type 0} (f : A → B) (m n : ℕ) (l : List A) → map f (take n (drop m l)) ≡ take n (drop m (map f l))
+window-map f zero n l = take-map f n l
+window-map f (suc m) n [] = take-map f n []
+window-map f (suc m) n (x ∷ l) = window-map f m n l
 
 module _ (id : Member → ℕ) (ms : List Member) where
   abbrev all-claims : List Bundle → List Key
@@ -127,7 +123,9 @@ module _ (id : Member → ℕ) (ms : List Member) where
   claim u = map (by-role (u .role)) (take (u .count) (drop (u .first) (map id ms)))
 
   claimed-by : (u : Bundle) (m : Member) → In m (members-of ms u) → In (by-role (u .role) (id m)) (claim u)
-  claimed-by u m i = in-map (by-role (u .role)) (id m) (take (u .count) (drop (u .first) (map id ms))) (in-window id m (u .first) (u .count) ms i)
+  claimed-by u m i =
+      in-map (by-role (u .role)) (id m) (take (u .count) (drop (u .first) (map id ms)))
+      (subst (In (id m)) (window-map id (u .first) (u .count) ms) (in-map id m (members-of ms u) i))
 
   among-claims : (k : Key) (us : List Bundle) (j : ℕ) → j < length us → In k (claim (getD us j no-bundle)) → In k (all-claims us)
   unfolding claims

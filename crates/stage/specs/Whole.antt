@@ -1,14 +1,14 @@
 -- Demand 3 of the plan and the sheet of a board, whole: what the reader gives is asked for in `Readable`, and everything else is shown.
 -- Assumes nothing.
-use Prim.Native.Nat.{ℕ, zero, suc, _≤_, _<_}
-use mathlib.Core.Path.{_≡_, refl, sym, ap, _∙_, subst}
+use Prim.Native.Nat.{ℕ, suc, _≤_, _<_}
+use mathlib.Core.Path.{_≡_, refl, sym, ap, _∙_}
 use mathlib.Core.Logic.{_⊎_, inl, inr}
 use mathlib.Core.List.{List, [], _∷_, List·Memᴰ, List·Memᴰ·head, List·Memᴰ·tail, List·Memᴰ·not-nil, List·Memᴰ·cases-cons}
-use mathlib.Core.Bool.{Bool, true, false}
+use mathlib.Core.Bool.{Bool, false}
 use native.Mathlib.Omega.{arith}
 use lib.ListN.{length, getD}
 use lib.Ieee.{Float}
-use Rattle.binary64.specs.Range.{Within, within-mono}
+use Rattle.binary64.specs.Range.{within-mono}
 use Rattle.geometry.specs.Points.{Route}
 use Rattle.board.specs.declared.Bundle.{Bundle}
 use Rattle.board.specs.Board.{Board}
@@ -18,13 +18,13 @@ use Rattle.plan.specs.declared.Bound.the-variants.{None, At}
 use Rattle.plan.specs.Depths.{offsets-of}
 use Rattle.plan.specs.Plan.{Plan, going, due, plan-of}
 use Rattle.plan.specs.Lone.{Lone}
-use Rattle.plan.specs.Numbers.{Small, Numbers, offsets-small}
+use Rattle.plan.specs.Numbers.{Small, offsets-small}
 use Rattle.plan.specs.Carried.{Windowed}
 use Rattle.plan.specs.Placed.{SmallX, planned-shape}
-use Rattle.drawing.specs.Build.{Drawn}
-use Rattle.drawing.specs.Sheet.{Turn, Progress, sheet-of, blank}
+use Rattle.drawing.specs.Sheet.{Turn, Progress}
 use Rattle.drawing.specs.Sheet as sheet
-use Rattle.drawing.specs.Assembly.{sound}
+use Rattle.drawing.specs.Assembly.{touched, sound}
+use Rattle.drawing.specs.Laws.{Agree}
 use Rattle.drawing.specs.Promise.{no-drawn, built-length}
 use Rattle.stage.specs.Order.{planned-x, turns-from, turns-of, drawn-of}
 use Rattle.stage.specs.Finite.{Limits, OkTurn, OkSheet, sheet-ok}
@@ -62,6 +62,17 @@ each-turn (u ∷ us) (x ∷ xs) (d ∷ ds) e f v m = go (List·Memᴰ·cases-con
     go : (v ≡ u) ⊎ List·Memᴰ v us → (List·Memᴰ v us → (t : Turn) × List·Memᴰ t (turns-from us xs ds) × (t .bundle ≡ v)) → (t : Turn) × List·Memᴰ t (record { bundle = u; planned = planned-x x; offset = d } ∷ turns-from us xs ds) × (t .bundle ≡ v)
     go (inl z) g = (record { bundle = u; planned = planned-x x; offset = d }, List·Memᴰ·head refl, sym z)
     go (inr n) g = let r = g n in (r .0, List·Memᴰ·tail (r .1), r .2)
+
+agree-length : (c : ℕ → Bool) (rs qs : List Route) (i : ℕ) → Agree c rs qs i → length qs ≡ length rs
+unfolding Agree
+agree-length c [] [] i h = refl
+agree-length c [] (q ∷ qs) i h = absurd h
+agree-length c (r ∷ rs) [] i h = absurd h
+agree-length c (r ∷ rs) (q ∷ qs) i h = ap suc (agree-length c rs qs (suc i) (h .1))
+
+-- as many routes as were given
+pub routes-length : (b : Board) (given : List Route) (allow : Bool) (xs : List Bound) (geometry : ℕ) (u : Progress) → drawn-of b allow given xs geometry ≡ sheet.going u → length (u .routes) ≡ length given
+routes-length b given allow xs geometry u drawn = agree-length (touched b (turns-of b xs)) given (u .routes) 0 (sound b allow given geometry (turns-of b xs) u drawn .untouched)
 
 -- ---- the whole
 

@@ -6,31 +6,48 @@
 // members has its edge at place k of edges, its tap lane at place k of lanes and its tap as x and y
 // at point k of taps.
 ghost use mathlib.Core.Path.{_≡_};
-ghost use mathlib.Core.List.{[], _∷_, _++_};
+ghost use mathlib.Core.List.{[], _∷_, _++_, map};
 ghost use Prim.Native.Nat.{_+_, _*_, _-_, _<_, _≤_};
-ghost use lib.ListN.{length};
+ghost use lib.ListN.{length, getD, take};
 ghost use Rattle.route.specs.Slots.{routes-of, Held};
 ghost use Rattle.board.specs.Board.{Board};
-ghost use Rattle.drawing.specs.Sheet.{turn};
+ghost use Rattle.plan.specs.Depths.{no-port, endpoint-of};
+ghost use Rattle.plan.specs.Tables.{board-of, given-routes, Sound, RoutesIn};
+ghost use Rattle.plan.specs.Prepared.{no-planned, x-of};
+ghost use Rattle.drawing.specs.Sheet.{turn, turns-from, sheet-of, blank};
 ghost use Rattle.checks.specs.Rows.{drawn-of};
 ghost use Rattle.building.specs.Rows.{members-from, Row};
-ghost use Rattle.turns.specs.Rows.{turn-of, standing, ends-as, drawn-in, Faced, Ready, Longer};
+ghost use Rattle.turns.specs.Rows.{turn-of, standing, ends-as, drawn-in, Faced, Ready, Longer, Shows, Named, Lists, Room, Short, Rows, Full, members-all, GivenIn, Listed, Follow, Once};
 use board::Bundle;
+use board::Bundles;
 use board::DrawnBundle;
 use board::DrawnBundles;
 use board::Edges;
+use board::Members;
 use board::Nodes;
 use board::Options;
+use board::Ports;
 use drawing::GeometryVisits;
 use drawing::Verdict;
 use geometry::Point;
+use geometry::Segment;
 use plan::Bound;
+use plan::Offsets;
+use plan::Planned;
 
 // A bundle after its turn: its row counts if the verdict is clean.
 pub struct Turned {
     pub verdict: Verdict,
     pub row: DrawnBundle,
 }
+
+// The bundles drawn, and how the last turn ended.
+pub struct Drawing {
+    pub verdict: Verdict,
+    pub drawn: DrawnBundles,
+}
+
+// ---- one bundle
 
 // One bundle: build_geometry, rewrite_member_routes, verify_one_bundle_route_node_interiors,
 // verify_new_bundle_route_contacts.
@@ -106,4 +123,225 @@ fn draw_bundle(
         visits,
     );
     Turned { verdict: v, row: d }
+}
+
+// ---- the given routes, and the members' edges and lanes
+
+// The given routes, each in its slot.
+fn store_routes(table: Edges, given: &[f64], points: &mut [f64], counts: &mut [usize])
+    requires { ⌜ GivenIn (now given) table × (length (now counts) ≡ table .count) × (136 * length (now counts) ≤ length (now points)) ⌝ }
+    ensures routes { λ _. ⌜ routes-of (now (points .exit)) (now (counts .exit)) ≡ given-routes (now (given .entry)) table ⌝ }
+    ensures short { λ _. ⌜ Short (now (counts .exit)) ⌝ }
+{
+    let n = table.count;
+    let mut i: usize = 0;
+    while i < n {
+        let e = table.rows[i];
+        route::store_route(given, e.first, e.count, &mut points[..], &mut counts[..], i);
+        i += 1;
+    }
+}
+
+// The edge and the tap lane of each member.
+fn member_rows(members: Members, edges: &mut [usize], lanes: &mut [u32])
+    requires { ⌜ (members .count ≤ 256) × (length (now edges) ≡ members .count) × (length (now lanes) ≡ members .count) ⌝ }
+    ensures { λ _. ⌜ Listed (now (edges .exit)) (now (lanes .exit)) (members .rows) (members .count) ⌝ }
+{
+    let n = members.count;
+    let mut i: usize = 0;
+    while i < n {
+        let m = members.rows[i];
+        edges[i] = m.edge;
+        lanes[i] = m.tap_lane;
+        i += 1;
+    }
+}
+
+// ---- bundle after bundle
+
+// A drawn bundle more.
+fn drawn_with(t: DrawnBundles, d: DrawnBundle) -> DrawnBundles
+    requires { ⌜ t .count < 32 ⌝ }
+    ensures rows { λ r. ⌜ take (r .count) (r .rows) ≡ take (t .count) (t .rows) ++ (d ∷ []) ⌝ }
+    ensures count { λ r. ⌜ r .count ≡ t .count + 1 ⌝ }
+{
+    let mut rows = t.rows;
+    let n = t.count;
+    rows[n] = d;
+    DrawnBundles {
+        rows: rows,
+        count: n + 1,
+    }
+}
+
+fn none_drawn() -> DrawnBundles
+    ensures { λ r. ⌜ r .count ≡ 0 ⌝ }
+{
+    let p = Point { x: 0.0, y: 0.0 };
+    let s = Segment { start: p, end: p };
+    let d = DrawnBundle {
+        id: 0,
+        interior: false,
+        collector: s,
+        spine: s,
+        first: 0,
+        count: 0,
+    };
+    DrawnBundles {
+        rows: [d; 32],
+        count: 0,
+    }
+}
+
+// Where a bundle's port stands.
+fn endpoint(nodes: Nodes, ports: Ports, u: Bundle) -> Point
+    requires { ⌜ (nodes .count ≤ 128) × (ports .count ≤ 256) × (u .port < ports .count) × (getD (ports .rows) (u .port) no-port .node < nodes .count) ⌝ }
+    ensures { λ r. ⌜ ((b : Board) → b .nodes ≡ take (nodes .count) (nodes .rows) → b .ports ≡ take (ports .count) (ports .rows) → endpoint-of b u ≡ r) ⌝ }
+{
+    let at = u.port;
+    let p = ports.rows[at];
+    let on = p.node;
+    let node = nodes.rows[on];
+    board::endpoint_of(node, p)
+}
+
+// What the plan says of bundle i.
+fn planned_of(plan: [Planned; 32], i: usize) -> Bound
+    requires { ⌜ i < 32 ⌝ }
+    ensures { λ r. ⌜ r ≡ getD plan i no-planned .x ⌝ }
+{
+    let p = plan[i];
+    p.x
+}
+
+// Every bundle in job order; after a refusal, those drawn before it.
+fn draw_bundles(
+    o: Options,
+    allow: bool,
+    nodes: Nodes,
+    ports: Ports,
+    table: Edges,
+    bundles: Bundles,
+    plan: [Planned; 32],
+    offsets: Offsets,
+    edges: &[usize],
+    lanes: &[u32],
+    taps: &mut [f64],
+    points: &mut [f64],
+    counts: &mut [usize],
+    mask: &mut [bool],
+    scratch: &mut [f64],
+    granted: GeometryVisits,
+) -> Drawing
+    requires tables { ⌜ Named nodes ports bundles × (table .count ≤ 256) × (length (now counts) ≤ table .count) ⌝ }
+    requires lists { ⌜ Lists (take (bundles .count) (bundles .rows)) (now edges) (now lanes) (length (now counts)) ⌝ }
+    requires room { ⌜ Room (length (now edges)) (now taps) (now points) (now counts) (now mask) (now scratch) × Short (now counts) ⌝ }
+    ensures told { λ r. ⌜ ((b : Board) → Shows b o nodes ports table (members-all (now (edges .entry)) (now (lanes .entry))) → ends-as (r .verdict) (routes-of (now (points .exit)) (now (counts .exit))) (drawn-in (now (edges .entry)) (now (taps .exit)) (r .drawn)) ≡ sheet-of b allow (turns-from (take (bundles .count) (bundles .rows)) (map x-of (take (bundles .count) plan)) (take (bundles .count) (offsets .rows))) (blank (routes-of (now (points .entry)) (now (counts .entry))) (granted .0))) ⌝ }
+    ensures rows { λ r. ⌜ Rows (take (r .drawn .count) (bundles .rows)) (take (r .drawn .count) (r .drawn .rows)) ⌝ }
+    ensures full { λ r. ⌜ Full (r .verdict) (r .drawn .count) (bundles .count) ⌝ }
+    ensures hold { λ r. ⌜ Held (now (counts .exit)) ⌝ }
+{
+    let mut drawn = none_drawn();
+    let mut left = granted;
+    let n = bundles.count;
+    let mut i: usize = 0;
+    while i < n {
+        let u = bundles.rows[i];
+        let end = endpoint(nodes, ports, u);
+        let x = planned_of(plan, i);
+        let offset = offsets.rows[i];
+        i += 1;
+        let t = draw_bundle(
+            o,
+            allow,
+            nodes,
+            table,
+            end,
+            u,
+            x,
+            offset,
+            drawn,
+            edges,
+            lanes,
+            &mut taps[..],
+            &mut points[..],
+            &mut counts[..],
+            &mut mask[..],
+            &mut scratch[..],
+            left,
+        );
+        let v = t.verdict;
+        match v {
+            Verdict::Refused(r, q) => {
+                return Drawing {
+                    verdict: Verdict::Refused(r, q),
+                    drawn: drawn,
+                };
+            }
+            Verdict::Clean(q) => {
+                left = q;
+                drawn = drawn_with(drawn, t.row);
+            }
+        }
+    }
+    Drawing {
+        verdict: Verdict::Clean(left),
+        drawn: drawn,
+    }
+}
+
+// ---- the sheet before the last shift
+
+// Every bundle in job order, from the given routes on: what points, counts, edges and taps hold then
+// is the sheet before the last shift. After a refusal they hold anything.
+pub fn draw_sheet(
+    o: Options,
+    allow: bool,
+    nodes: Nodes,
+    ports: Ports,
+    table: Edges,
+    bundles: Bundles,
+    members: Members,
+    plan: [Planned; 32],
+    offsets: Offsets,
+    given: &[f64],
+    edges: &mut [usize],
+    lanes: &mut [u32],
+    taps: &mut [f64],
+    points: &mut [f64],
+    counts: &mut [usize],
+    mask: &mut [bool],
+    scratch: &mut [f64],
+    granted: GeometryVisits,
+) -> Drawing
+    requires tables { ⌜ Sound nodes ports bundles members × RoutesIn (now given) table members ⌝ }
+    requires once { ⌜ Follow 0 (members .count) (take (bundles .count) (bundles .rows)) × Once (take (members .count) (members .rows)) (take (bundles .count) (bundles .rows)) ⌝ }
+    requires exact { ⌜ (length (now edges) ≡ members .count) × (length (now lanes) ≡ members .count) × (length (now counts) ≡ table .count) ⌝ }
+    requires room { ⌜ Room (members .count) (now taps) (now points) (now counts) (now mask) (now scratch) ⌝ }
+    ensures told { λ r. ⌜ ends-as (r .verdict) (routes-of (now (points .exit)) (now (counts .exit))) (drawn-in (now (edges .exit)) (now (taps .exit)) (r .drawn)) ≡ sheet-of (board-of o nodes ports (take (table .count) (table .rows)) bundles members) allow (turns-from (take (bundles .count) (bundles .rows)) (map x-of (take (bundles .count) plan)) (take (bundles .count) (offsets .rows))) (blank (given-routes (now (given .entry)) table) (granted .0)) ⌝ }
+    ensures members { λ r. ⌜ Listed (now (edges .exit)) (now (lanes .exit)) (members .rows) (members .count) ⌝ }
+    ensures rows { λ r. ⌜ Rows (take (r .drawn .count) (bundles .rows)) (take (r .drawn .count) (r .drawn .rows)) ⌝ }
+    ensures full { λ r. ⌜ Full (r .verdict) (r .drawn .count) (bundles .count) ⌝ }
+    ensures hold { λ r. ⌜ Held (now (counts .exit)) ⌝ }
+{
+    member_rows(members, &mut edges[..], &mut lanes[..]);
+    store_routes(table, given, &mut points[..], &mut counts[..]);
+    draw_bundles(
+        o,
+        allow,
+        nodes,
+        ports,
+        table,
+        bundles,
+        plan,
+        offsets,
+        &edges[..],
+        &lanes[..],
+        &mut taps[..],
+        &mut points[..],
+        &mut counts[..],
+        &mut mask[..],
+        &mut scratch[..],
+        granted,
+    )
 }
