@@ -2,7 +2,6 @@ pub mod Order
 pub mod Stage
 pub mod Due
 pub mod Demand3
-pub mod Finite
 pub mod Joints
 pub mod Places
 pub mod Whole
@@ -13,3 +12,4 @@ pub mod Lengths
 pub mod Refusals
 pub mod Size
 pub mod Demand
+pub mod Ranges

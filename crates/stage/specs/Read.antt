@@ -6,10 +6,12 @@ use mathlib.Core.Bool.{Bool, true, false, _||_, true≢false}
 use mathlib.Core.List.{List, [], _∷_, _++_, map}
 use native.Mathlib.Omega.{arith}
 use lib.ListN.{length, getD, take, drop}
-use lib.Ieee.{Float}
+use lib.Dec.{T}
+use lib.IntN.{pos}
+use lib.Ieee.{Float, fin, le}
 use borrow.Author.Tests.{eq-eqb}
 use Rattle.binary64.specs.Sign.{zero64}
-use Rattle.binary64.specs.Kind.{accepted, two-to, is-coordinate, coordinate-within, up-to-within}
+use Rattle.binary64.specs.Kind.{accepted, two-to, is-coordinate, is-size, accepted-between, coordinate-within, up-to-within}
 use Rattle.geometry.specs.declared.Point.{Point}
 use Rattle.geometry.specs.declared.Role.{Role}
 use Rattle.geometry.specs.declared.Role.the-variants.{Input, Output}
@@ -27,7 +29,10 @@ use Rattle.job.specs.Job as job
 use Rattle.plan.specs.Depths.{same-role}
 use Rattle.plan.specs.Numbers.{Small, Numbers, every-take, every-drop}
 use Rattle.plan.specs.Carried.{Windowed}
-use Rattle.stage.specs.Finite.{Limits}
+use Rattle.ranges.specs.Plain.{Plain, accepted-plain}
+use Rattle.ranges.specs.Corridors.{Signs}
+use Rattle.ranges.specs.NoMinusZero.{PlainBoard}
+use Rattle.ranges.specs.Extent.{Limits}
 use Rattle.stage.specs.Demand3.{no-bundle}
 use Rattle.stage.specs.Places.{OnceARole}
 use Rattle.stage.specs.Whole.{Readable}
@@ -69,6 +74,30 @@ limits j s = record {
   numbers = numbers j s;
   node-ys = every-of GoodNode _ (j .board .nodes) (λ n g. (coordinate-small (n .body .corner .y) (g .corner .y), up-to-small 30 (n .body .height) (g .height))) (s .nodes);
   point-ys = routes-every (λ (p : Point). Small 30 (p .y)) (j .points) (j .board .edges) (every-of GoodPoint _ (j .points) (λ p g. coordinate-small (p .y) (g .y)) (s .points));
+}
+
+-- ---- signs
+
+not-below : (k : ℕ) (x : Float) → GoodNumber (accepted zero64 (two-to k)) x → T (le zero64 x)
+not-below k x g = accepted-between zero64 (two-to k) x (g .in-range) .from
+
+signs : (j : Job) → Sound j → Signs (j .board)
+signs j s = record {
+  stub = not-below 20 _ (s .options .stub);
+  gap = not-below 20 _ (s .options .gap);
+  widths = every-of GoodNode _ (j .board .nodes) (λ n g. not-below 30 (n .body .width) (g .width)) (s .nodes);
+}
+
+coordinate-plain : (x : Float) → GoodNumber is-coordinate x → Plain x
+coordinate-plain x g = accepted-plain (fin true 1 (pos 30)) (two-to 30) x (g .in-range) (g .of-format)
+
+size-plain : (x : Float) → GoodNumber is-size x → Plain x
+size-plain x g = accepted-plain zero64 (two-to 30) x (g .in-range) (g .of-format)
+
+plain : (j : Job) → Sound j → PlainBoard (j .board) (given-routes j)
+plain j s = record {
+  nodes = every-of GoodNode _ (j .board .nodes) (λ n g. (coordinate-plain (n .body .corner .x) (g .corner .x), coordinate-plain (n .body .corner .y) (g .corner .y), size-plain (n .body .width) (g .width), size-plain (n .body .height) (g .height))) (s .nodes);
+  points = routes-every (λ (p : Point). Plain (p .x) × Plain (p .y)) (j .points) (j .board .edges) (every-of GoodPoint _ (j .points) (λ p g. (coordinate-plain (p .x) (g .x), coordinate-plain (p .y) (g .y))) (s .points));
 }
 
 -- ---- number 8: an edge stands once in the bundles of a role
@@ -162,6 +191,8 @@ once-a-role j s i k h l roles m n p q e =
 pub sound-readable : (j : Job) → Sound j → Readable (j .board) (given-routes j)
 sound-readable j s = record {
   limits = limits j s;
+  signs = signs j s;
+  plain = plain j s;
   windows = every-of (GoodBundle (length (j .board .ports)) (length (j .board .members))) (Windowed (j .board)) (j .board .bundles) (λ u g. g .window) (s .bundles);
   once = once-a-role j s;
 }
