@@ -1,47 +1,67 @@
+-- `stage::plan_and_draw` meets its contract. Assumes nothing.
+use mathlib.Core.Path.{_≡_, refl, sym, _∙_, ap, subst}
+use Prim.Native.Nat.{ℕ, _+_, _≤_, _<_}
+use native.Mathlib.Omega.{arith}
+use lib.ListN.{length}
+use borrow.Author.Tests.{not-true, not-false}
+use Rattle.plan.proofs.Rows as rows
+use Rattle.stage.proofs.Ready as ready
+use Rattle.stage.proofs.Phases as laws
 use borrow.Author.Needs.{needs}
 use Rattle.stage.proofs.plan_and_draw.Statement.{statement}
 use Rattle.stage.proofs.plan_and_draw.Tie as tie
-use Rattle.stage.proofs.plan_and_draw.Reads as reads
-use Rattle.stage.proofs.plan_and_draw.Lts as lts
-use Rattle.answer.proofs.write_notice.Reads as write-notice-reads
-use Rattle.planner.proofs.plan_interior_collectors.Reads as plan-interior-collectors-reads
-use Rattle.stage.proofs.draw.Reads as draw-reads
 
--- src/lib.rt:59:9
+sizes : (s : tie.Start) → ready.Sizes (s .args .j)
+sizes s = record {
+  nodes = search (needs, rows.length-mapped);
+  ports = search (needs, rows.length-mapped);
+  edges = search (needs, rows.length-mapped);
+  bundles = search (needs, rows.length-mapped);
+  members = search (needs, rows.length-mapped);
+}
+
 slice-aggregate-plan-interior-collectors : tie.Need-slice-aggregate-plan-interior-collectors
 slice-aggregate-plan-interior-collectors c = search needs
 
--- src/lib.rt:60:9
 slice-aggregate-plan-interior-collectors-2 : tie.Need-slice-aggregate-plan-interior-collectors-2
 slice-aggregate-plan-interior-collectors-2 c = search needs
 
--- src/lib.rt:49:9
 plan-interior-collectors-requires : tie.Need-plan-interior-collectors-requires
-plan-interior-collectors-requires c κs = search needs
+plan-interior-collectors-requires c κs = 
+    let s = c .before .before .before .before .before .before in
+    let a = s .args in
+    ((ready.tables-sound (a .j) (a .given .now) (s .pre .0 .0) (sizes s), ready.routes-in (a .j) (a .given .now) (s .pre .0 .0) (sizes s)), (search needs, search needs))
 
--- src/lib.rt:63:9
 write-notice-requires : tie.Need-write-notice-requires
-write-notice-requires c κs = search needs
+write-notice-requires c κs = c .before .before .before .before .before .before .before .before .before .before .before .pre .0 .1
 
--- src/lib.rt:63:9
 same-length : tie.Need-same-length
 same-length c = search needs
 
--- src/lib.rt:63:9
 returns : tie.Need-returns
-returns c = search needs
+returns c = 
+    let s = c .before .before .before .before .before .before .before .before .before .before .before .before .before .before in
+    let a = s .args in
+    let p = c .before .before .before .before .before .before .before .plan-interior-collectors in
+    let w = c .before .before .write-notice .ensures in
+    laws.notice-writes _ _ _ 13 _ (laws.plan-refused (a .j) (a .given .now) (s .pre .0 .0) (sizes s) (p .result) (p .ensures) (c .before .before .before .before .if1 .taken)) (w .0) (w .1)
 
--- src/lib.rt:65:5
 draw-requires : tie.Need-draw-requires
-draw-requires c κs = search needs
+draw-requires c κs = 
+    let s = c .before .before .before .before .before .before .before .before .before .before .before in
+    let a = s .args in
+    let p = c .before .before .before .before .plan-interior-collectors in
+    (s .pre .0, ?)
 
--- src/lib.rt:40:1
 same-length-2 : tie.Need-same-length-2
 same-length-2 c = search needs
 
--- src/lib.rt:40:1
 returns-2 : tie.Need-returns-2
-returns-2 c = search needs
+returns-2 c = 
+    let s = c .before .before .before .before .before .before .before .before .before .before .before .before .before .before in
+    let a = s .args in
+    let p = c .before .before .before .before .before .before .before .plan-interior-collectors in
+    laws.writes-as _ _ _ _ _ (sym (laws.plan-going (a .j) (a .given .now) (s .pre .0 .0) (sizes s) (p .result) (p .ensures) (c .before .before .before .before .if1 .left))) (c .before .before .draw .ensures)
 
 pub plan-and-draw-spec : {M : Type 1} → statement M
 plan-and-draw-spec =

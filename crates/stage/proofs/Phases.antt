@@ -1,0 +1,93 @@
+-- The phases of the stage, from what its functions' callees ensure to what is told and written.
+-- Assumes nothing.
+use Prim.Native.Nat.{ℕ, _≤_, _<_}
+use mathlib.Core.Path.{_≡_, refl, sym, ap, _∙_, subst}
+use mathlib.Core.Bool.{Bool, true, false, cond}
+use mathlib.Core.List.{List, []}
+use native.Mathlib.Omega.{arith}
+use lib.ListN.{length, take}
+use lib.Seq.{sets}
+use lib.Ieee.{Float}
+use Rattle.geometry.specs.Points.{Route}
+use Rattle.job.specs.declared.Job as code
+use Rattle.job.specs.declared.JobRead.{JobRead}
+use Rattle.job.specs.Job.{read-job, given-routes}
+use Rattle.job.specs.Job as job
+use Rattle.job.specs.Whole.{JobTold, told-job, job-of}
+use Rattle.plan.specs.Tables as tables
+use Rattle.plan.specs.Prepared.{plan-in}
+use Rattle.plan.specs.Plan.{plan-of}
+use Rattle.plan.specs.Plan as plan
+use Rattle.components.specs.declared.Step.{Step}
+use Rattle.components.specs.Settled.{step-in}
+use Rattle.answer.specs.Answer.{notice-bytes}
+use Rattle.answer.specs.Laws.{notice-length}
+use Rattle.stage.specs.Stage.{Told, refused, planned, sheet-drawn, after-sheet, after-plan, after-reading, told, told-bytes, written, stage-of}
+use Rattle.stage.specs.Size.{short, roomy, written-size}
+use Rattle.stage.specs.Tables.{job-in, Came, Writes}
+use Rattle.stage.proofs.Ready.{Sizes, given-same}
+
+-- ---- what is written
+
+pub notice-writes : (before after : List ℕ) (r n : ℕ) (t : Told) → t ≡ refused n → after ≡ sets before 0 (notice-bytes n) → r ≡ 6 → Writes before after r t
+unfolding told-bytes
+notice-writes before after r n t e b c = record { bytes = rw e b; count = rw e (c ∙ sym (notice-length n)) }
+
+pub writes-as : (before after : List ℕ) (r : ℕ) (s t : Told) → s ≡ t → Writes before after r s → Writes before after r t
+writes-as before after r s t e w = subst (Writes before after r) e w
+
+pub short-stage : (bytes buffer : List ℕ) → length buffer < 65536 → buffer ≡ stage-of bytes buffer
+short-stage bytes buffer h = sym (ap (sets buffer 0) (short bytes (length buffer) h))
+
+pub short-count : (bytes buffer : List ℕ) → length buffer < 65536 → 0 ≡ length (written bytes (length buffer))
+short-count bytes buffer h = sym (ap length (short bytes (length buffer) h))
+
+module _ (bytes buffer after : List ℕ) (r : ℕ) (h : 65536 ≤ length buffer) (w : Writes buffer after r (told bytes)) where
+  pub stage-written : after ≡ stage-of bytes buffer
+  stage-written = w .bytes ∙ sym (ap (sets buffer 0) (roomy bytes (length buffer) h))
+
+  pub stage-counted : r ≡ length (written bytes (length buffer))
+  stage-counted = w .count ∙ sym (ap length (roomy bytes (length buffer) h))
+
+-- ---- reading
+
+module _ (r : JobRead) (buffer : List Float) (bytes : List ℕ) (t : JobTold r buffer (read-job bytes)) where
+  pub read-refused : r .ok ≡ false → told bytes ≡ refused (r .refusal)
+  unfolding told-job after-reading
+  read-refused e =
+      let z : read-job bytes ≡ job.refusal (r .refusal) = sym (t .is) ∙ rw e in
+      ap after-reading z
+
+  read-accepted : r .ok ≡ true → read-job bytes ≡ job.accepted (job-in (r .job) buffer)
+  unfolding told-job
+  read-accepted e = sym (t .is) ∙ rw e
+
+  pub came : length buffer ≡ 4096 → r .ok ≡ true → Came (r .job) buffer
+  came long e = record { bytes = bytes; is = read-accepted e; fits = t .fits; long = long }
+
+  pub told-plan : r .ok ≡ true → told bytes ≡ after-plan (job-in (r .job) buffer) (planned (job-in (r .job) buffer))
+  unfolding after-reading
+  told-plan e = ap after-reading (read-accepted e)
+
+  pub plan-room : (room : ℕ) → 65536 ≤ room → r .ok ≡ true → length (told-bytes (after-plan (job-in (r .job) buffer) (planned (job-in (r .job) buffer)))) ≤ room
+  plan-room room h e = subst (λ (l : List ℕ). length l ≤ room) (roomy bytes room h ∙ ap told-bytes (told-plan e)) (written-size bytes room .1)
+
+-- ---- the plan
+
+module _ (j : code.Job) (buffer : List Float) (from : Came j buffer) (sizes : Sizes j) (s : Step)
+    (is : step-in (j .bundles .count) s
+    ≡ plan-of (tables.board-of (j .options) (j .nodes) (j .ports) (take (j .edges .count) (j .edges .rows)) (j .bundles) (j .members)) (tables.given-routes buffer (j .edges)) (j .flags .«separates_collectors») (j .grants .«tap_visits»)) where
+  planned-is : planned (job-in j buffer) ≡ step-in (j .bundles .count) s
+  planned-is = ap (λ (g : List Route). plan-of (job-in j buffer .board) g (j .flags .«separates_collectors») (j .grants .«tap_visits»)) (sym (given-same j buffer from sizes)) ∙ sym is
+
+  pub plan-refused : s .refused ≡ true → after-plan (job-in j buffer) (planned (job-in j buffer)) ≡ refused 13
+  unfolding after-plan
+  plan-refused e =
+      let z : planned (job-in j buffer) ≡ plan.refused (s .plan .left .0) = planned-is ∙ rw e in
+      ap (after-plan (job-in j buffer)) z
+
+  pub plan-going : s .refused ≡ false → after-plan (job-in j buffer) (planned (job-in j buffer)) ≡ after-sheet (job-in j buffer .board) (plan-in (j .bundles .count) (s .plan)) (sheet-drawn (job-in j buffer) (plan-in (j .bundles .count) (s .plan)))
+  unfolding after-plan
+  plan-going e =
+      let z : planned (job-in j buffer) ≡ plan.going (plan-in (j .bundles .count) (s .plan)) = planned-is ∙ rw e in
+      ap (after-plan (job-in j buffer)) z
