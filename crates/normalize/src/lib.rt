@@ -12,7 +12,7 @@ ghost use Rattle.geometry.specs.Points.{point-at, points-from};
 ghost use Rattle.route.specs.Slots.{routes-of, Held};
 ghost use Rattle.drawing.specs.Normal.{route-points, shifted, shifted-node, shifted-segment, page-of};
 ghost use Rattle.building.specs.Rows.{Placed, Untouched};
-ghost use Rattle.normalize.specs.Rows.{sheet-in, page-in, sized, heading, Windows, TapsIn, origin, outer, outermost, node-point, node-points, row-points, bounds, shifted-row};
+ghost use Rattle.normalize.specs.Rows.{sheet-in, page-in, heading, Windows, TapsIn, origin, outer, outermost, node-point, node-points, row-points, bounds, shifted-row};
 use board::DrawnBundle;
 use board::DrawnBundles;
 use board::Nodes;
@@ -278,28 +278,6 @@ fn shift_drawn(o: Point, drawn: DrawnBundles) -> DrawnBundles
 
 // ---- the whole
 
-// The sheet as it stands, with its size.
-fn sized_sheet(
-    nodes: Nodes,
-    drawn: DrawnBundles,
-    points: &[f64],
-    counts: &[usize],
-    taps: &[f64],
-) -> Laid
-    requires { ⌜ (nodes .count ≤ 128) × (drawn .count ≤ 32) × TapsIn (drawn .count) (drawn .rows) (now taps) × (136 * length (now counts) ≤ length (now points)) × Held (now counts) ⌝ }
-    ensures page { λ r. ⌜ ((edges : List ℕ) → page-in edges r (now (points .entry)) (now (counts .entry)) (now (taps .entry)) ≡ sized (sheet-in edges nodes drawn (now (points .entry)) (now (counts .entry)) (now (taps .entry)))) ⌝ }
-    ensures nodes { λ r. ⌜ r .nodes ≡ nodes ⌝ }
-    ensures drawn { λ r. ⌜ r .drawn ≡ drawn ⌝ }
-{
-    let size = outermost_of_sheet(true, nodes, drawn, points, counts, taps);
-    Laid {
-        nodes: nodes,
-        drawn: drawn,
-        width: size.x,
-        height: size.y,
-    }
-}
-
 // The routes and the first tap_count taps are shifted where they stand.
 pub fn normalize_layout(
     nodes: Nodes,
@@ -323,7 +301,19 @@ pub fn normalize_layout(
         shift_points(o, &mut taps[..], 0, tap_count);
         let n = shift_nodes(o, nodes);
         let d = shift_drawn(o, drawn);
-        return sized_sheet(n, d, &points[..], counts, &taps[..]);
+        let size = outermost_of_sheet(true, n, d, &points[..], counts, &taps[..]);
+        return Laid {
+            nodes: n,
+            drawn: d,
+            width: size.x,
+            height: size.y,
+        };
     }
-    sized_sheet(nodes, drawn, &points[..], counts, &taps[..])
+    let size = outermost_of_sheet(true, nodes, drawn, &points[..], counts, &taps[..]);
+    Laid {
+        nodes: nodes,
+        drawn: drawn,
+        width: size.x,
+        height: size.y,
+    }
 }
