@@ -24,10 +24,18 @@ use Rattle.drawing.specs.Check.{no-edge}
 use Rattle.checks.specs.Rows.{taps-from, drawn-of}
 use Rattle.building.specs.Rows.{Row}
 use Rattle.turns.specs.Rows.{Rows}
-use Rattle.normalize.specs.Rows.{Heading, heading}
-use Rattle.answer.specs.Answer.{Trunk, trunk-of}
-use Rattle.stage.specs.Stage.{tap-told, bundle-told, bundles-told}
-use Rattle.stage.specs.Tables.{TapsOf, MembersOn}
+use Rattle.route.specs.Slots.{routes-of}
+use Rattle.board.specs.declared.DrawnBundles.{DrawnBundles}
+use Rattle.drawing.specs.Normal.{Page, page-of}
+use Rattle.normalize.specs.declared.Laid.{Laid}
+use Rattle.normalize.specs.Rows.{Heading, heading, sheet-in, page-in, Windows}
+use Rattle.answer.specs.declared.Frame.{Frame}
+use Rattle.answer.specs.Answer.{Trunk, trunk-of, spot-of, lines-of}
+use Rattle.answer.specs.Tables.{sheet-of}
+use Rattle.job.specs.declared.Job as code
+use Rattle.stage.specs.Stage.{tap-told, bundle-told, bundles-told, page-told}
+use Rattle.stage.specs.Tables.{job-in, TapsOf, MembersOn, OnSheet, sheet-told}
+use Rattle.stage.proofs.Ready.{Sizes}
 
 null-tap : DrawnTap
 null-tap = record { edge = 0; point = point-at [] 0 }
@@ -81,3 +89,49 @@ module _ (table : Edges) (members : Members) (edges : List ℕ) (taps : List Flo
       let n : d .count ≡ u .count = ap (λ (x : Heading). x .count) h ∙ r .0 .count in
       ap (λ (t : Trunk). t ∷ map (trunk-of listed) ds) (trunk-same u d i (omega (arith, f, n, w 0 (omega arith))))
       ∙ ap (λ (l : List Trunk). bundle-told named u (drawn-of edges taps d) ∷ l) (trunks-same us ds olds rest (r .1) (λ k m. w (suc k) (omega arith)))
+
+-- ---- the rows of the drawn bundles
+
+row-at : (us : List Bundle) (ds : List DrawnBundle) → Rows us ds → (i : ℕ) → i < length us → (u : Bundle) (d : DrawnBundle) → Row (getD us i u) (getD ds i d)
+unfolding Rows
+row-at [] ds r i h u d = absurd (omega arith)
+row-at (v ∷ us) [] r i h u d = absurd r
+row-at (v ∷ us) (c ∷ ds) r zero h u d = r .0
+row-at (v ∷ us) (c ∷ ds) r (suc i) h u d = row-at us ds (r .1) i (omega arith) u d
+
+module _ (j : code.Job) (edges : List ℕ) (ds : DrawnBundles) (points : List Float) (counts : List ℕ) (taps : List Float) (on : OnSheet j edges ds points counts taps) (sizes : Sizes j) where
+  short : ds .count ≤ length (j .bundles .rows)
+  short = omega (arith, on .all-drawn, on .fits .bundles, sizes .bundles)
+
+  pub windows : Windows (ds .count) (ds .rows) (j .members .count)
+  windows i d h =
+      let r = row-at (take (ds .count) (j .bundles .rows)) (take (ds .count) (ds .rows)) (on .each-row) i (omega (arith, h, length-take-le (ds .count) (j .bundles .rows) short)) no-bundle d in
+      let f : getD (ds .rows) i d .first ≡ getD (j .bundles .rows) i no-bundle .first =
+      ap (λ (c : DrawnBundle). c .first) (sym (getD-take (ds .count) (ds .rows) i d h)) ∙ r .first ∙ ap (λ (u : Bundle). u .first) (getD-take (ds .count) (j .bundles .rows) i no-bundle h) in
+      let n : getD (ds .rows) i d .count ≡ getD (j .bundles .rows) i no-bundle .count =
+      ap (λ (c : DrawnBundle). c .count) (sym (getD-take (ds .count) (ds .rows) i d h)) ∙ r .count ∙ ap (λ (u : Bundle). u .count) (getD-take (ds .count) (j .bundles .rows) i no-bundle h) in
+      omega (arith, on .windows i h, f, n)
+
+  bundle-windows : (i : ℕ) → i < length (take (ds .count) (j .bundles .rows)) → getD (take (ds .count) (j .bundles .rows)) i no-bundle .first + getD (take (ds .count) (j .bundles .rows)) i no-bundle .count ≤ j .members .count
+  bundle-windows i h =
+      let k : i < ds .count = omega (arith, h, length-take-le (ds .count) (j .bundles .rows) short) in
+      subst (λ (u : Bundle). u .first + u .count ≤ j .members .count) (sym (getD-take (ds .count) (j .bundles .rows) i no-bundle k)) (on .windows i k)
+
+  module _ (buffer : List Float) (left rest : ℕ) (l : Laid) (after shifted : List Float) (t : DrawnTaps) (of : TapsOf (j .edges) (j .members) shifted t) (kt : j .members .count ≤ length (t .rows))
+      (page : page-in edges l after counts shifted ≡ page-of (sheet-in edges (j .nodes) ds points counts taps)) (as-many : l .drawn .count ≡ ds .count)
+      (kept : map heading (take (l .drawn .count) (l .drawn .rows)) ≡ map heading (take (ds .count) (ds .rows))) where
+    abbrev frame : Frame
+    frame = record { «tap_visits» = left; «geometry_visits» = rest; width = l .width; height = l .height }
+
+    trunks : map (trunk-of (take (t .count) (t .rows))) (take (l .drawn .count) (l .drawn .rows))
+        ≡ bundles-told (take (j .edges .count) (j .edges .rows)) (take (j .bundles .count) (j .bundles .rows)) (map (drawn-of edges shifted) (take (l .drawn .count) (l .drawn .rows)))
+    trunks =
+        ap (λ (n : ℕ). map (trunk-of (take n (t .rows))) (take (l .drawn .count) (l .drawn .rows))) (of .count-is)
+        ∙ trunks-same (j .edges) (j .members) edges shifted t of (on .members-on) kt (on .edges-are) (take (ds .count) (j .bundles .rows)) (take (l .drawn .count) (l .drawn .rows)) (take (ds .count) (ds .rows)) kept (on .each-row) bundle-windows
+        ∙ ap (λ (n : ℕ). bundles-told (take (j .edges .count) (j .edges .rows)) (take n (j .bundles .rows)) (map (drawn-of edges shifted) (take (l .drawn .count) (l .drawn .rows)))) (on .all-drawn)
+
+    pub sheet-same : sheet-of frame (l .nodes) (j .edges) after counts (l .drawn) t ≡ sheet-told j buffer edges ds points counts taps left rest
+    unfolding page-told
+    sheet-same =
+        ap (λ (b : List Trunk). record { tap-visits = left; geometry-visits = rest; width = l .width; height = l .height; nodes = map spot-of (take (l .nodes .count) (l .nodes .rows)); routes = lines-of (take (j .edges .count) (j .edges .rows)) (routes-of after counts); bundles = b }) trunks
+        ∙ ap (λ (p : Page). page-told (job-in j buffer .board) left rest p) page
