@@ -2,11 +2,13 @@ pub mod Depths
 pub mod Bounds
 pub mod Plan
 pub mod Through
+pub mod Alike
 pub mod Enough
 pub mod Visits
 pub mod Lone
 pub mod Numbers
 pub mod Planned
+pub mod Carried
 pub mod Placed
 pub mod Tables
 pub mod Stack

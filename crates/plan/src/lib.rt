@@ -177,7 +177,7 @@ fn lower(x: f64, b: Bound) -> f64
     }
 }
 
-fn clamp(x: f64, low: f64, high: f64) -> f64
+pub fn clamp(x: f64, low: f64, high: f64) -> f64
     ensures { λ r. ⌜ r ≡ clamped x low high ⌝ }
 {
     binary64::min(binary64::max(x, low), high)
@@ -363,7 +363,7 @@ fn add_corridors(
     Corridors { rows: rows }
 }
 
-fn is_same_role(a: Role, b: Role) -> bool
+pub fn is_same_role(a: Role, b: Role) -> bool
     ensures { λ r. ⌜ r ≡ same-role a b ⌝ }
 {
     match a {
@@ -472,7 +472,7 @@ fn end_x(role: Role, points: &[f64], start: usize, count: usize) -> Bound
 }
 
 // How far all members of a bundle let the collector go.
-fn reach_all(
+pub fn reach_all(
     role: Role,
     reserve: f64,
     points: &[f64],
@@ -582,7 +582,7 @@ pub fn interior_collector_bounds(
 }
 
 // The search for a collector between bounds.
-fn search_between(
+pub fn search_between(
     points: &[f64],
     starts: &[usize],
     counts: &[usize],
@@ -657,7 +657,7 @@ pub fn interior_collector_range_bounded(
 // ---- the first pass
 
 // The bounds with the x that the search found, if it did, as the desired one.
-fn narrow(b: CollectorBounds, o: Outcome) -> CollectorBounds
+pub fn narrow(b: CollectorBounds, o: Outcome) -> CollectorBounds
     ensures { λ r. ⌜ r ≡ narrowed b o ⌝ }
 {
     match o {
@@ -716,7 +716,7 @@ fn interior_collector_range(
 }
 
 // The first search of each bundle, in order.
-fn first_pass(
+pub fn first_pass(
     points: &[f64],
     starts: &[usize],
     counts: &[usize],
@@ -791,7 +791,7 @@ fn run_end(role: Role, pitch: f64, x: f64, points: &[f64], start: usize, count: 
 }
 
 // The furthest of the members' ends; absent where a member has none.
-fn input_shared_trunk_divergence_x(
+pub fn input_shared_trunk_divergence_x(
     points: &[f64],
     starts: &[usize],
     counts: &[usize],
@@ -856,7 +856,7 @@ fn further_of(r: Bound, a: Bound) -> Bound
 }
 
 // What the inputs in a list ask of the outputs.
-fn required_output_collector_x(
+pub fn required_output_collector_x(
     points: &[f64],
     starts: &[usize],
     counts: &[usize],
@@ -889,7 +889,7 @@ fn required_output_collector_x(
 
 // ---- searches anew
 
-fn found_x(o: Outcome) -> Bound
+pub fn found_x(o: Outcome) -> Bound
     ensures { λ r. ⌜ r ≡ found-x o ⌝ }
 {
     match o {
@@ -914,7 +914,7 @@ fn upper_at(pitch: f64, upper: Upper, x: Bound) -> Bound
 }
 
 // The bundles in a list are searched anew, in order.
-fn search_again(
+pub fn search_again(
     points: &[f64],
     starts: &[usize],
     counts: &[usize],
@@ -1002,7 +1002,7 @@ fn share_edge(edges: &[usize], first: usize, count: usize, other: usize, others:
     false
 }
 
-fn is_found(b: CollectorBounds) -> bool
+pub fn is_found(b: CollectorBounds) -> bool
     ensures { λ r. ⌜ r ≡ found? b ⌝ }
 {
     match b {
@@ -1053,7 +1053,7 @@ fn adjacent_row(edges: &[usize], t: Ranges, n: usize, i: usize, known: Adjacent)
 }
 
 // The neighbours of every bundle.
-fn adjacency(edges: &[usize], t: Ranges, n: usize) -> Adjacent
+pub fn adjacency(edges: &[usize], t: Ranges, n: usize) -> Adjacent
     requires { ⌜ RangesAmong (now edges) t n ⌝ }
     ensures { λ r. ⌜ ((b : Board) (given : List Route) → TabledTo b given (now (edges .entry)) t n n (r .rows)) ⌝ }
 {
@@ -1096,7 +1096,7 @@ fn push_near(adjacent: &[bool; 1024], n: usize, i: usize, s: Stack) -> Stack
 }
 
 // The component of `start`.
-fn component(adjacent: &[bool; 1024], n: usize, start: usize, before: [bool; 32]) -> Walked
+pub fn component(adjacent: &[bool; 1024], n: usize, start: usize, before: [bool; 32]) -> Walked
     requires { ⌜ (n ≤ 32) × (start < n) ⌝ }
     ensures { λ r. ⌜ (r .count ≤ n) × (component-from n r ≡ walk (row-of (now (adjacent .entry)) n) n (take n (set before start true)) (start ∷ [])) ⌝ }
 {

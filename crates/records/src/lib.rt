@@ -28,7 +28,7 @@ pub fn u8_at(s: &[u8], at: usize) -> u64
 }
 
 // A sum of places, as far as a slice can reach.
-fn plus(a: usize, b: usize) -> usize {
+pub fn plus(a: usize, b: usize) -> usize {
     if a > 1000000 {
         return a;
     }

@@ -1,21 +1,19 @@
 -- On a board whose numbers are within their limits, with a plan whose numbers are, every number of the sheet before the last shift is finite. The powers of two here are wide: they only keep the numbers finite.
 -- Assumes nothing.
-use Prim.Native.Nat.{ℕ, zero, suc, _+_, _-_, _*_, _≤_, _<_}
+use Prim.Native.Nat.{ℕ, zero, suc, _-_, _≤_, _<_}
 use mathlib.Core.Path.{_≡_, refl, sym, ap, _∙_, subst}
 use mathlib.Core.Logic.{_⊎_, inl, inr}
-use mathlib.Core.List.{List, [], _∷_, _++_, List·Memᴰ, List·Memᴰ·head, List·Memᴰ·tail, List·Memᴰ·not-nil, List·Memᴰ·cases-cons}
+use mathlib.Core.List.{List, [], _∷_, _++_, List·Memᴰ, List·Memᴰ·not-nil, List·Memᴰ·cases-cons}
 use mathlib.Core.Option.{Option, none, some}
 use mathlib.Core.Bool.{Bool, true, false, cond}
 use native.Mathlib.Omega.{arith}
-use lib.Dec.{T, ltb, eqb}
+use lib.Dec.{ltb}
 use lib.IntN.{pos}
-use lib.ListN.{length, getD, set}
-use lib.Ieee.{Float, fin, binary64, lt, fits, ofInt, add, sub, mul, div}
-use borrow.Author.Tests.{eqb-true, eqb-false}
+use lib.ListN.{length, set}
+use lib.Ieee.{Float, fin, binary64, lt, ofInt, add, sub, mul, div}
 use Rattle.binary64.specs.Order.{least, greatest}
 use Rattle.binary64.specs.Range.{Within, within-mono, mul-within, add-within, sub-within, half, half-within, div-two}
 use Rattle.geometry.specs.declared.Point.{Point}
-use Rattle.geometry.specs.declared.Segment.{Segment}
 use Rattle.geometry.specs.declared.Side.{Side}
 use Rattle.geometry.specs.declared.Side.the-variants.{North, East, South, West}
 use Rattle.geometry.specs.declared.Role.{Role}
@@ -28,20 +26,20 @@ use Rattle.route.specs.declared.Crossing.{Crossing}
 use Rattle.route.specs.declared.Crossing.the-variants.{Nowhere, On}
 use Rattle.route.specs.Intersection.{first-shared-trunk-intersection, last-shared-trunk-intersection}
 use Rattle.route.specs.Rewrite.{corridor-x}
-use Rattle.route.specs.Found.{Found, first-found, last-found, run-ends}
-use Rattle.route.specs.Remade.{Remade, remade-coordinates, remade-input-trunk, remade-output-trunk, remade-input-route, remade-output-route}
+use Rattle.route.specs.Found.{first-found, last-found, run-ends}
+use Rattle.route.specs.Remade.{remade-coordinates, remade-input-trunk, remade-output-trunk, remade-input-route, remade-output-route}
 use Rattle.board.specs.declared.PlacedNode.{PlacedNode}
 use Rattle.board.specs.declared.Port.{Port}
 use Rattle.board.specs.declared.Bundle.{Bundle}
 use Rattle.board.specs.declared.Member.{Member}
 use Rattle.board.specs.Board.{Board, rail-depth}
 use Rattle.sorting.specs.Sorted.{Every}
-use Rattle.plan.specs.Depths.{number, inward, lane-count, no-port, no-node, port-of, node-of, endpoint-of, members-in, pitch-of, parting-pitch}
+use Rattle.plan.specs.Depths.{number, lane-count, no-node, port-of, node-of, endpoint-of, members-in, pitch-of, parting-pitch}
 use Rattle.plan.specs.Lone.{every-getD}
-use Rattle.plan.specs.Numbers.{Small, Numbers, pick, number-small, lane-count-small, members-good, pitch-small, rail-small, node-small, port-small, endpoint-small, inward-small, zero-small}
+use Rattle.plan.specs.Numbers.{Small, Numbers, pick, number-small, lane-count-small, members-good, pitch-small, rail-small, port-small, endpoint-small, inward-small, zero-small}
 use Rattle.drawing.specs.Build.{TapOn, Drawn, route-at, trunk-met, tap-then, trunk-taps, lowest, highest, center, rail-tap, rail-taps, rail-low, rail-high, drawn-as, drawn-inside, rail-corner, railed, inside-or, build}
-use Rattle.drawing.specs.Rewrite.{rewritten, two-points, corridor-depth, rewrite-one, put-route, then-routes, rewrite-all}
-use Rattle.drawing.specs.Sheet.{Turn, Progress, Outcome, going, after-turn, drawn-at, rewritten-by, turn, sheet-of, blank}
+use Rattle.drawing.specs.Rewrite.{rewritten, two-points, corridor-depth, rewrite-one, put-route, rewrite-all}
+use Rattle.drawing.specs.Sheet.{Turn, Progress, going, drawn-at, turn, sheet-of, blank}
 use Rattle.drawing.specs.Laws.{then-some}
 use Rattle.drawing.specs.Assembly.{Turned, turned, turn-went}
 

@@ -396,7 +396,6 @@ fn on_job(operation: u8, from: &mut Reader<'_>, out: &mut Writer) -> Made {
             write_corridors(out, &board);
             write_bounds(out, &board, f64::NEG_INFINITY, f64::INFINITY);
             write_plan(out, &board);
-            write_sufficient(out, &board);
         }
         other => return Err(Malformed::Operation(other)),
     }

@@ -1,0 +1,66 @@
+-- `separation::smallest_of` meets its contract. Assumes nothing.
+use mathlib.Core.Path.{_≡_, refl, sym, _∙_, ap}
+use Prim.Native.Nat.{ℕ, _+_, _-_, _≤_, _<_}
+use native.Mathlib.Omega.{arith}
+use lib.ListN.{length, getD, take, drop}
+use lib.Ieee.{Float, ofBits, nan}
+use Rattle.plan.specs.Plan.{smallest-of}
+use Rattle.plan.proofs.Rows as rows
+use Rattle.separation.proofs.Laws as laws
+use borrow.Author.Needs.{needs}
+use Rattle.separation.proofs.smallest_of.Statement.{statement}
+use Rattle.separation.proofs.smallest_of.Tie as tie
+
+abbrev Inv-loop : tie.InvT-loop
+Inv-loop x used count least₀ i₀ least i = (i ≤ count) × (smallest-of least (drop i (take count used)) ≡ smallest-of x (take count used))
+
+abbrev μ-loop : tie.MeasureT-loop
+μ-loop x used count least₀ i₀ least i = count - i
+
+loop-holds : tie.Need-loop-holds Inv-loop μ-loop
+loop-holds c = (omega arith, refl)
+
+mul-min : tie.Need-mul-min Inv-loop μ-loop
+mul-min c = search needs
+
+shared-slice-read-min : tie.Need-shared-slice-read-min Inv-loop μ-loop
+shared-slice-read-min c = search needs
+
+min-requires : tie.Need-min-requires Inv-loop μ-loop
+min-requires c κs = search needs
+
+add-i : tie.Need-add-i Inv-loop μ-loop
+add-i c = search needs
+
+loop-less : tie.Need-loop-less Inv-loop μ-loop
+loop-less c = search needs
+
+loop-again : tie.Need-loop-again Inv-loop μ-loop
+loop-again c =
+    let s = c .before .before .before .before .before in
+    let a = s .args in
+    let l = c .before .before .before .loop in
+    let t = c .before .before .loop-test .taken in
+    (omega (arith, t), ap (λ (z : Float). smallest-of z (drop (l .i + 1) (take (a .count) (a .used .now)))) (c .min .ensures) ∙ laws.smallest-turn (l .least) (getD (a .used .now) (l .i) nan) _ _ (rows.part-cons (a .used .now) (a .count) (l .i) nan t (s .pre)) ∙ l .inv .1)
+
+returns : tie.Need-returns Inv-loop μ-loop
+returns c =
+    let s = c .before .before .before in
+    let a = s .args in
+    let l = c .before .loop in
+    laws.smallest-end (l .least) _ (rows.part-none (a .used .now) (a .count) (l .i) (c .loop-test .left) (s .pre)) ∙ l .inv .1
+
+pub smallest-of-spec : {M : Type 1} → statement M
+smallest-of-spec =
+    tie.close
+    (tie.spec
+    Inv-loop
+    μ-loop
+    loop-holds
+    mul-min
+    shared-slice-read-min
+    min-requires
+    add-i
+    loop-less
+    loop-again
+    returns)
