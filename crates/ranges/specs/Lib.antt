@@ -7,3 +7,5 @@ pub mod Made
 pub mod NoMinusZero
 pub mod Drawn
 pub mod Extent
+pub mod Page
+pub mod Overflow
