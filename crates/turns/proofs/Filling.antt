@@ -11,7 +11,7 @@ use lib.Dec.{ltb}
 use lib.ListN.{getD, length, set, take, drop}
 use lib.Seq.{take-suc, take-suc-set, take-all, drop-cons, getD-set-same, getD-set-other}
 use lib.Ieee.{Float}
-use Rattle.geometry.specs.Points.{Route, points-from}
+use Rattle.geometry.specs.Points.{Route}
 use Rattle.route.specs.Window.{points-length}
 use Rattle.route.specs.Slots.{routes-from, routes-of, put-points, Stored, filled}
 use Rattle.board.specs.declared.Edge.{Edge}

@@ -1,7 +1,7 @@
 -- The bundles that are still to come, turn after turn.
 -- Assumes nothing.
-use Prim.Native.Nat.{ℕ, zero, suc, _+_, _*_, _≤_, _<_}
-use mathlib.Core.Path.{_≡_, refl, sym, ap, _∙_, subst}
+use Prim.Native.Nat.{ℕ, _+_, _*_, _≤_, _<_}
+use mathlib.Core.Path.{_≡_, sym, ap, _∙_, subst}
 use mathlib.Core.List.{List, [], _∷_, _++_, map, map-append}
 use mathlib.Core.Bool.{Bool}
 use native.Mathlib.Omega.{arith}
@@ -13,7 +13,7 @@ use Rattle.geometry.specs.declared.Point.{Point}
 use Rattle.geometry.specs.declared.Role.the-variants.{Input, Output}
 use Rattle.geometry.specs.Points.{Route}
 use Rattle.route.specs.Slots.{Held}
-use Rattle.sorting.specs.Sorted.{Every, every-map, every-last}
+use Rattle.sorting.specs.Sorted.{every-map, every-last}
 use Rattle.board.specs.declared.Options.{Options}
 use Rattle.board.specs.declared.Nodes.{Nodes}
 use Rattle.board.specs.declared.Ports.{Ports}
@@ -23,7 +23,6 @@ use Rattle.board.specs.declared.Bundle.{Bundle}
 use Rattle.board.specs.declared.DrawnBundle.{DrawnBundle}
 use Rattle.board.specs.declared.DrawnBundles.{DrawnBundles}
 use Rattle.board.specs.Board.{Board, members-of}
-use Rattle.plan.specs.declared.Bound.{Bound}
 use Rattle.plan.specs.declared.Planned.{Planned}
 use Rattle.plan.specs.Depths.{endpoint-of}
 use Rattle.plan.specs.Prepared.{x-of}

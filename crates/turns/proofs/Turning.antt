@@ -34,8 +34,8 @@ use Rattle.drawing.specs.Rewrite.{rewrite-all}
 use Rattle.drawing.specs.Check.{walk, among, over-routes, contact-tests, interior-tests}
 use Rattle.drawing.specs.Sheet.{Turn, Outcome, after-check, after-rewrite, rewritten-by, checked, turn, planned-x}
 use Rattle.drawing.specs.Grow.{times, all-length}
-use Rattle.checks.specs.Rows.{taps-from, drawn-of, inside-route, Tabled, AllTabled}
-use Rattle.building.specs.Rows.{members-from, routes-in, Untouched, Known, Seen, Row, then-walk}
+use Rattle.checks.specs.Rows.{taps-from, drawn-of, inside-route, AllTabled}
+use Rattle.building.specs.Rows.{members-from, routes-in, Untouched, Known, Row, then-walk}
 use Rattle.building.proofs.Taps.{taps-same}
 use Rattle.turns.specs.Rows.{turn-of, standing, ends-as, Faced, Longer}
 

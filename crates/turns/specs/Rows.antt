@@ -1,15 +1,14 @@
 -- What the turns of the bundles ask of the tables and slices, and what they leave. Definitions only.
 -- Assumes nothing.
-use Prim.Native.Nat.{ℕ, zero, suc, _+_, _*_, _≤_, _<_}
+use Prim.Native.Nat.{ℕ, _+_, _*_, _≤_, _<_}
 use mathlib.Core.Path.{_≡_}
-use mathlib.Core.List.{List, [], _∷_, _++_, map}
+use mathlib.Core.List.{List, [], _∷_, map}
 use mathlib.Core.Bool.{Bool, cond}
-use lib.ListN.{getD, length, take, drop}
+use lib.ListN.{getD, length, take}
 use lib.Ieee.{Float}
 use Rattle.geometry.specs.declared.Point.{Point}
 use Rattle.geometry.specs.declared.Role.{Role}
 use Rattle.geometry.specs.Points.{Route}
-use Rattle.route.specs.Slots.{Held}
 use Rattle.sorting.specs.Sorted.{Every}
 use Rattle.board.specs.declared.Options.{Options}
 use Rattle.board.specs.declared.Member.{Member}
@@ -18,14 +17,12 @@ use Rattle.board.specs.declared.Bundles.{Bundles}
 use Rattle.board.specs.declared.Nodes.{Nodes}
 use Rattle.board.specs.declared.Ports.{Ports}
 use Rattle.board.specs.declared.Edges.{Edges}
-use Rattle.board.specs.declared.Members.{Members}
 use Rattle.board.specs.declared.DrawnBundle.{DrawnBundle}
 use Rattle.board.specs.declared.DrawnBundles.{DrawnBundles}
 use Rattle.board.specs.Board.{Board, members-of}
 use Rattle.plan.specs.declared.Bound.{Bound}
 use Rattle.plan.specs.Depths.{same-role, no-port}
 use Rattle.plan.specs.Tables.{no-bundle, no-member, no-edge}
-use Rattle.drawing.specs.declared.GeometryVisits.{GeometryVisits}
 use Rattle.drawing.specs.declared.Verdict.{Verdict}
 use Rattle.drawing.specs.declared.Verdict.the-variants.{Clean, Refused}
 use Rattle.drawing.specs.Build.{Drawn}

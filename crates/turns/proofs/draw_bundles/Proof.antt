@@ -2,8 +2,8 @@ use borrow.Author.Needs.{needs}
 use native.Mathlib.Omega.{arith}
 use mathlib.Core.Path.{_≡_, refl, sym, ap, _∙_, subst}
 use mathlib.Core.List.{List, [], _∷_, map}
-use Prim.Native.Nat.{ℕ, suc, _≤_, _<_, _+_, _-_, _*_}
-use lib.Ieee.{Float, nan}
+use Prim.Native.Nat.{ℕ, _≤_, _<_, _+_, _-_}
+use lib.Ieee.{nan}
 use lib.ListN.{length, getD, take, drop}
 use denote.Ref.{now}
 use Rattle.route.specs.Slots.{routes-of}
@@ -14,7 +14,6 @@ use Rattle.plan.specs.declared.Bound.{Bound}
 use Rattle.plan.specs.Tables.{no-bundle}
 use Rattle.plan.specs.Prepared.{no-planned}
 use Rattle.plan.proofs.Rows.{length-mapped, part-cons}
-use Rattle.drawing.specs.Build.{Drawn}
 use Rattle.drawing.specs.Sheet.{Turn, turn, sheet-of}
 use Rattle.checks.specs.Rows.{drawn-of}
 use Rattle.building.specs.Rows.{Row}

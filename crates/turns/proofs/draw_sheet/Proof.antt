@@ -1,10 +1,8 @@
 use borrow.Author.Needs.{needs}
 use native.Mathlib.Omega.{arith}
-use mathlib.Core.Path.{_≡_, refl, sym, ap, _∙_}
+use mathlib.Core.Path.{_≡_, refl, ap, _∙_}
 use mathlib.Core.List.{List, map}
-use Prim.Native.Nat.{ℕ, _≤_, _<_, _+_, _*_}
 use lib.ListN.{length, take}
-use denote.Ref.{now}
 use Rattle.geometry.specs.Points.{Route}
 use Rattle.plan.specs.Tables.{board-of}
 use Rattle.plan.specs.Prepared.{x-of}

@@ -1,12 +1,10 @@
 use borrow.Author.Needs.{needs}
-use mathlib.Core.Path.{_≡_, refl, sym, ap, _∙_}
-use mathlib.Core.List.{List}
+use mathlib.Core.Path.{_≡_, refl, ap, _∙_}
 use Prim.Native.Nat.{ℕ, _<_}
 use native.Mathlib.Omega.{arith}
 use native.Mathlib.Numerals.{add-one}
 use lib.ListN.{length, take, set}
 use lib.Seq.{take-suc-set}
-use Rattle.board.specs.declared.DrawnBundle.{DrawnBundle}
 use Rattle.plan.proofs.Rows.{length-mapped}
 use Rattle.turns.proofs.drawn_with.Statement.{statement}
 use Rattle.turns.proofs.drawn_with.Tie as tie

@@ -1,9 +1,9 @@
 use borrow.Author.Needs.{needs}
 use native.Mathlib.Omega.{arith}
-use mathlib.Core.Path.{_≡_, refl, sym, ap, _∙_}
+use mathlib.Core.Path.{_≡_, refl}
 use mathlib.Core.List.{map}
-use Prim.Native.Nat.{ℕ, _≤_, _<_, _+_, _-_, _*_}
-use lib.ListN.{length, getD, take}
+use Prim.Native.Nat.{_≤_, _<_, _-_}
+use lib.ListN.{length, take}
 use denote.Ref.{now}
 use Rattle.route.specs.Slots.{routes-of}
 use Rattle.plan.specs.Tables.{given-route, no-edge}
