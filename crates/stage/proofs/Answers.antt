@@ -30,11 +30,12 @@ use Rattle.drawing.specs.Normal.{Page, page-of}
 use Rattle.normalize.specs.declared.Laid.{Laid}
 use Rattle.normalize.specs.Rows.{Heading, heading, sheet-in, page-in, Windows}
 use Rattle.answer.specs.declared.Frame.{Frame}
-use Rattle.answer.specs.Answer.{Trunk, trunk-of, spot-of, lines-of}
+use lib.Seq.{sets}
+use Rattle.answer.specs.Answer.{Sheet, Trunk, trunk-of, spot-of, lines-of, answer-bytes}
 use Rattle.answer.specs.Tables.{sheet-of}
 use Rattle.job.specs.declared.Job as code
-use Rattle.stage.specs.Stage.{tap-told, bundle-told, bundles-told, page-told}
-use Rattle.stage.specs.Tables.{job-in, TapsOf, MembersOn, OnSheet, sheet-told}
+use Rattle.stage.specs.Stage.{tap-told, bundle-told, bundles-told, page-told, told-bytes}
+use Rattle.stage.specs.Tables.{job-in, Writes, TapsOf, MembersOn, OnSheet, sheet-told, told-as}
 use Rattle.stage.proofs.Ready.{Sizes}
 
 null-tap : DrawnTap
@@ -135,3 +136,7 @@ module _ (j : code.Job) (edges : List ℕ) (ds : DrawnBundles) (points : List Fl
     sheet-same =
         ap (λ (b : List Trunk). record { tap-visits = left; geometry-visits = rest; width = l .width; height = l .height; nodes = map spot-of (take (l .nodes .count) (l .nodes .rows)); routes = lines-of (take (j .edges .count) (j .edges .rows)) (routes-of after counts); bundles = b }) trunks
         ∙ ap (λ (p : Page). page-told (job-in j buffer .board) left rest p) page
+
+pub answer-writes : (before after : List ℕ) (r : ℕ) (a s : Sheet) → a ≡ s → after ≡ sets before 0 (answer-bytes a) → r ≡ length (answer-bytes a) → Writes before after r (told-as s)
+unfolding told-bytes
+answer-writes before after r a s e b c = record { bytes = rw (← e) b; count = rw (← e) c }

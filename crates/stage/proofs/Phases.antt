@@ -3,7 +3,7 @@
 use Prim.Native.Nat.{ℕ, _≤_, _<_}
 use mathlib.Core.Path.{_≡_, refl, sym, ap, _∙_, subst}
 use mathlib.Core.Bool.{Bool, true, false, cond}
-use mathlib.Core.List.{List, []}
+use mathlib.Core.List.{List, [], map}
 use native.Mathlib.Omega.{arith}
 use lib.ListN.{length, take}
 use lib.Seq.{sets}
@@ -15,14 +15,23 @@ use Rattle.job.specs.Job.{read-job, given-routes}
 use Rattle.job.specs.Job as job
 use Rattle.job.specs.Whole.{JobTold, told-job, job-of}
 use Rattle.plan.specs.Tables as tables
-use Rattle.plan.specs.Prepared.{plan-in}
+use Rattle.plan.specs.declared.Planning.{Planning}
+use Rattle.plan.specs.Depths.{offsets-of}
+use Rattle.plan.specs.Prepared.{plan-in, x-of}
+use Rattle.drawing.specs.declared.GeometryVisits.{GeometryVisits}
+use Rattle.drawing.specs.declared.Verdict.{Verdict}
+use Rattle.drawing.specs.declared.Verdict.the-variants.{Clean, Refused}
+use Rattle.drawing.specs.Build.{Drawn}
+use Rattle.drawing.specs.Sheet.{turns-from, sheet-of, blank, after-check}
+use Rattle.drawing.specs.Sheet as drawing
+use Rattle.turns.specs.Rows.{ends-as, standing, Full, Room}
 use Rattle.plan.specs.Plan.{plan-of}
 use Rattle.plan.specs.Plan as plan
 use Rattle.components.specs.declared.Step.{Step}
 use Rattle.components.specs.Settled.{step-in}
-use Rattle.answer.specs.Answer.{notice-bytes}
+use Rattle.answer.specs.Answer.{Sheet, answer-bytes, notice-bytes}
 use Rattle.answer.specs.Laws.{notice-length}
-use Rattle.stage.specs.Stage.{Told, refused, planned, sheet-drawn, after-sheet, after-plan, after-reading, told, told-bytes, written, stage-of}
+use Rattle.stage.specs.Stage.{Told, refused, drawn, normalized, page-told, planned, sheet-drawn, after-sheet, after-plan, after-reading, told, told-bytes, written, stage-of}
 use Rattle.stage.specs.Size.{short, roomy, written-size}
 use Rattle.stage.specs.Tables.{job-in, Came, Writes}
 use Rattle.stage.proofs.Ready.{Sizes, given-same}
@@ -91,3 +100,48 @@ module _ (j : code.Job) (buffer : List Float) (from : Came j buffer) (sizes : Si
   plan-going e =
       let z : planned (job-in j buffer) ≡ plan.going (plan-in (j .bundles .count) (s .plan)) = planned-is ∙ rw e in
       ap (after-plan (job-in j buffer)) z
+
+-- ---- the sheet
+
+pub full-clean : (v : Verdict) (q : GeometryVisits) (n all : ℕ) → v ≡ Clean q → Full v n all → n ≡ all
+unfolding Full
+full-clean v q n all e f = rw e at f
+
+module _ (j : code.Job) (buffer : List Float) (from : Came j buffer) (sizes : Sizes j) (p : Planning) (offsets : List Float) (v : Verdict) (rs : List Route) (ds : List Drawn)
+    (as-offsets : offsets ≡ offsets-of (tables.board-of (j .options) (j .nodes) (j .ports) (take (j .edges .count) (j .edges .rows)) (j .bundles) (j .members)))
+    (ends : ends-as v rs ds
+    ≡ sheet-of (tables.board-of (j .options) (j .nodes) (j .ports) (take (j .edges .count) (j .edges .rows)) (j .bundles) (j .members)) (j .flags .«permits_crossings»)
+    (turns-from (take (j .bundles .count) (j .bundles .rows)) (map x-of (take (j .bundles .count) (p .rows))) offsets) (blank (tables.given-routes buffer (j .edges)) (j .grants .«geometry_visits»))) where
+  abbrev told-now : Told
+  told-now = after-sheet (job-in j buffer .board) (plan-in (j .bundles .count) p) (sheet-drawn (job-in j buffer) (plan-in (j .bundles .count) p))
+
+  drawn-is : sheet-drawn (job-in j buffer) (plan-in (j .bundles .count) p) ≡ ends-as v rs ds
+  drawn-is =
+      let b = job-in j buffer .board in
+      let xs = map x-of (take (j .bundles .count) (p .rows)) in
+      ap (λ (l : List Float). sheet-of b (j .flags .«permits_crossings») (turns-from (b .bundles) xs l) (blank (given-routes (job-in j buffer)) (j .grants .«geometry_visits»))) (sym as-offsets)
+      ∙ ap (λ (g : List Route). sheet-of b (j .flags .«permits_crossings») (turns-from (b .bundles) xs offsets) (blank g (j .grants .«geometry_visits»))) (sym (given-same j buffer from sizes))
+      ∙ sym ends
+
+  pub sheet-refused : (n : ℕ) (q : GeometryVisits) → v ≡ Refused n q → told-now ≡ refused n
+  unfolding ends-as after-check after-sheet
+  sheet-refused n q e =
+      let z : sheet-drawn (job-in j buffer) (plan-in (j .bundles .count) p) ≡ drawing.refused n (q .0) = drawn-is ∙ rw e in
+      ap (after-sheet (job-in j buffer .board) (plan-in (j .bundles .count) p)) z
+
+  pub sheet-clean : (q : GeometryVisits) → v ≡ Clean q → told-now ≡ drawn (page-told (job-in j buffer .board) (p .left .0) (q .0) (normalized (job-in j buffer .board) (standing rs ds (q .0))))
+  unfolding ends-as after-check after-sheet
+  sheet-clean q e =
+      let z : sheet-drawn (job-in j buffer) (plan-in (j .bundles .count) p) ≡ drawing.going (standing rs ds (q .0)) = drawn-is ∙ rw e in
+      ap (after-sheet (job-in j buffer .board) (plan-in (j .bundles .count) p)) z
+
+pub sheet-room : (t : Told) (s : Sheet) (room : ℕ) → t ≡ drawn s → length (told-bytes t) ≤ room → length (answer-bytes s) ≤ room
+unfolding told-bytes
+sheet-room t s room e h = rw e at h
+
+pub told-room : (s t : Told) (room : ℕ) → s ≡ t → length (told-bytes s) ≤ room → length (told-bytes t) ≤ room
+told-room s t room e h = subst (λ (z : Told). length (told-bytes z) ≤ room) e h
+
+pub room-for : (members n : ℕ) (taps points : List Float) (counts : List ℕ) (mask : List Bool) (scratch : List Float) → members ≤ 256 → n ≤ 256 → length taps ≡ 512 → length points ≡ 34816 → length counts ≡ n → length mask ≡ 256 → length scratch ≡ 136
+    → Room members taps points counts mask scratch
+room-for members n taps points counts mask scratch hm hn t p c m s = record { places = omega arith; slots = omega arith; masked = omega arith; spare = omega arith }

@@ -46,6 +46,7 @@ pub record Writes (before after : List ℕ) (n : ℕ) (t : Told) : Type 0 where
 -- a tap for each member: its edge's id, and its point
 pub record TapsOf (table : Edges) (members : Members) (taps : List Float) (t : DrawnTaps) : Type 0 where
   pub count-is : t .count ≡ members .count
+  pub rows-long : length (t .rows) ≡ 256
   pub row-is : (k : ℕ) → k < members .count → (d : DrawnTap) → getD (t .rows) k d ≡ record { edge = edge-row table members k .id; point = point-at taps k }
 
 -- members name edges of the table

@@ -73,14 +73,7 @@ fn put_sheet(
 {
     let members = j.members;
     let n = members.count;
-    let l = normalize::normalize_layout(
-        j.nodes,
-        drawn,
-        &mut points[..],
-        counts,
-        &mut taps[..],
-        n,
-    );
+    let l = normalize::normalize_layout(j.nodes, drawn, &mut points[..], counts, &mut taps[..], n);
     let t = tap_rows(j.edges, members, &taps[..]);
     answer::write_answer(
         &mut answer[..],

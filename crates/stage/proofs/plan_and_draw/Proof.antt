@@ -13,11 +13,11 @@ use Rattle.stage.proofs.plan_and_draw.Tie as tie
 
 sizes : (s : tie.Start) → ready.Sizes (s .args .j)
 sizes s = record {
-  nodes = search (needs, rows.length-mapped);
-  ports = search (needs, rows.length-mapped);
-  edges = search (needs, rows.length-mapped);
-  bundles = search (needs, rows.length-mapped);
-  members = search (needs, rows.length-mapped);
+  nodes = let g = s .good .0 .1 .1 .1 .1 .1 .0 in search (needs, rows.length-mapped, g);
+  ports = let g = s .good .0 .1 .1 .1 .1 .1 .1 .0 in search (needs, rows.length-mapped, g);
+  edges = let g = s .good .0 .1 .1 .1 .1 .1 .1 .1 .0 in search (needs, rows.length-mapped, g);
+  bundles = let g = s .good .0 .1 .1 .1 .1 .1 .1 .1 .1 .0 in search (needs, rows.length-mapped, g);
+  members = let g = s .good .0 .1 .1 .1 .1 .1 .1 .1 .1 .1 .0 in search (needs, rows.length-mapped, g);
 }
 
 slice-aggregate-plan-interior-collectors : tie.Need-slice-aggregate-plan-interior-collectors
@@ -27,7 +27,7 @@ slice-aggregate-plan-interior-collectors-2 : tie.Need-slice-aggregate-plan-inter
 slice-aggregate-plan-interior-collectors-2 c = search needs
 
 plan-interior-collectors-requires : tie.Need-plan-interior-collectors-requires
-plan-interior-collectors-requires c κs = 
+plan-interior-collectors-requires c κs =
     let s = c .before .before .before .before .before .before in
     let a = s .args in
     ((ready.tables-sound (a .j) (a .given .now) (s .pre .0 .0) (sizes s), ready.routes-in (a .j) (a .given .now) (s .pre .0 .0) (sizes s)), (search needs, search needs))
@@ -39,7 +39,7 @@ same-length : tie.Need-same-length
 same-length c = search needs
 
 returns : tie.Need-returns
-returns c = 
+returns c =
     let s = c .before .before .before .before .before .before .before .before .before .before .before .before .before .before in
     let a = s .args in
     let p = c .before .before .before .before .before .before .before .plan-interior-collectors in
@@ -47,17 +47,17 @@ returns c =
     laws.notice-writes _ _ _ 13 _ (laws.plan-refused (a .j) (a .given .now) (s .pre .0 .0) (sizes s) (p .result) (p .ensures) (c .before .before .before .before .if1 .taken)) (w .0) (w .1)
 
 draw-requires : tie.Need-draw-requires
-draw-requires c κs = 
+draw-requires c κs =
     let s = c .before .before .before .before .before .before .before .before .before .before .before in
     let a = s .args in
     let p = c .before .before .before .before .plan-interior-collectors in
-    (s .pre .0, ?)
+    (s .pre .0, laws.told-room _ _ _ (laws.plan-going (a .j) (a .given .now) (s .pre .0 .0) (sizes s) (p .result) (p .ensures) (c .before .if1 .left)) (s .pre .1))
 
 same-length-2 : tie.Need-same-length-2
 same-length-2 c = search needs
 
 returns-2 : tie.Need-returns-2
-returns-2 c = 
+returns-2 c =
     let s = c .before .before .before .before .before .before .before .before .before .before .before .before .before .before in
     let a = s .args in
     let p = c .before .before .before .before .before .before .before .plan-interior-collectors in
