@@ -35,8 +35,8 @@ use Rattle.answer.specs.Answer.{Sheet, Trunk, trunk-of, spot-of, lines-of, answ
 use Rattle.answer.specs.Tables.{sheet-of}
 use Rattle.job.specs.declared.Job as code
 use Rattle.stage.specs.Stage.{tap-told, bundle-told, bundles-told, page-told, told-bytes}
-use Rattle.stage.specs.Tables.{job-in, Writes, TapsOf, MembersOn, OnSheet, sheet-told, told-as}
-use Rattle.stage.proofs.Ready.{Sizes}
+use Rattle.job_tables.specs.Came.{Sizes, job-in}
+use Rattle.stage.specs.Tables.{Writes, TapsOf, MembersOn, OnSheet, sheet-told, told-as}
 
 null-tap : DrawnTap
 null-tap = record { edge = 0; point = point-at [] 0 }

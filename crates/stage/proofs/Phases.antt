@@ -33,8 +33,10 @@ use Rattle.answer.specs.Answer.{Sheet, answer-bytes, notice-bytes}
 use Rattle.answer.specs.Laws.{notice-length}
 use Rattle.stage.specs.Stage.{Told, refused, drawn, normalized, page-told, planned, sheet-drawn, after-sheet, after-plan, after-reading, told, told-bytes, written, stage-of}
 use Rattle.stage.specs.Size.{short, roomy, written-size}
-use Rattle.stage.specs.Tables.{job-in, Came, Writes}
-use Rattle.stage.proofs.Ready.{Sizes, given-same}
+use Rattle.job_tables.specs.Ready.{read-accepted}
+use Rattle.job_tables.specs.Came.{Sizes, job-in, Came}
+use Rattle.stage.specs.Tables.{Writes}
+use Rattle.stage.proofs.Ready.{given-same}
 
 -- ---- what is written
 
@@ -67,16 +69,9 @@ module _ (r : JobRead) (buffer : List Float) (bytes : List ℕ) (t : JobTold r b
       let z : read-job bytes ≡ job.refusal (r .refusal) = sym (t .is) ∙ rw e in
       ap after-reading z
 
-  read-accepted : r .ok ≡ true → read-job bytes ≡ job.accepted (job-in (r .job) buffer)
-  unfolding told-job
-  read-accepted e = sym (t .is) ∙ rw e
-
-  pub came : length buffer ≡ 4096 → r .ok ≡ true → Came (r .job) buffer
-  came long e = record { bytes = bytes; is = read-accepted e; fits = t .fits; long = long }
-
   pub told-plan : r .ok ≡ true → told bytes ≡ after-plan (job-in (r .job) buffer) (planned (job-in (r .job) buffer))
   unfolding after-reading
-  told-plan e = ap after-reading (read-accepted e)
+  told-plan e = ap after-reading (read-accepted r buffer bytes t e)
 
   pub plan-room : (room : ℕ) → 65536 ≤ room → r .ok ≡ true → length (told-bytes (after-plan (job-in (r .job) buffer) (planned (job-in (r .job) buffer)))) ≤ room
   plan-room room h e = subst (λ (l : List ℕ). length l ≤ room) (roomy bytes room h ∙ ap told-bytes (told-plan e)) (written-size bytes room .1)

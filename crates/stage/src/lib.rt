@@ -11,8 +11,9 @@ ghost use Rattle.stage.specs.Stage.{planned, sheet-drawn, after-sheet, a
 ghost use Rattle.stage.specs.Demand3.{Demand3};
 ghost use Rattle.plan.specs.Prepared.{plan-in};
 ghost use mathlib.Core.List.{[]};
+ghost use Rattle.job_tables.specs.Came.{job-in, Came};
 ghost use Rattle.answer.specs.Answer.{answer-bytes};
-ghost use Rattle.stage.specs.Tables.{job-in, Came, Writes, TapsOf, MembersOn, OnSheet, Lent, sheet-told, told-as};
+ghost use Rattle.stage.specs.Tables.{Writes, TapsOf, MembersOn, OnSheet, Lent, sheet-told, told-as};
 use answer::Frame;
 use board::DrawnBundles;
 use board::DrawnTap;

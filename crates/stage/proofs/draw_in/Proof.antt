@@ -6,6 +6,8 @@ use native.Mathlib.Omega.{arith}
 use lib.ListN.{length, getD, take}
 use Rattle.route.specs.Slots.{routes-of}
 use Rattle.turns.specs.Rows.{drawn-in}
+use Rattle.job_tables.specs.Came.{Sizes}
+use Rattle.job_tables.specs.Ready.{tables-sound, routes-in}
 use Rattle.plan.proofs.Rows as rows
 use Rattle.stage.specs.Tables.{sheet-told, told-as}
 use Rattle.stage.proofs.Ready as ready
@@ -14,7 +16,7 @@ use borrow.Author.Needs.{needs}
 use Rattle.stage.proofs.draw_in.Statement.{statement}
 use Rattle.stage.proofs.draw_in.Tie as tie
 
-sizes : (s : tie.Start) → ready.Sizes (s .args .j)
+sizes : (s : tie.Start) → Sizes (s .args .j)
 sizes s = record {
   nodes = let g = s .good .0 .1 .1 .1 .1 .1 .0 in search (needs, rows.length-mapped, g);
   ports = let g = s .good .0 .1 .1 .1 .1 .1 .1 .0 in search (needs, rows.length-mapped, g);
@@ -27,14 +29,14 @@ corridor-depth-offsets-requires : tie.Need-corridor-depth-offsets-requires
 corridor-depth-offsets-requires c κs =
     let s = c .before .before .before .before .before .before .before .before .before .before .before .before in
     let a = s .args in
-    ready.tables-sound (a .j) (a .given .now) (s .pre .0 .0) (sizes s)
+    tables-sound (a .j) (a .given .now) (s .pre .0 .0) (sizes s)
 
 draw-sheet-requires : tie.Need-draw-sheet-requires
 draw-sheet-requires c κs =
     let s = c .before .before .before .before .before .before .before .before .before .before .before .before .before .before .before .before .before .before .before .before in
     let a = s .args in
     let lent = s .pre .1 .1 in
-    ((ready.tables-sound (a .j) (a .given .now) (s .pre .0 .0) (sizes s), ready.routes-in (a .j) (a .given .now) (s .pre .0 .0) (sizes s)), ((ready.follow (a .j) (a .given .now) (s .pre .0 .0) (sizes s), ready.once-a-role (a .j) (a .given .now) (s .pre .0 .0) (sizes s)), ((lent .edges-long, lent .lanes-long, lent .counts-long), lent .room)))
+    ((tables-sound (a .j) (a .given .now) (s .pre .0 .0) (sizes s), routes-in (a .j) (a .given .now) (s .pre .0 .0) (sizes s)), ((ready.follow (a .j) (a .given .now) (s .pre .0 .0) (sizes s), ready.once-a-role (a .j) (a .given .now) (s .pre .0 .0) (sizes s)), ((lent .edges-long, lent .lanes-long, lent .counts-long), lent .room)))
 
 enum-known-v : tie.Need-enum-known-v
 enum-known-v c = search needs
@@ -55,12 +57,12 @@ put-sheet-requires c κs =
     let t = d .last .1 .1 .1 .1 .1 .1 .1 .1 .1 .1 .1 .1 .0 in
     let ps = d .last .1 .1 .1 .1 .1 .1 .1 .1 .1 .1 .1 .1 .1 .0 in
     let cs = d .last .1 .1 .1 .1 .1 .1 .1 .1 .1 .1 .1 .1 .1 .1 .0 in
-    let k = ready.tables-sound (a .j) (a .given .now) (s .pre .0 .0) (sizes s) in
+    let k = tables-sound (a .j) (a .given .now) (s .pre .0 .0) (sizes s) in
     let lent = s .pre .1 .1 in
     let full = laws.full-clean (d .result .verdict) _ (d .result .drawn .count) (a .j .bundles .count) (c .before .before .before .before .before .before .v2 .given .1) (d .ensures .1 .1 .1 .0) in (
       record {
         fits = s .pre .0 .0 .fits;
-        members-on = ready.routes-in (a .j) (a .given .now) (s .pre .0 .0) (sizes s) .members-on;
+        members-on = routes-in (a .j) (a .given .now) (s .pre .0 .0) (sizes s) .members-on;
         windows = λ i h. k .bundles-on i (omega (arith, h, full)) .members-in;
         edges-are = λ i h. d .ensures .1 .0 i h .0;
         all-drawn = full;

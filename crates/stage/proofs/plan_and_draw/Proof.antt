@@ -4,14 +4,15 @@ use Prim.Native.Nat.{ℕ, _+_, _≤_, _<_}
 use native.Mathlib.Omega.{arith}
 use lib.ListN.{length}
 use borrow.Author.Tests.{not-true, not-false}
+use Rattle.job_tables.specs.Came.{Sizes}
+use Rattle.job_tables.specs.Ready.{tables-sound, routes-in}
 use Rattle.plan.proofs.Rows as rows
-use Rattle.stage.proofs.Ready as ready
 use Rattle.stage.proofs.Phases as laws
 use borrow.Author.Needs.{needs}
 use Rattle.stage.proofs.plan_and_draw.Statement.{statement}
 use Rattle.stage.proofs.plan_and_draw.Tie as tie
 
-sizes : (s : tie.Start) → ready.Sizes (s .args .j)
+sizes : (s : tie.Start) → Sizes (s .args .j)
 sizes s = record {
   nodes = let g = s .good .0 .1 .1 .1 .1 .1 .0 in search (needs, rows.length-mapped, g);
   ports = let g = s .good .0 .1 .1 .1 .1 .1 .1 .0 in search (needs, rows.length-mapped, g);
@@ -30,7 +31,7 @@ plan-interior-collectors-requires : tie.Need-plan-interior-collectors-requires
 plan-interior-collectors-requires c κs =
     let s = c .before .before .before .before .before .before in
     let a = s .args in
-    ((ready.tables-sound (a .j) (a .given .now) (s .pre .0 .0) (sizes s), ready.routes-in (a .j) (a .given .now) (s .pre .0 .0) (sizes s)), (search needs, search needs))
+    ((tables-sound (a .j) (a .given .now) (s .pre .0 .0) (sizes s), routes-in (a .j) (a .given .now) (s .pre .0 .0) (sizes s)), (search needs, search needs))
 
 write-notice-requires : tie.Need-write-notice-requires
 write-notice-requires c κs = c .before .before .before .before .before .before .before .before .before .before .before .pre .0 .1

@@ -5,8 +5,8 @@ use Prim.Native.Nat.{ℕ, _+_, _*_, _≤_, _<_}
 use native.Mathlib.Omega.{arith}
 use lib.ListN.{length, getD, take}
 use lib.Ieee.{Float}
+use Rattle.job_tables.specs.Came.{Sizes}
 use Rattle.plan.proofs.Rows as rows
-use Rattle.stage.proofs.Ready as ready
 use Rattle.stage.proofs.Phases as laws
 use Rattle.normalize.proofs.Shift.{windows-kept}
 use Rattle.answer.specs.Answer.{Sheet, answer-bytes}
@@ -16,7 +16,7 @@ use borrow.Author.Needs.{needs}
 use Rattle.stage.proofs.put_sheet.Statement.{statement}
 use Rattle.stage.proofs.put_sheet.Tie as tie
 
-sizes : (s : tie.Start) → ready.Sizes (s .args .j)
+sizes : (s : tie.Start) → Sizes (s .args .j)
 sizes s = record {
   nodes = let g = s .good .0 .1 .1 .1 .1 .1 .0 in search (needs, rows.length-mapped, g);
   ports = let g = s .good .0 .1 .1 .1 .1 .1 .1 .0 in search (needs, rows.length-mapped, g);

@@ -4,9 +4,8 @@ use Prim.Native.Nat.{ℕ, _+_, _≤_, _<_}
 use native.Mathlib.Omega.{arith}
 use lib.ListN.{length}
 use borrow.Author.Tests.{not-true, not-false}
-use Rattle.plan.proofs.Rows as rows
-use Rattle.stage.proofs.Ready as ready
 use Rattle.stage.proofs.Phases as laws
+use Rattle.job_tables.specs.Ready.{came}
 use Rattle.stage.specs.Demand.{demand-3}
 use borrow.Author.Needs.{needs}
 use Rattle.stage.proofs.stage.Statement.{statement}
@@ -47,7 +46,7 @@ plan-and-draw-requires c κs =
     let r = c .before .before .before .before .before .read-job in
     let ok = not-false (r .result .ok) (c .before .before .if2 .left) in
     let h = c .before .before .before .before .before .before .before .if1 .left in
-    ((laws.came (r .result) _ (a .job .now) (r .ensures) (r .kept .1 .0) ok, omega (arith, h)), laws.plan-room (r .result) _ (a .job .now) (r .ensures) (length (a .answer .now)) h ok)
+    ((came (r .result) _ (a .job .now) (r .ensures) (r .kept .1 .0) ok, omega (arith, h)), laws.plan-room (r .result) _ (a .job .now) (r .ensures) (length (a .answer .now)) h ok)
 
 same-length-2 : tie.Need-same-length-2
 same-length-2 c = search needs
