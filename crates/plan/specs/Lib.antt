@@ -14,3 +14,4 @@ pub mod Tables
 pub mod Stack
 pub mod Prepared
 pub mod Over
+pub mod Promotion

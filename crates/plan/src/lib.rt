@@ -73,12 +73,6 @@ pub struct Corridors {
     pub rows: [Corridor; 256],
 }
 
-// The windows of the members' given routes: so many points from a point of the slice on.
-pub struct Windows {
-    pub starts: [usize; 256],
-    pub counts: [usize; 256],
-}
-
 // A bundle, where its port stands, and how far its members let its collector go.
 pub struct Reached {
     pub bundle: Bundle,
