@@ -33,6 +33,7 @@ impl Tally {
 
 /// Compares, counts and prints; stops at the first difference.
 struct Run {
+    seed: u64,
     checker: Checker,
     all: Tally,
 }
@@ -46,7 +47,7 @@ impl Run {
                 true
             }
             Err(what) => {
-                println!("DIFFERS: {name} index {index}: {what}");
+                println!("DIFFERS: {name} seed {} index {index}: {what}", self.seed);
                 println!("{}", hexadecimal(job));
                 false
             }
@@ -62,22 +63,21 @@ fn hexadecimal(bytes: &[u8]) -> String {
 /// damaged jobs of every family. True where nothing differs.
 pub fn run(seed: u64, percent: u64) -> bool {
     let mut run = Run {
+        seed,
         checker: Checker::new(seed),
         all: Tally::default(),
     };
+    println!("seed {seed}, {percent} percent");
     print!("{:12}{:>10}", "family", "jobs");
     for number in (0..15).filter(|&number| number != 2) {
         print!("{number:>9}");
     }
     println!();
     if !short(&mut run) || !families(&mut run, seed, percent) || !damaged(&mut run, seed, percent) {
-        println!("seed {seed}");
         return false;
     }
     run.all.row("all");
-    println!(
-        "seed {seed}: no difference; as many calls with a buffer of 65,535 bytes, nothing written"
-    );
+    println!("no difference; as many calls with a buffer of 65,535 bytes, nothing written");
     true
 }
 

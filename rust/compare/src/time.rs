@@ -4,7 +4,7 @@ use std::hint::black_box;
 use std::time::Instant;
 
 use jobs::boards;
-use jobs::draft::Scale;
+use jobs::draft::{Draft, DraftBundle, EAST, INPUT, Scale, WEST};
 use jobs::families;
 use jobs::rng::Rng;
 use oracle::job;
@@ -98,17 +98,29 @@ fn print_means(name: &str, measured: &[Means]) {
     means.row(name, measured.len());
 }
 
-/// Nanoseconds per geometry visit: the slope of the line nearest to all jobs (least squares).
-fn slope(measured: &[Means], time: impl Fn(&Means) -> f64) -> f64 {
-    let visits = mean(measured, |means| means.geometry_visits);
-    let middle = mean(measured, &time);
+/// Nanoseconds per visit: the slope of the line nearest to all jobs (least squares).
+fn slope(measured: &[Means], visits: fn(&Means) -> f64, time: fn(&Means) -> f64) -> f64 {
+    let (visits_mean, time_mean) = (mean(measured, visits), mean(measured, time));
     let (mut over, mut under) = (0.0, 0.0);
     for means in measured {
-        let from = means.geometry_visits - visits;
-        over += from * (time(means) - middle);
+        let from = visits(means) - visits_mean;
+        over += from * (time(means) - time_mean);
         under += from * from;
     }
     over / under * 1e3
+}
+
+fn print_growth(name: &str, measured: &[Means], visits: fn(&Means) -> f64) {
+    let ours = slope(measured, visits, |means| means.ours);
+    let judge = slope(measured, visits, |means| means.judge);
+    println!("    growth: {ours:.2} ns a {name} visit, the judge {judge:.2}");
+}
+
+/// Measures the jobs and prints their means.
+fn row(name: &str, jobs: &[Vec<u8>]) -> Vec<Means> {
+    let measured = jobs.iter().map(|job| measure(job)).collect::<Vec<_>>();
+    print_means(name, &measured);
+    measured
 }
 
 pub fn time(seed: u64) {
@@ -116,14 +128,10 @@ pub fn time(seed: u64) {
         "{:14}{:>6}{:>9}{:>11}{:>11}{:>12}{:>12}{:>8}",
         "board", "jobs", "bytes", "tap paid", "geometry", "us ours", "us judge", "ratio"
     );
+    row("empty", &[Draft::default().job(&Scale::ONE).encode()]);
     for (name, wanted) in [("small", 200), ("realistic", 200), ("largest", 20)] {
         let family = families::family(name).expect("a family");
-        let jobs = accepted(wanted, |index| family.job(seed, index));
-        let measured = jobs.iter().map(|job| measure(job)).collect::<Vec<_>>();
-        print_means(name, &measured);
-        if name == "largest" {
-            print_slopes(&measured);
-        }
+        row(name, &accepted(wanted, |index| family.job(seed, index)));
     }
     let mut all = Vec::new();
     for bands in BANDS {
@@ -133,20 +141,38 @@ pub fn time(seed: u64) {
                 .job(&Scale::ONE)
                 .encode()
         });
-        if jobs.is_empty() {
-            continue;
-        }
-        let measured = jobs.iter().map(|job| measure(job)).collect::<Vec<_>>();
-        print_means(&format!("{bands} bands"), &measured);
-        all.extend(measured);
+        all.extend(row(&format!("{bands} bands"), &jobs));
     }
-    print_slopes(&all);
+    print_growth("geometry", &all, |means| means.geometry_visits);
+    let mut all = Vec::new();
+    for members in [2, 4, 8, 16, 24, 31] {
+        all.extend(row(&format!("{members} x 63 runs"), &[searched(members)]));
+    }
+    print_growth("tap", &all, |means| means.tap_visits);
 }
 
-fn print_slopes(measured: &[Means]) {
-    let (ours, judge) = (
-        slope(measured, |means| means.ours),
-        slope(measured, |means| means.judge),
-    );
-    println!("  growth: {ours:.2} ns a geometry visit, the judge {judge:.2}");
+/// One Input bundle whose members have 63 runs each, so that nearly all visits are the search's:
+/// every stretch gives another candidate, and most are found in every member.
+fn searched(members: i64) -> Vec<u8> {
+    let mut draft = Draft {
+        gap: 1,
+        ..Draft::default()
+    };
+    let left = draft.node(-200, -10, 100, 20);
+    let right = draft.node(5_000, -10, 100, 20);
+    let source = draft.port_at(left, EAST, 0);
+    let target = draft.port_at(right, WEST, 0);
+    let edges = (0..members)
+        .map(|member| {
+            let points = (0..64).map(|run| (64 * run + member, 40 * member));
+            draft.edge(source, target, points.collect())
+        })
+        .collect::<Vec<_>>();
+    draft.bundles.push(DraftBundle {
+        port: source,
+        role: INPUT,
+        width: members as u32,
+        members: edges.iter().map(|&edge| (edge, edge as u16)).collect(),
+    });
+    draft.job(&Scale::ONE).encode()
 }
