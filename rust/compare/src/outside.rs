@@ -1,0 +1,130 @@
+//! The only module with unsafe code: the C function of the static library, and pages that have an
+//! unmapped page on either side. x86-64 Linux alone, as the library is.
+
+use std::arch::asm;
+use std::ffi::{c_int, c_void};
+use std::ptr::{self, NonNull};
+use std::slice;
+
+const PROT_NONE: c_int = 0;
+const PROT_READ: c_int = 1;
+const PROT_WRITE: c_int = 2;
+const MAP_PRIVATE: c_int = 2;
+const MAP_ANONYMOUS: c_int = 0x20;
+
+/// The size of a page on x86-64.
+pub const PAGE: usize = 4096;
+
+unsafe extern "C" {
+    // `pub extern "C" fn stage(job: &[u8], answer: &mut [u8]) -> usize` of crates/stage: a slice
+    // is a pointer and a count.
+    #[link_name = "stage"]
+    fn proved_stage(
+        job: *const u8,
+        job_length: usize,
+        answer: *mut u8,
+        answer_length: usize,
+    ) -> usize;
+
+    fn mmap(
+        address: *mut c_void,
+        length: usize,
+        protection: c_int,
+        flags: c_int,
+        file: c_int,
+        offset: i64,
+    ) -> *mut c_void;
+    fn mprotect(address: *mut c_void, length: usize, protection: c_int) -> c_int;
+    fn munmap(address: *mut c_void, length: usize) -> c_int;
+}
+
+/// The proved stage.
+pub fn stage(job: &[u8], answer: &mut [u8]) -> usize {
+    // SAFETY: both slices are valid for their lengths and do not overlap, as `job` is lent shared
+    // and `answer` alone. The stage has a contract for every such pair (no `requires`): it reads
+    // and writes only what it is lent, keeps no pointer and returns.
+    unsafe { proved_stage(job.as_ptr(), job.len(), answer.as_mut_ptr(), answer.len()) }
+}
+
+/// The answer in a buffer of `length` bytes that nobody has written to before, so that memcheck
+/// sees a read of the buffer before it is written, and a byte of the answer that is not written.
+pub fn stage_on_heap(job: &[u8], length: usize) -> Vec<u8> {
+    let mut answer = Vec::<u8>::with_capacity(length);
+    // SAFETY: as in `stage`, but that the buffer's bytes are not written yet. The stage does not
+    // read them, and by its contract the first `count` bytes are written, `count` being at most
+    // `length`.
+    unsafe {
+        let count = proved_stage(job.as_ptr(), job.len(), answer.as_mut_ptr(), length);
+        assert!(count <= length, "{count} bytes in a buffer of {length}");
+        answer.set_len(count);
+    }
+    answer
+}
+
+/// The proved stage on a stack of its own, whose top is the end of `stack`.
+pub fn stage_on_stack(stack: &mut Fenced, job: &[u8], answer: &mut [u8]) -> usize {
+    let top = stack.bytes().as_mut_ptr_range().end;
+    let count: usize;
+    // SAFETY: as in `stage`. The stack is lent by `&mut`, its top is aligned to a page, and no Rust
+    // code runs on it. The stage keeps r12, in which the present stack waits. Where the stage needs
+    // more, the page below is unmapped and the process ends.
+    unsafe {
+        asm!(
+            "mov r12, rsp",
+            "mov rsp, {top}",
+            "call {stage}",
+            "mov rsp, r12",
+            top = in(reg) top,
+            stage = sym proved_stage,
+            in("rdi") job.as_ptr(),
+            in("rsi") job.len(),
+            in("rdx") answer.as_mut_ptr(),
+            in("rcx") answer.len(),
+            out("rax") count,
+            out("r12") _,
+            clobber_abi("C"),
+        );
+    }
+    count
+}
+
+/// Whole pages, an unmapped page right before them and another right behind them.
+pub struct Fenced {
+    first: NonNull<u8>,
+    length: usize,
+}
+
+impl Fenced {
+    pub fn new(pages: usize) -> Fenced {
+        let length = pages * PAGE;
+        // SAFETY: new pages at a place that the system chooses; no other memory is touched. The
+        // pages within are then made readable and writable, the two outermost stay as they are.
+        let first = unsafe {
+            let flags = MAP_PRIVATE | MAP_ANONYMOUS;
+            let base = mmap(ptr::null_mut(), length + 2 * PAGE, PROT_NONE, flags, -1, 0);
+            assert!(base.addr() != usize::MAX, "mmap of {pages} pages fails");
+            let first = base.byte_add(PAGE);
+            let done = mprotect(first, length, PROT_READ | PROT_WRITE);
+            assert_eq!(done, 0, "mprotect of {pages} pages fails");
+            first
+        };
+        let first = NonNull::new(first.cast()).expect("mmap gives no null");
+        Fenced { first, length }
+    }
+
+    pub fn bytes(&mut self) -> &mut [u8] {
+        // SAFETY: the pages are readable, writable and set to 0 by the system; they belong to this
+        // value alone, which is borrowed as long as the slice.
+        unsafe { slice::from_raw_parts_mut(self.first.as_ptr(), self.length) }
+    }
+}
+
+impl Drop for Fenced {
+    fn drop(&mut self) {
+        // SAFETY: the pages that `new` has mapped; no slice of them is left.
+        unsafe {
+            let base = self.first.as_ptr().byte_sub(PAGE);
+            munmap(base.cast(), self.length + 2 * PAGE);
+        }
+    }
+}

@@ -1,0 +1,98 @@
+//! How much stack the stage needs.
+
+use std::process::Command;
+
+use jobs::families::{FAMILIES, Family};
+use oracle::stage::BUFFER;
+
+use crate::outside::{Fenced, PAGE, stage_on_stack};
+
+/// Pages of stack that are enough for every job: what `stack` has measured, rounded up.
+pub const PAGES: usize = 177;
+/// More than the stage needs, to measure on.
+const MEASURED_ON: usize = 256;
+const PATTERN: u8 = 0xa5;
+
+/// A job with its answer by the judge.
+type Case = (Vec<u8>, Vec<u8>);
+
+fn cases(family: &Family, seed: u64, count: u64) -> Vec<Case> {
+    let count = match family.name {
+        "largest" => count.min(60),
+        _ => count,
+    };
+    (0..count)
+        .map(|turn| family.job(seed, turn * 7_919 % family.count))
+        .map(|job| (oracle::answer_of(&job), job))
+        .map(|(answer, job)| (job, answer))
+        .collect()
+}
+
+/// The most bytes of stack that a job needs, the return address of the call among them.
+fn deepest(cases: &[Case]) -> usize {
+    let mut stack = Fenced::new(MEASURED_ON);
+    let mut answer = vec![0; BUFFER];
+    let mut most = 0;
+    for (job, due) in cases {
+        stack.bytes().fill(PATTERN);
+        let count = stage_on_stack(&mut stack, job, &mut answer);
+        assert!(answer[..count] == *due, "another answer");
+        let bytes = stack.bytes();
+        let untouched = bytes.iter().take_while(|&&byte| byte == PATTERN).count();
+        most = most.max(bytes.len() - untouched);
+    }
+    most
+}
+
+/// Runs jobs on a stack of that many pages and no more; true where the answers are the judge's.
+fn runs_on(pages: usize, cases: &[Case]) -> bool {
+    let mut stack = Fenced::new(pages);
+    let mut answer = vec![0; BUFFER];
+    cases.iter().all(|(job, due)| {
+        let count = stage_on_stack(&mut stack, job, &mut answer);
+        answer[..count] == *due
+    })
+}
+
+/// Measures, then runs the same jobs on `PAGES` pages. True where that is enough.
+pub fn stack(seed: u64, count: u64) -> bool {
+    let mut most = 0;
+    for family in &FAMILIES {
+        let cases = cases(family, seed, count);
+        let bytes = deepest(&cases);
+        println!("{:12}{:>8} jobs{bytes:>10} bytes", family.name, cases.len());
+        most = most.max(bytes);
+    }
+    let pages = most.div_ceil(PAGE);
+    println!("the most: {most} bytes, {pages} pages; {PAGES} are promised");
+    if pages > PAGES {
+        return false;
+    }
+    let enough = FAMILIES
+        .iter()
+        .all(|family| runs_on(PAGES, &cases(family, seed, count)));
+    println!(
+        "on {PAGES} pages: {}",
+        if enough { "runs" } else { "DIFFERS" }
+    );
+    enough
+}
+
+/// Largest jobs on a stack of that many pages. Too few end the process by a signal.
+pub fn stack_of(pages: usize) -> bool {
+    let family = jobs::families::family("largest").expect("a family");
+    let good = runs_on(pages, &cases(family, 1, 6));
+    println!(
+        "on {pages} pages: {}",
+        if good { "runs" } else { "DIFFERS" }
+    );
+    good
+}
+
+/// Whether a process of this program with that many pages of stack ends well.
+pub fn survives(program: &str, pages: usize) -> std::io::Result<bool> {
+    let status = Command::new(program)
+        .args(["stack-of", &pages.to_string()])
+        .status()?;
+    Ok(status.success())
+}
