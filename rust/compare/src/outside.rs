@@ -1,5 +1,5 @@
-//! The only module with unsafe code: the C function of the static library, and pages that have an
-//! unmapped page on either side. x86-64 Linux alone, as the library is.
+//! The only module with unsafe code: the C function of the static library, pages that have an
+//! unmapped page on either side, and the thread's clock. x86-64 Linux alone, as the library is.
 
 use std::arch::asm;
 use std::ffi::{c_int, c_void};
@@ -11,9 +11,17 @@ const PROT_READ: c_int = 1;
 const PROT_WRITE: c_int = 2;
 const MAP_PRIVATE: c_int = 2;
 const MAP_ANONYMOUS: c_int = 0x20;
+const CLOCK_THREAD_CPUTIME_ID: c_int = 3;
 
 /// The size of a page on x86-64.
 pub const PAGE: usize = 4096;
+
+/// The system's `struct timespec`.
+#[repr(C)]
+struct Timespec {
+    seconds: i64,
+    nanoseconds: i64,
+}
 
 unsafe extern "C" {
     // `pub extern "C" fn stage(job: &[u8], answer: &mut [u8]) -> usize` of crates/stage: a slice
@@ -36,6 +44,7 @@ unsafe extern "C" {
     ) -> *mut c_void;
     fn mprotect(address: *mut c_void, length: usize, protection: c_int) -> c_int;
     fn munmap(address: *mut c_void, length: usize) -> c_int;
+    fn clock_gettime(clock: c_int, time: *mut Timespec) -> c_int;
 }
 
 /// The proved stage.
@@ -86,6 +95,18 @@ pub fn stage_on_stack(stack: &mut Fenced, job: &[u8], answer: &mut [u8]) -> usiz
         );
     }
     count
+}
+
+/// Microseconds that this thread has run: time during which something else ran does not count.
+pub fn microseconds() -> f64 {
+    let mut time = Timespec {
+        seconds: 0,
+        nanoseconds: 0,
+    };
+    // SAFETY: `time` is lent for the call and has the system's layout.
+    let done = unsafe { clock_gettime(CLOCK_THREAD_CPUTIME_ID, &mut time) };
+    assert_eq!(done, 0, "clock_gettime fails");
+    time.seconds as f64 * 1e6 + time.nanoseconds as f64 / 1e3
 }
 
 /// Whole pages, an unmapped page right before them and another right behind them.

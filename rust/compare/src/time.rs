@@ -1,7 +1,6 @@
 //! Microseconds per job in both stages, on the same accepted jobs, from one driver.
 
 use std::hint::black_box;
-use std::time::Instant;
 
 use jobs::boards;
 use jobs::draft::{Draft, DraftBundle, EAST, INPUT, Scale, WEST};
@@ -10,11 +9,12 @@ use jobs::rng::Rng;
 use oracle::job;
 use oracle::stage::BUFFER;
 
-use crate::outside::stage;
+use crate::outside::{microseconds, stage};
 
-/// Timings of each job in each stage, by turns; their median counts, so that a timing during which
-/// something else ran does not.
-const TIMINGS: usize = 21;
+/// Timings of each job in each stage, by turns; their median counts.
+const TIMINGS: usize = 15;
+/// Calls in a timing of a job under 20,000 bytes, so that reading the clock does not show.
+const CALLS: u32 = 16;
 /// Bands of the realistic boards on which the growth is measured.
 const BANDS: [usize; 8] = [1, 2, 4, 6, 8, 12, 16, 20];
 
@@ -50,10 +50,13 @@ fn accepted(wanted: usize, make: impl Fn(u64) -> Vec<u8>) -> Vec<Vec<u8>> {
         .collect()
 }
 
-fn microseconds(mut call: impl FnMut()) -> f64 {
-    let start = Instant::now();
-    call();
-    start.elapsed().as_secs_f64() * 1e6
+/// Microseconds of one call.
+fn timing(calls: u32, mut call: impl FnMut()) -> f64 {
+    let start = microseconds();
+    for _ in 0..calls {
+        call();
+    }
+    (microseconds() - start) / f64::from(calls)
 }
 
 fn median(timings: &mut [f64]) -> f64 {
@@ -64,11 +67,12 @@ fn median(timings: &mut [f64]) -> f64 {
 fn measure(job: &[u8]) -> Means {
     let mut buffer = vec![0; BUFFER];
     let (mut ours, mut judge) = ([0.0; TIMINGS], [0.0; TIMINGS]);
+    let calls = if job.len() < 20_000 { CALLS } else { 1 };
     for (ours, judge) in ours.iter_mut().zip(&mut judge) {
-        *ours = microseconds(|| {
+        *ours = timing(calls, || {
             black_box(stage(black_box(job), &mut buffer));
         });
-        *judge = microseconds(|| {
+        *judge = timing(calls, || {
             black_box(oracle::stage(black_box(job), &mut buffer));
         });
     }
