@@ -30,7 +30,7 @@ use search::TapVisits;
 // ---- the sheet (10, 11, 12, 14) and the answer
 
 // A tap for each member, with the id of its edge.
-fn tap_rows(table: Edges, members: Members, taps: &[f64]) -> DrawnTaps
+pub fn tap_rows(table: Edges, members: Members, taps: &[f64]) -> DrawnTaps
     requires { ⌜ (members .count ≤ 256) × (table .count ≤ 256) × (2 * members .count ≤ length (now taps)) ⌝ }
     requires { ⌜ MembersOn table members ⌝ }
     ensures { λ r. ⌜ TapsOf table members (now (taps .entry)) r ⌝ }
