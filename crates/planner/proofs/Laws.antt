@@ -49,7 +49,7 @@ blank (suc n) d (suc j) = blank n d j
 
 -- ---- the windows of a bundle's members
 
-window-cons : {A : Type 0} (l : List A) (first k : ℕ) (d : A) → first < length l → window first (suc k) l ≡ getD l first d ∷ window (suc first) k l
+pub window-cons : {A : Type 0} (l : List A) (first k : ℕ) (d : A) → first < length l → window first (suc k) l ≡ getD l first d ∷ window (suc first) k l
 window-cons l first k d h = ap (take (suc k)) (drop-cons l first d h)
 
 module _ (b : Board) (given : List Route) (points : List Float) (starts counts : List ℕ) (members : Members) (w : Windowed b given points starts counts members)
