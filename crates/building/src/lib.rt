@@ -565,17 +565,11 @@ pub fn verify_bundle(
     ensures { λ r. ⌜ r ≡ then-walk (walk 12 (over-routes (inside-route (take (nodes .count) (nodes .rows)) (take (table .count) (table .rows))) (among (members-from (now (edges .entry)) [] (new .first) (new .count))) (routes-of (now (points .entry)) (now (counts .entry))) 0) (visits .0)) (λ k. walk 11 (contact-tests o allow (drawn-of (now (edges .entry)) (now (taps .entry)) new) (among (members-from (now (edges .entry)) [] (new .first) (new .count))) (map (drawn-of (now (edges .entry)) (now (taps .entry))) (take (priors .count) (priors .rows))) (routes-of (now (points .entry)) (now (counts .entry)))) k) ⌝ }
 {
     mark_members(edges, new.first, new.count, &mut mask[..]);
-    let v = checks::verify_one_bundle_route_node_interiors(
-        nodes,
-        table,
-        &mask[..],
-        points,
-        counts,
-        visits,
-    );
+    let v = checks::interiors_paid(visits, nodes, table, &mask[..], points, counts);
     match v {
         Verdict::Refused(r, p) => Verdict::Refused(r, p),
-        Verdict::Clean(q) => checks::verify_new_bundle_route_contacts(
+        Verdict::Clean(q) => checks::contacts_paid(
+            q,
             o,
             allow,
             new,
@@ -585,7 +579,6 @@ pub fn verify_bundle(
             &mask[..],
             points,
             counts,
-            q,
         ),
     }
 }

@@ -3,10 +3,9 @@
 use Prim.Native.Nat.{ℕ, zero, suc, _+_, _*_, _-_, _≤_, _<_}
 use mathlib.Core.Path.{_≡_, refl, sym, ap, _∙_}
 use mathlib.Core.List.{List, [], _∷_, _++_, map}
-use mathlib.Core.Bool.{Bool, true, false, cond}
+use mathlib.Core.Bool.{Bool, true, false, not, cond}
 use native.Mathlib.Omega.{arith}
 use native.Mathlib.Numerals.{add-one}
-use lib.Dec.{eqb}
 use lib.ListN.{length, getD, take, drop, drop-of-length-le, length-map}
 use lib.Seq.{drop-cons, getD-take, length-take-le}
 use lib.Ieee.{Float}
@@ -15,44 +14,81 @@ use Rattle.geometry.specs.declared.Point.{Point}
 use Rattle.geometry.specs.declared.Segment.{Segment}
 use Rattle.geometry.specs.declared.Tap.{Tap}
 use Rattle.geometry.specs.declared.Tap.the-variants.{Absent, At}
-use Rattle.geometry.specs.Points.{Route, runs, point-at, points-from}
-use Rattle.route.specs.Window.{run-at, runs-next, runs-none}
-use Rattle.route.specs.Slots.{routes-from, routes-of}
+use Rattle.geometry.specs.Points.{Route, runs, point-at, run-at, points-from}
+use Rattle.geometry.specs.Apart.{trunk, apart}
+use Rattle.geometry.specs.Clear.{apart-contact, apart-spacing}
+use Rattle.route.specs.Window.{runs-next, runs-none}
+use Rattle.route.specs.Slots.{routes-from}
 use Rattle.sorting.specs.Sorted.{Every}
 use Rattle.board.specs.declared.Options.{Options}
 use Rattle.board.specs.declared.DrawnBundle.{DrawnBundle}
 use Rattle.board.specs.declared.PlacedNode.{PlacedNode}
 use Rattle.board.specs.declared.Edge.{Edge}
-use Rattle.drawing.specs.declared.GeometryVisits.{GeometryVisits}
-use Rattle.drawing.specs.declared.Verdict.{Verdict}
-use Rattle.drawing.specs.declared.Verdict.the-variants.{Clean, Refused}
+use Rattle.drawing.specs.declared.Finding.{Finding}
+use Rattle.drawing.specs.declared.Finding.the-variants as finding
 use Rattle.geometry.specs.Contact.{slanted}
 use Rattle.geometry.specs.Enters.{passes-inside}
 use Rattle.drawing.specs.Build.{seg, tap-of}
 use Rattle.drawing.specs.Check.{Test, due, barred, clean, failed, walk, own, node-tests, inside-tests, no-edge, clash, run-tests, over-routes, drawn-tests, pair-tests, prior-tests}
 use Rattle.drawing.specs.Laws.{walk-on, walk-off}
+use Rattle.checks.specs.Purse.{told, charged}
 use Rattle.checks.specs.Rows.{taps-from, drawn-of, inside-route, Tabled, AllTabled}
 
--- ---- one test
+-- ---- one test, and tests after tests
 
-module _ (e : ℕ) (b : Bool) (ts : List Test) where
-  pub due-spent : (n : ℕ) → n ≡ 0 → walk e (due b ∷ ts) n ≡ failed 14 n
-  unfolding walk
-  due-spent n z = rw z
+pub charge-none : (n : ℕ) → n ≡ 0 → (false, n) ≡ charged n
+unfolding charged
+charge-none n h = rw h
 
-  pub due-hit : (n : ℕ) → (n ≡ 0 → ⊥) → b ≡ true → walk e (due b ∷ ts) n ≡ failed e (n - 1)
-  unfolding walk
-  due-hit zero z h = absurd (z refl)
-  due-hit (suc n) z h = let a : suc n - 1 ≡ n = omega arith in rw (h, a)
+pub charge-one : (n : ℕ) → (n ≡ 0 → ⊥) → (true, n - 1) ≡ charged n
+unfolding charged
+charge-one zero h = absurd (h refl)
+charge-one (suc n) h = let a : suc n - 1 ≡ n = omega arith in rw a
 
-  pub due-clean : (n : ℕ) → (n ≡ 0 → ⊥) → b ≡ false → walk e (due b ∷ ts) n ≡ walk e ts (n - 1)
+-- a charge that is refused leaves nothing, as it found it; one that is paid leaves one less
+unpaid : (n m : ℕ) (r : Bool) → (r, m) ≡ charged n → not r ≡ true → (n ≡ 0) × (m ≡ 0)
+unfolding charged
+unpaid zero m r p h = (refl, ap (λ (x : Bool × ℕ). x .1) p)
+unpaid (suc n) m r p h =
+    let t : false ≡ true = sym (ap (λ (x : Bool × ℕ). not (x .0)) p) ∙ h in
+    let z : _≡_ {A = ℕ} 0 1 = cc in
+    absurd (omega arith)
+
+paid : (n m : ℕ) (r : Bool) → (r, m) ≡ charged n → not r ≡ false → n ≡ suc m
+unfolding charged
+paid zero m r p h =
+    let t : true ≡ false = sym (ap (λ (x : Bool × ℕ). not (x .0)) p) ∙ h in
+    let z : _≡_ {A = ℕ} 0 1 = cc in
+    absurd (omega arith)
+paid (suc n) m r p h = ap suc (sym (ap (λ (x : Bool × ℕ). x .1) p))
+
+module _ (n m : ℕ) (r : Bool) (p : (r, m) ≡ charged n) (e : ℕ) (b : Bool) (ts : List Test) where
+  pub due-spent : not r ≡ true → failed 14 m ≡ walk e (due b ∷ ts) n
   unfolding walk
-  due-clean zero z h = absurd (z refl)
-  due-clean (suc n) z h = let a : suc n - 1 ≡ n = omega arith in rw (h, a)
+  due-spent h =
+      let a = unpaid n m r p h .0 in
+      let c = unpaid n m r p h .1 in
+      rw (a, c)
+
+  pub due-hit : not r ≡ false → b ≡ true → failed e m ≡ walk e (due b ∷ ts) n
+  unfolding walk
+  due-hit h k = let a = paid n m r p h in rw (a, k)
+
+  pub due-clean : not r ≡ false → b ≡ false → walk e ts m ≡ walk e (due b ∷ ts) n
+  unfolding walk
+  due-clean h k = let a = paid n m r p h in rw (a, k)
 
 pub walk-done : (e n : ℕ) → clean n ≡ walk e [] n
 unfolding walk
 walk-done e n = refl
+
+-- a check in two parts, of which the first found f and left m visits
+module _ (e : ℕ) (xs ys : List Test) (n m : ℕ) (f : Finding) (w : told f m ≡ walk e xs n) where
+  pub then-on : f ≡ finding.Clean → walk e ys m ≡ walk e (xs ++ ys) n
+  then-on h = sym (walk-on e xs ys n (record { 0 = m }) (sym w ∙ ap (λ (x : Finding). told x m) h))
+
+  pub then-off : (r : ℕ) → f ≡ finding.Refused r → failed r m ≡ walk e (xs ++ ys) n
+  then-off r h = sym (walk-off e xs ys n r (record { 0 = m }) (sym w ∙ ap (λ (x : Finding). told x m) h))
 
 -- ---- run after run
 
@@ -60,10 +96,10 @@ module _ (o : Options) (allow : Bool) (bus : Segment) (tap : Tap) (s : List Floa
   abbrev pub tests-at : ℕ → List Test
   tests-at i = run-tests o allow bus tap (runs (points-from s (start + i) (n - i)))
 
-  abbrev pub clash-at : ℕ → Bool
-  clash-at i = clash o allow bus tap (run-at s (start + i))
+  abbrev pub look-on : ℕ → List Test
+  look-on i = due (clash o allow bus tap (run-at s (start + i))) ∷ []
 
-  tests-next : (i : ℕ) → i + 1 < n → tests-at i ≡ due (clash-at i) ∷ tests-at (i + 1)
+  tests-next : (i : ℕ) → i + 1 < n → look-on i ++ tests-at (i + 1) ≡ tests-at i
   unfolding run-tests
   tests-next i h = rw (runs-next s start n i h)
 
@@ -73,18 +109,21 @@ module _ (o : Options) (allow : Bool) (bus : Segment) (tap : Tap) (s : List Floa
       let b : n - 0 ≡ n = omega arith in
       rw (a, b)
 
-  pub walk-spent : (i k : ℕ) → i + 1 < n → k ≡ 0 → walk 11 (tests-at i) k ≡ failed 14 k
-  walk-spent i k h z = ap (λ (l : List Test). walk 11 l k) (tests-next i h) ∙ due-spent 11 (clash-at i) (tests-at (i + 1)) k z
+  pub walk-off-at : (i k m r : ℕ) (f : Finding) → i + 1 < n → told f m ≡ walk 11 (look-on i) k → f ≡ finding.Refused r → failed r m ≡ walk 11 (tests-at i) k
+  walk-off-at i k m r f h w x = then-off 11 (look-on i) (tests-at (i + 1)) k m f w r x ∙ ap (λ (l : List Test). walk 11 l k) (tests-next i h)
 
-  pub walk-hit : (i k : ℕ) → i + 1 < n → (k ≡ 0 → ⊥) → clash-at i ≡ true → walk 11 (tests-at i) k ≡ failed 11 (k - 1)
-  walk-hit i k h z e = ap (λ (l : List Test). walk 11 l k) (tests-next i h) ∙ due-hit 11 (clash-at i) (tests-at (i + 1)) k z e
+  pub walk-next : (i k m : ℕ) (f : Finding) → i + 1 < n → told f m ≡ walk 11 (look-on i) k → f ≡ finding.Clean → walk 11 (tests-at (i + 1)) m ≡ walk 11 (tests-at i) k
+  walk-next i k m f h w x = then-on 11 (look-on i) (tests-at (i + 1)) k m f w x ∙ ap (λ (l : List Test). walk 11 l k) (tests-next i h)
 
-  pub walk-next : (i k : ℕ) → i + 1 < n → (k ≡ 0 → ⊥) → clash-at i ≡ false → walk 11 (tests-at (i + 1)) (k - 1) ≡ walk 11 (tests-at i) k
-  walk-next i k h z e = sym (ap (λ (l : List Test). walk 11 l k) (tests-next i h) ∙ due-clean 11 (clash-at i) (tests-at (i + 1)) k z e)
-
-  pub walk-end : (i k : ℕ) → n ≤ i + 1 → walk 11 (tests-at i) k ≡ clean k
+  pub walk-end : (i k : ℕ) → n ≤ i + 1 → clean k ≡ walk 11 (tests-at i) k
   unfolding walk run-tests
   walk-end i k h = let g : n - i ≤ 1 = omega arith in rw (runs-none s (start + i) (n - i) g)
+
+-- ---- a run that is apart from a bus
+
+pub apart-clean : (o : Options) (allow : Bool) (bus : Segment) (tap : Tap) (run : Segment) → apart (trunk bus) (o .«minimum_parallel_wire_spacing») (run .start) (run .end) ≡ true → clash o allow bus tap run ≡ false
+unfolding clash
+apart-clean o allow bus tap run h = rw (apart-contact bus (o .«minimum_parallel_wire_spacing») (run .start) (run .end) tap allow h, apart-spacing bus (o .«minimum_parallel_wire_spacing») (run .start) (run .end) h)
 
 -- ---- tap after tap
 
@@ -132,13 +171,14 @@ module _ (er : ℕ) (f : ℕ → Route → List Test) (chosen : ℕ → Bool) (s
   chosen-next : (i : ℕ) → i < length ns → chosen i ≡ true → rest-of i ≡ f i (slot-at i) ++ rest-of (i + 1)
   chosen-next i h e = rest-next i h ∙ ap (λ (c : Bool). cond c (f i (slot-at i)) [] ++ rest-of (i + 1)) e
 
-  pub over-on : (i k : ℕ) (q : GeometryVisits) → i < length ns → chosen i ≡ true → walk er (f i (slot-at i)) k ≡ Clean q → walk er (rest-of (i + 1)) (q .0) ≡ walk er (rest-of i) k
-  over-on i k q h e w = sym (ap (λ (l : List Test). walk er l k) (chosen-next i h e) ∙ walk-on er (f i (slot-at i)) (rest-of (i + 1)) k q w)
+  module _ (i k m : ℕ) (x : Finding) (h : i < length ns) (e : chosen i ≡ true) (w : told x m ≡ walk er (f i (slot-at i)) k) where
+    pub over-on : x ≡ finding.Clean → walk er (rest-of (i + 1)) m ≡ walk er (rest-of i) k
+    over-on y = then-on er (f i (slot-at i)) (rest-of (i + 1)) k m x w y ∙ sym (ap (λ (l : List Test). walk er l k) (chosen-next i h e))
 
-  pub over-off : (i k r : ℕ) (p : GeometryVisits) → i < length ns → chosen i ≡ true → walk er (f i (slot-at i)) k ≡ Refused r p → walk er (rest-of i) k ≡ Refused r p
-  over-off i k r p h e w = ap (λ (l : List Test). walk er l k) (chosen-next i h e) ∙ walk-off er (f i (slot-at i)) (rest-of (i + 1)) k r p w
+    pub over-off : (r : ℕ) → x ≡ finding.Refused r → failed r m ≡ walk er (rest-of i) k
+    over-off r y = then-off er (f i (slot-at i)) (rest-of (i + 1)) k m x w r y ∙ sym (ap (λ (l : List Test). walk er l k) (chosen-next i h e))
 
-  pub over-end : (i k : ℕ) → length ns ≤ i → walk er (rest-of i) k ≡ clean k
+  pub over-end : (i k : ℕ) → length ns ≤ i → clean k ≡ walk er (rest-of i) k
   unfolding over-routes routes-from walk
   over-end i k h = rw (drop-of-length-le ns h)
 
@@ -179,13 +219,14 @@ module _ (o : Options) (allow : Bool) (new : DrawnBundle) (changed : ℕ → Boo
   unfolding prior-tests
   prior-next i d h k = rw (part-cons l n i d h k)
 
-  pub prior-on : (i : ℕ) (d : DrawnBundle) (k : ℕ) (q : GeometryVisits) → i < n → n ≤ length l → walk 11 (one-at (getD l i d)) k ≡ Clean q → walk 11 (priors-at (i + 1)) (q .0) ≡ walk 11 (priors-at i) k
-  prior-on i d k q h m w = sym (ap (λ (x : List Test). walk 11 x k) (prior-next i d h m) ∙ walk-on 11 (one-at (getD l i d)) (priors-at (i + 1)) k q w)
+  module _ (i : ℕ) (d : DrawnBundle) (k m : ℕ) (x : Finding) (h : i < n) (q : n ≤ length l) (w : told x m ≡ walk 11 (one-at (getD l i d)) k) where
+    pub prior-on : x ≡ finding.Clean → walk 11 (priors-at (i + 1)) m ≡ walk 11 (priors-at i) k
+    prior-on y = then-on 11 (one-at (getD l i d)) (priors-at (i + 1)) k m x w y ∙ sym (ap (λ (t : List Test). walk 11 t k) (prior-next i d h q))
 
-  pub prior-off : (i : ℕ) (d : DrawnBundle) (k r : ℕ) (p : GeometryVisits) → i < n → n ≤ length l → walk 11 (one-at (getD l i d)) k ≡ Refused r p → walk 11 (priors-at i) k ≡ Refused r p
-  prior-off i d k r p h m w = ap (λ (x : List Test). walk 11 x k) (prior-next i d h m) ∙ walk-off 11 (one-at (getD l i d)) (priors-at (i + 1)) k r p w
+    pub prior-off : (r : ℕ) → x ≡ finding.Refused r → failed r m ≡ walk 11 (priors-at i) k
+    prior-off r y = then-off 11 (one-at (getD l i d)) (priors-at (i + 1)) k m x w r y ∙ sym (ap (λ (t : List Test). walk 11 t k) (prior-next i d h q))
 
-  pub prior-end : (i k : ℕ) → n ≤ i → n ≤ length l → walk 11 (priors-at i) k ≡ clean k
+  pub prior-end : (i k : ℕ) → n ≤ i → n ≤ length l → clean k ≡ walk 11 (priors-at i) k
   unfolding prior-tests walk
   prior-end i k h m = rw (part-none l n i h m)
 
@@ -209,14 +250,18 @@ module _ (e : Edge) (s : Segment) (l : List PlacedNode) (n : ℕ) (rest : List T
   pub node-own : (j : ℕ) (d : PlacedNode) (k : ℕ) → j < n → n ≤ length l → own e j ≡ true → walk 12 (nodes-at (j + 1)) k ≡ walk 12 (nodes-at j) k
   node-own j d k h m o = sym (ap (λ (x : List Test). walk 12 x k) (own-next j d h m o))
 
-  pub node-spent : (j : ℕ) (d : PlacedNode) (k : ℕ) → j < n → n ≤ length l → own e j ≡ false → k ≡ 0 → walk 12 (nodes-at j) k ≡ failed 14 k
-  node-spent j d k h m o z = ap (λ (x : List Test). walk 12 x k) (due-next j d h m o) ∙ due-spent 12 _ (nodes-at (j + 1)) k z
+  module _ (j : ℕ) (d : PlacedNode) (k m : ℕ) (r : Bool) (h : j < n) (q : n ≤ length l) (o : own e j ≡ false) (p : (r, m) ≡ charged k) where
+    abbrev now-due : walk 12 (look-at j d ∷ nodes-at (j + 1)) k ≡ walk 12 (nodes-at j) k
+    now-due = sym (ap (λ (x : List Test). walk 12 x k) (due-next j d h q o))
 
-  pub node-hit : (j : ℕ) (d : PlacedNode) (k : ℕ) → j < n → n ≤ length l → own e j ≡ false → (k ≡ 0 → ⊥) → passes-inside (s .start) (s .end) (getD l j d .body) ≡ true → walk 12 (nodes-at j) k ≡ failed 12 (k - 1)
-  node-hit j d k h m o z x = ap (λ (x : List Test). walk 12 x k) (due-next j d h m o) ∙ due-hit 12 _ (nodes-at (j + 1)) k z x
+    pub node-spent : not r ≡ true → failed 14 m ≡ walk 12 (nodes-at j) k
+    node-spent z = due-spent k m r p 12 _ (nodes-at (j + 1)) z ∙ now-due
 
-  pub node-clean : (j : ℕ) (d : PlacedNode) (k : ℕ) → j < n → n ≤ length l → own e j ≡ false → (k ≡ 0 → ⊥) → passes-inside (s .start) (s .end) (getD l j d .body) ≡ false → walk 12 (nodes-at (j + 1)) (k - 1) ≡ walk 12 (nodes-at j) k
-  node-clean j d k h m o z x = sym (ap (λ (x : List Test). walk 12 x k) (due-next j d h m o) ∙ due-clean 12 _ (nodes-at (j + 1)) k z x)
+    pub node-hit : not r ≡ false → passes-inside (s .start) (s .end) (getD l j d .body) ≡ true → failed 12 m ≡ walk 12 (nodes-at j) k
+    node-hit z x = due-hit k m r p 12 _ (nodes-at (j + 1)) z x ∙ now-due
+
+    pub node-clean : not r ≡ false → passes-inside (s .start) (s .end) (getD l j d .body) ≡ false → walk 12 (nodes-at (j + 1)) m ≡ walk 12 (nodes-at j) k
+    node-clean z x = due-clean k m r p 12 _ (nodes-at (j + 1)) z x ∙ now-due
 
   pub node-end : (j k : ℕ) → n ≤ j → n ≤ length l → walk 12 (nodes-at j) k ≡ walk 12 rest k
   unfolding node-tests
@@ -238,15 +283,16 @@ module _ (ns : List PlacedNode) (e : Edge) (s : List Float) (start n : ℕ) wher
   unfolding inside-tests
   inside-next i h = rw (runs-next s start n i h)
 
-  pub inside-slanted : (i k : ℕ) → i + 1 < n → slanted (point-at s (start + i)) (point-at s (start + i + 1)) ≡ true → walk 12 (inside-at i) k ≡ failed 12 k
+  pub inside-slanted : (i k : ℕ) (run : Segment) → i + 1 < n → run ≡ run-at s (start + i) → slanted (run .start) (run .end) ≡ true → walk 12 (inside-at i) k ≡ failed 12 k
   unfolding walk
-  inside-slanted i k h x = ap (λ (l : List Test). walk 12 l k) (inside-next i h) ∙ ap (λ (b : Bool). walk 12 (cond b (barred ∷ []) (node-tests e (run-at s (start + i)) ns 0) ++ inside-at (i + 1)) k) x
+  inside-slanted i k run h p x =
+      let y : slanted (point-at s (start + i)) (point-at s (start + i + 1)) ≡ true = sym (ap (λ (r : Segment). slanted (r .start) (r .end)) p) ∙ x in
+      ap (λ (l : List Test). walk 12 l k) (inside-next i h) ∙ ap (λ (b : Bool). walk 12 (cond b (barred ∷ []) (node-tests e (run-at s (start + i)) ns 0) ++ inside-at (i + 1)) k) y
 
-  pub inside-straight : (i k : ℕ) (a b : Point) → i + 1 < n → a ≡ point-at s (start + i) → b ≡ point-at s (start + i + 1) → slanted a b ≡ false → walk 12 (node-tests e (seg a b) ns 0 ++ inside-at (i + 1)) k ≡ walk 12 (inside-at i) k
-  inside-straight i k a b h p q x =
-      let y : slanted (point-at s (start + i)) (point-at s (start + i + 1)) ≡ false = rw (p, q) at x in
-      let z : node-tests e (seg a b) ns 0 ≡ node-tests e (run-at s (start + i)) ns 0 = rw (p, q) in
-      ap (λ (l : List Test). walk 12 (l ++ inside-at (i + 1)) k) z
+  pub inside-straight : (i k : ℕ) (run : Segment) → i + 1 < n → run ≡ run-at s (start + i) → slanted (run .start) (run .end) ≡ false → walk 12 (node-tests e run ns 0 ++ inside-at (i + 1)) k ≡ walk 12 (inside-at i) k
+  inside-straight i k run h p x =
+      let y : slanted (point-at s (start + i)) (point-at s (start + i + 1)) ≡ false = sym (ap (λ (r : Segment). slanted (r .start) (r .end)) p) ∙ x in
+      ap (λ (r : Segment). walk 12 (node-tests e r ns 0 ++ inside-at (i + 1)) k) p
       ∙ sym (ap (λ (l : List Test). walk 12 l k) (inside-next i h) ∙ ap (λ (b : Bool). walk 12 (cond b (barred ∷ []) (node-tests e (run-at s (start + i)) ns 0) ++ inside-at (i + 1)) k) y)
 
   pub inside-end : (i k : ℕ) → n ≤ i + 1 → walk 12 (inside-at i) k ≡ clean k

@@ -4,27 +4,58 @@
 // (Apache-2.0, see NOTICE). The present routes are in slots (crate route). A bundle's members are
 // count places from first on of the table of members: edges has each one's edge, taps its tap as x
 // and y. A mask has a place for each route; all chooses every route whatever the mask says.
+//
+// The geometry visits that pay for the looks are lent: to the two checks as a purse, and below them
+// as its counter, left. The prover covers no function that has a reference to a struct, so the two
+// checks and the two functions that make a purse only call on, and have the purse first.
 ghost use mathlib.Core.Path.{_≡_};
 ghost use mathlib.Core.Bool.{false};
 ghost use mathlib.Core.List.{[], _∷_, _++_, map};
 ghost use Prim.Native.Nat.{_+_, _*_, _-_, _<_, _≤_};
 ghost use lib.ListN.{length, take};
 ghost use Rattle.geometry.specs.declared.Tap.the-variants.{Absent};
+ghost use Rattle.geometry.specs.Apart.{trunk};
 ghost use Rattle.geometry.specs.Points.{points-from, runs};
 ghost use Rattle.route.specs.Slots.{routes-of};
 ghost use Rattle.drawing.specs.Build.{tap-of};
-ghost use Rattle.drawing.specs.Check.{due, walk, own, clash, run-tests, over-routes, route-tests, drawn-tests, pair-tests, prior-tests, contact-tests, inside-tests};
-ghost use Rattle.checks.specs.Rows.{taps-from, drawn-of, chosen-by, inside-route, Tabled, AllTabled, Slotted};
+ghost use Rattle.drawing.specs.Check.{due, walk, own, clash, run-tests, over-routes, route-tests, drawn-tests, pair-tests, prior-tests, inside-tests};
+ghost use Rattle.checks.specs.Looks.{InteriorTables, interior-looks, ContactTables, contact-looks};
+ghost use Rattle.checks.specs.Purse.{told, charged};
+ghost use Rattle.checks.specs.Rows.{taps-from, drawn-of, chosen-by, Tabled, AllTabled, Slotted};
 use board::DrawnBundle;
 use board::DrawnBundles;
 use board::Edge;
 use board::Edges;
 use board::Nodes;
 use board::Options;
+use drawing::Finding;
 use drawing::GeometryVisits;
 use drawing::Verdict;
 use geometry::Segment;
 use geometry::Tap;
+use geometry::Trunk;
+
+// consume_geometry_visit: one visit is paid before each look. False where none is left.
+fn charge(left: &mut u32) -> bool
+    ensures { λ r. ⌜ (r, now (left .exit)) ≡ charged (now (left .entry)) ⌝ }
+{
+    let n = *left;
+    if n == 0 {
+        return false;
+    }
+    *left = n - 1;
+    true
+}
+
+// How a check ended, with the visits that it left.
+fn with_left(f: Finding, visits: GeometryVisits) -> Verdict
+    ensures { λ r. ⌜ r ≡ told f (visits .0) ⌝ }
+{
+    match f {
+        Finding::Clean => Verdict::Clean(visits),
+        Finding::Refused(e) => Verdict::Refused(e, visits),
+    }
+}
 
 // ---- verify_new_bundle_route_contacts
 
@@ -35,36 +66,24 @@ fn clashes(o: Options, allow: bool, bus: Segment, tap: Tap, run: Segment) -> boo
         || geometry::parallel_segments_are_too_close(bus, run, o.minimum_parallel_wire_spacing)
 }
 
-// A bundle's segment against a route of count points from point start on.
-fn bus_on_route(
+// A bundle's segment against a run, or against a segment of another bundle.
+fn bus_on_run(
     o: Options,
     allow: bool,
     bus: Segment,
     tap: Tap,
-    points: &[f64],
-    start: usize,
-    count: usize,
-    visits: GeometryVisits,
-) -> Verdict
-    requires { ⌜ 2 * (start + count) ≤ length (now points) ⌝ }
-    ensures { λ r. ⌜ r ≡ walk 11 (run-tests o allow bus tap (runs (points-from (now (points .entry)) start count))) (visits .0) ⌝ }
+    run: Segment,
+    left: &mut u32,
+) -> Finding
+    ensures { λ r. ⌜ told r (now (left .exit)) ≡ walk 11 (due (clash o allow bus tap run) ∷ []) (now (left .entry)) ⌝ }
 {
-    let mut left = visits;
-    let mut i: usize = 0;
-    while i + 1 < count {
-        let n = left.0;
-        if n == 0 {
-            return Verdict::Refused(14, left);
-        }
-        left = GeometryVisits(n - 1);
-        let a = geometry::point_at(points, start + i);
-        let b = geometry::point_at(points, start + i + 1);
-        if clashes(o, allow, bus, tap, Segment { start: a, end: b }) {
-            return Verdict::Refused(11, left);
-        }
-        i += 1;
+    if !charge(&mut *left) {
+        return Finding::Refused(14);
     }
-    Verdict::Clean(left)
+    if clashes(o, allow, bus, tap, run) {
+        return Finding::Refused(11);
+    }
+    Finding::Clean
 }
 
 // A route's tap among those of a bundle.
@@ -82,6 +101,81 @@ fn tap_on_route(edges: &[usize], taps: &[f64], first: usize, count: usize, e: us
     Tap::Absent
 }
 
+// A bundle's segment, whose trunk is t, against a run of route e. Most runs are apart from it, so the
+// tap is looked up only for those that are not.
+fn bus_on_route_run(
+    o: Options,
+    allow: bool,
+    bus: Segment,
+    t: Trunk,
+    edges: &[usize],
+    taps: &[f64],
+    first: usize,
+    count: usize,
+    e: usize,
+    run: Segment,
+    left: &mut u32,
+) -> Finding
+    requires { ⌜ (t ≡ trunk bus) × Tabled first count (now edges) (now taps) ⌝ }
+    ensures { λ r. ⌜ told r (now (left .exit)) ≡ walk 11 (due (clash o allow bus (tap-of (taps-from (now (edges .entry)) (now (taps .entry)) first count) e) run) ∷ []) (now (left .entry)) ⌝ }
+{
+    let paid = charge(&mut *left);
+    if !paid {
+        return Finding::Refused(14);
+    }
+    if geometry::is_apart(t, o.minimum_parallel_wire_spacing, run.start, run.end) {
+        return Finding::Clean;
+    }
+    let tap = tap_on_route(edges, taps, first, count, e);
+    if !clashes(o, allow, bus, tap, run) {
+        return Finding::Clean;
+    }
+    Finding::Refused(11)
+}
+
+// A bundle's segment against route e, which has long points from point start on.
+fn bus_on_route(
+    o: Options,
+    allow: bool,
+    bus: Segment,
+    t: Trunk,
+    edges: &[usize],
+    taps: &[f64],
+    first: usize,
+    count: usize,
+    e: usize,
+    points: &[f64],
+    start: usize,
+    long: usize,
+    left: &mut u32,
+) -> Finding
+    requires { ⌜ (t ≡ trunk bus) × Tabled first count (now edges) (now taps) × (2 * (start + long) ≤ length (now points)) ⌝ }
+    ensures { λ r. ⌜ told r (now (left .exit)) ≡ walk 11 (run-tests o allow bus (tap-of (taps-from (now (edges .entry)) (now (taps .entry)) first count) e) (runs (points-from (now (points .entry)) start long))) (now (left .entry)) ⌝ }
+{
+    let mut i: usize = 0;
+    while i + 1 < long {
+        let run = geometry::route_run(points, start, long, i);
+        let f = bus_on_route_run(
+            o,
+            allow,
+            bus,
+            t,
+            edges,
+            taps,
+            first,
+            count,
+            e,
+            run,
+            &mut *left,
+        );
+        if let Finding::Refused(r) = f {
+            return Finding::Refused(r);
+        }
+        i += 1;
+    }
+    Finding::Clean
+}
+
 // A bundle's segment against the chosen routes.
 fn bus_on_routes(
     o: Options,
@@ -95,30 +189,38 @@ fn bus_on_routes(
     mask: &[bool],
     points: &[f64],
     counts: &[usize],
-    visits: GeometryVisits,
-) -> Verdict
+    left: &mut u32,
+) -> Finding
     requires { ⌜ Tabled first count (now edges) (now taps) × Slotted (now points) (now counts) (now mask) ⌝ }
-    ensures { λ r. ⌜ r ≡ walk 11 (over-routes (route-tests o allow bus (taps-from (now (edges .entry)) (now (taps .entry)) first count)) (chosen-by all (now (mask .entry))) (routes-of (now (points .entry)) (now (counts .entry))) 0) (visits .0) ⌝ }
+    ensures { λ r. ⌜ told r (now (left .exit)) ≡ walk 11 (over-routes (route-tests o allow bus (taps-from (now (edges .entry)) (now (taps .entry)) first count)) (chosen-by all (now (mask .entry))) (routes-of (now (points .entry)) (now (counts .entry))) 0) (now (left .entry)) ⌝ }
 {
-    let mut left = visits;
+    let t = geometry::trunk_of(bus);
     let mut e: usize = 0;
     while e < counts.len() {
         let k = e;
         e += 1;
         if all | mask[k] {
-            let tap = tap_on_route(edges, taps, first, count, k);
-            let v = bus_on_route(o, allow, bus, tap, points, 68 * k, counts[k], left);
-            match v {
-                Verdict::Refused(r, p) => {
-                    return Verdict::Refused(r, p);
-                }
-                Verdict::Clean(q) => {
-                    left = q;
-                }
+            let f = bus_on_route(
+                o,
+                allow,
+                bus,
+                t,
+                edges,
+                taps,
+                first,
+                count,
+                k,
+                points,
+                68 * k,
+                counts[k],
+                &mut *left,
+            );
+            if let Finding::Refused(r) = f {
+                return Finding::Refused(r);
             }
         }
     }
-    Verdict::Clean(left)
+    Finding::Clean
 }
 
 // A bundle's collector, then its spine, against the chosen routes.
@@ -132,12 +234,12 @@ fn drawn_on_routes(
     mask: &[bool],
     points: &[f64],
     counts: &[usize],
-    visits: GeometryVisits,
-) -> Verdict
+    left: &mut u32,
+) -> Finding
     requires { ⌜ Tabled (d .first) (d .count) (now edges) (now taps) × Slotted (now points) (now counts) (now mask) ⌝ }
-    ensures { λ r. ⌜ r ≡ walk 11 (drawn-tests o allow (drawn-of (now (edges .entry)) (now (taps .entry)) d) (chosen-by all (now (mask .entry))) (routes-of (now (points .entry)) (now (counts .entry)))) (visits .0) ⌝ }
+    ensures { λ r. ⌜ told r (now (left .exit)) ≡ walk 11 (drawn-tests o allow (drawn-of (now (edges .entry)) (now (taps .entry)) d) (chosen-by all (now (mask .entry))) (routes-of (now (points .entry)) (now (counts .entry)))) (now (left .entry)) ⌝ }
 {
-    let v = bus_on_routes(
+    let f = bus_on_routes(
         o,
         allow,
         d.collector,
@@ -149,11 +251,11 @@ fn drawn_on_routes(
         mask,
         points,
         counts,
-        visits,
+        &mut *left,
     );
-    match v {
-        Verdict::Refused(r, p) => Verdict::Refused(r, p),
-        Verdict::Clean(q) => bus_on_routes(
+    match f {
+        Finding::Refused(e) => Finding::Refused(e),
+        Finding::Clean => bus_on_routes(
             o,
             allow,
             d.spine,
@@ -165,47 +267,19 @@ fn drawn_on_routes(
             mask,
             points,
             counts,
-            q,
+            &mut *left,
         ),
     }
 }
 
-// One look that is due.
-fn looked(bad: bool, visits: GeometryVisits) -> Verdict
-    ensures { λ r. ⌜ r ≡ walk 11 (due bad ∷ []) (visits .0) ⌝ }
-{
-    let n = visits.0;
-    if n == 0 {
-        return Verdict::Refused(14, visits);
-    }
-    let left = GeometryVisits(n - 1);
-    if bad {
-        return Verdict::Refused(11, left);
-    }
-    Verdict::Clean(left)
-}
-
-// Two segments of two bundles.
-fn bus_on_bus(o: Options, allow: bool, a: Segment, b: Segment, visits: GeometryVisits) -> Verdict
-    ensures { λ r. ⌜ r ≡ walk 11 (due (clash o allow a Absent b) ∷ []) (visits .0) ⌝ }
-{
-    looked(clashes(o, allow, a, Tap::Absent, b), visits)
-}
-
 // A segment of the new bundle against the two of an earlier one.
-fn bus_on_drawn(
-    o: Options,
-    allow: bool,
-    a: Segment,
-    prior: DrawnBundle,
-    visits: GeometryVisits,
-) -> Verdict
-    ensures { λ r. ⌜ r ≡ walk 11 (due (clash o allow a Absent (prior .collector)) ∷ due (clash o allow a Absent (prior .spine)) ∷ []) (visits .0) ⌝ }
+fn bus_on_drawn(o: Options, allow: bool, a: Segment, prior: DrawnBundle, left: &mut u32) -> Finding
+    ensures { λ r. ⌜ told r (now (left .exit)) ≡ walk 11 (due (clash o allow a Absent (prior .collector)) ∷ due (clash o allow a Absent (prior .spine)) ∷ []) (now (left .entry)) ⌝ }
 {
-    let v = bus_on_bus(o, allow, a, prior.collector, visits);
-    match v {
-        Verdict::Refused(r, p) => Verdict::Refused(r, p),
-        Verdict::Clean(q) => bus_on_bus(o, allow, a, prior.spine, q),
+    let f = bus_on_run(o, allow, a, Tap::Absent, prior.collector, &mut *left);
+    match f {
+        Finding::Refused(e) => Finding::Refused(e),
+        Finding::Clean => bus_on_run(o, allow, a, Tap::Absent, prior.spine, &mut *left),
     }
 }
 
@@ -214,14 +288,14 @@ fn drawn_on_drawn(
     allow: bool,
     new: DrawnBundle,
     prior: DrawnBundle,
-    visits: GeometryVisits,
-) -> Verdict
-    ensures { λ r. ⌜ r ≡ walk 11 (pair-tests o allow (drawn-of [] [] new) (drawn-of [] [] prior)) (visits .0) ⌝ }
+    left: &mut u32,
+) -> Finding
+    ensures { λ r. ⌜ told r (now (left .exit)) ≡ walk 11 (pair-tests o allow (drawn-of [] [] new) (drawn-of [] [] prior)) (now (left .entry)) ⌝ }
 {
-    let v = bus_on_drawn(o, allow, new.collector, prior, visits);
-    match v {
-        Verdict::Refused(r, p) => Verdict::Refused(r, p),
-        Verdict::Clean(q) => bus_on_drawn(o, allow, new.spine, prior, q),
+    let f = bus_on_drawn(o, allow, new.collector, prior, &mut *left);
+    match f {
+        Finding::Refused(e) => Finding::Refused(e),
+        Finding::Clean => bus_on_drawn(o, allow, new.spine, prior, &mut *left),
     }
 }
 
@@ -236,12 +310,12 @@ fn verify_prior(
     changed: &[bool],
     points: &[f64],
     counts: &[usize],
-    visits: GeometryVisits,
-) -> Verdict
+    left: &mut u32,
+) -> Finding
     requires { ⌜ Tabled (prior .first) (prior .count) (now edges) (now taps) × Slotted (now points) (now counts) (now changed) ⌝ }
-    ensures { λ r. ⌜ r ≡ walk 11 (drawn-tests o allow (drawn-of (now (edges .entry)) (now (taps .entry)) prior) (chosen-by false (now (changed .entry))) (routes-of (now (points .entry)) (now (counts .entry))) ++ pair-tests o allow (drawn-of (now (edges .entry)) (now (taps .entry)) new) (drawn-of (now (edges .entry)) (now (taps .entry)) prior)) (visits .0) ⌝ }
+    ensures { λ r. ⌜ told r (now (left .exit)) ≡ walk 11 (drawn-tests o allow (drawn-of (now (edges .entry)) (now (taps .entry)) prior) (chosen-by false (now (changed .entry))) (routes-of (now (points .entry)) (now (counts .entry))) ++ pair-tests o allow (drawn-of (now (edges .entry)) (now (taps .entry)) new) (drawn-of (now (edges .entry)) (now (taps .entry)) prior)) (now (left .entry)) ⌝ }
 {
-    let v = drawn_on_routes(
+    let f = drawn_on_routes(
         o,
         allow,
         prior,
@@ -251,11 +325,11 @@ fn verify_prior(
         changed,
         points,
         counts,
-        visits,
+        &mut *left,
     );
-    match v {
-        Verdict::Refused(r, p) => Verdict::Refused(r, p),
-        Verdict::Clean(q) => drawn_on_drawn(o, allow, new, prior, q),
+    match f {
+        Finding::Refused(e) => Finding::Refused(e),
+        Finding::Clean => drawn_on_drawn(o, allow, new, prior, &mut *left),
     }
 }
 
@@ -270,16 +344,15 @@ fn verify_priors(
     changed: &[bool],
     points: &[f64],
     counts: &[usize],
-    visits: GeometryVisits,
-) -> Verdict
+    left: &mut u32,
+) -> Finding
     requires { ⌜ (priors .count ≤ 32) × AllTabled (take (priors .count) (priors .rows)) (now edges) (now taps) × Slotted (now points) (now counts) (now changed) ⌝ }
-    ensures { λ r. ⌜ r ≡ walk 11 (prior-tests o allow (drawn-of (now (edges .entry)) (now (taps .entry)) new) (chosen-by false (now (changed .entry))) (map (drawn-of (now (edges .entry)) (now (taps .entry))) (take (priors .count) (priors .rows))) (routes-of (now (points .entry)) (now (counts .entry)))) (visits .0) ⌝ }
+    ensures { λ r. ⌜ told r (now (left .exit)) ≡ walk 11 (prior-tests o allow (drawn-of (now (edges .entry)) (now (taps .entry)) new) (chosen-by false (now (changed .entry))) (map (drawn-of (now (edges .entry)) (now (taps .entry))) (take (priors .count) (priors .rows))) (routes-of (now (points .entry)) (now (counts .entry)))) (now (left .entry)) ⌝ }
 {
     let n = priors.count;
-    let mut left = visits;
     let mut i: usize = 0;
     while i < n {
-        let v = verify_prior(
+        let f = verify_prior(
             o,
             allow,
             new,
@@ -289,24 +362,20 @@ fn verify_priors(
             changed,
             points,
             counts,
-            left,
+            &mut *left,
         );
-        match v {
-            Verdict::Refused(r, p) => {
-                return Verdict::Refused(r, p);
-            }
-            Verdict::Clean(q) => {
-                left = q;
-            }
+        if let Finding::Refused(e) = f {
+            return Finding::Refused(e);
         }
         i += 1;
     }
-    Verdict::Clean(left)
+    Finding::Clean
 }
 
 // The new bundle against every route, then each earlier one against the changed routes and against
 // the new one.
-pub fn verify_new_bundle_route_contacts(
+fn route_contacts(
+    left: &mut u32,
     o: Options,
     allow: bool,
     new: DrawnBundle,
@@ -316,12 +385,11 @@ pub fn verify_new_bundle_route_contacts(
     changed: &[bool],
     points: &[f64],
     counts: &[usize],
-    visits: GeometryVisits,
-) -> Verdict
-    requires { ⌜ (priors .count ≤ 32) × AllTabled (take (priors .count) (priors .rows)) (now edges) (now taps) × Tabled (new .first) (new .count) (now edges) (now taps) × Slotted (now points) (now counts) (now changed) ⌝ }
-    ensures { λ r. ⌜ r ≡ walk 11 (contact-tests o allow (drawn-of (now (edges .entry)) (now (taps .entry)) new) (chosen-by false (now (changed .entry))) (map (drawn-of (now (edges .entry)) (now (taps .entry))) (take (priors .count) (priors .rows))) (routes-of (now (points .entry)) (now (counts .entry)))) (visits .0) ⌝ }
+) -> Finding
+    requires { ⌜ ContactTables new priors (now edges) (now taps) (now changed) (now points) (now counts) ⌝ }
+    ensures { λ r. ⌜ told r (now (left .exit)) ≡ walk 11 (contact-looks new priors (now (edges .entry)) (now (taps .entry)) (now (changed .entry)) (now (points .entry)) (now (counts .entry)) o allow) (now (left .entry)) ⌝ }
 {
-    let v = drawn_on_routes(
+    let f = drawn_on_routes(
         o,
         allow,
         new,
@@ -331,11 +399,11 @@ pub fn verify_new_bundle_route_contacts(
         changed,
         points,
         counts,
-        visits,
+        &mut *left,
     );
-    match v {
-        Verdict::Refused(r, p) => Verdict::Refused(r, p),
-        Verdict::Clean(q) => verify_priors(
+    match f {
+        Finding::Refused(e) => Finding::Refused(e),
+        Finding::Clean => verify_priors(
             o,
             allow,
             new,
@@ -345,9 +413,71 @@ pub fn verify_new_bundle_route_contacts(
             changed,
             points,
             counts,
-            q,
+            &mut *left,
         ),
     }
+}
+
+// The same, paid from a purse that is lent.
+pub fn verify_new_bundle_route_contacts(
+    purse: &mut GeometryVisits,
+    o: Options,
+    allow: bool,
+    new: DrawnBundle,
+    priors: DrawnBundles,
+    edges: &[usize],
+    taps: &[f64],
+    changed: &[bool],
+    points: &[f64],
+    counts: &[usize],
+) -> Finding
+    requires { ⌜ ContactTables new priors (now edges) (now taps) (now changed) (now points) (now counts) ⌝ }
+    ensures { λ r. ⌜ told r (now (purse .exit) .0) ≡ walk 11 (contact-looks new priors (now (edges .entry)) (now (taps .entry)) (now (changed .entry)) (now (points .entry)) (now (counts .entry)) o allow) (now (purse .entry) .0) ⌝ }
+{
+    route_contacts(
+        &mut purse.0,
+        o,
+        allow,
+        new,
+        priors,
+        edges,
+        taps,
+        changed,
+        points,
+        counts,
+    )
+}
+
+// The same, for a caller that has the visits: it makes the purse.
+pub fn contacts_paid(
+    visits: GeometryVisits,
+    o: Options,
+    allow: bool,
+    new: DrawnBundle,
+    priors: DrawnBundles,
+    edges: &[usize],
+    taps: &[f64],
+    changed: &[bool],
+    points: &[f64],
+    counts: &[usize],
+) -> Verdict
+    requires { ⌜ ContactTables new priors (now edges) (now taps) (now changed) (now points) (now counts) ⌝ }
+    ensures { λ r. ⌜ r ≡ walk 11 (contact-looks new priors (now (edges .entry)) (now (taps .entry)) (now (changed .entry)) (now (points .entry)) (now (counts .entry)) o allow) (visits .0) ⌝ }
+{
+    let mut purse = visits;
+    let f = verify_new_bundle_route_contacts(
+        &mut purse,
+        o,
+        allow,
+        new,
+        priors,
+        edges,
+        taps,
+        changed,
+        points,
+        counts,
+    );
+    with_left(f, purse)
 }
 
 // ---- verify_one_bundle_route_node_interiors
@@ -366,19 +496,17 @@ fn route_inside(
     points: &[f64],
     start: usize,
     count: usize,
-    visits: GeometryVisits,
-) -> Verdict
+    left: &mut u32,
+) -> Finding
     requires { ⌜ (nodes .count ≤ 128) × (2 * (start + count) ≤ length (now points)) ⌝ }
-    ensures { λ r. ⌜ r ≡ walk 12 (inside-tests (take (nodes .count) (nodes .rows)) e (runs (points-from (now (points .entry)) start count))) (visits .0) ⌝ }
+    ensures { λ r. ⌜ told r (now (left .exit)) ≡ walk 12 (inside-tests (take (nodes .count) (nodes .rows)) e (runs (points-from (now (points .entry)) start count))) (now (left .entry)) ⌝ }
 {
     let n = nodes.count;
-    let mut left = visits;
     let mut i: usize = 0;
     while i + 1 < count {
-        let a = geometry::point_at(points, start + i);
-        let b = geometry::point_at(points, start + i + 1);
-        if geometry::is_slanted(a, b) {
-            return Verdict::Refused(12, left);
+        let run = geometry::route_run(points, start, count, i);
+        if geometry::is_slanted(run.start, run.end) {
+            return Finding::Refused(12);
         }
         let mut j: usize = 0;
         while j < n {
@@ -387,49 +515,73 @@ fn route_inside(
             if is_own(e, k) {
                 continue;
             }
-            let g = left.0;
-            if g == 0 {
-                return Verdict::Refused(14, left);
+            if !charge(&mut *left) {
+                return Finding::Refused(14);
             }
-            left = GeometryVisits(g - 1);
             let row = nodes.rows[k];
-            if geometry::run_passes_inside(a, b, row.body) {
-                return Verdict::Refused(12, left);
+            if geometry::run_passes_inside(run.start, run.end, row.body) {
+                return Finding::Refused(12);
             }
         }
         i += 1;
     }
-    Verdict::Clean(left)
+    Finding::Clean
 }
 
 // The routes that the mask chooses, in the order of the routes.
-pub fn verify_one_bundle_route_node_interiors(
+fn node_interiors(
+    left: &mut u32,
     nodes: Nodes,
     edges: Edges,
     mask: &[bool],
     points: &[f64],
     counts: &[usize],
-    visits: GeometryVisits,
-) -> Verdict
-    requires { ⌜ (nodes .count ≤ 128) × (edges .count ≤ 256) × (length (now counts) ≤ edges .count) × Slotted (now points) (now counts) (now mask) ⌝ }
-    ensures { λ r. ⌜ r ≡ walk 12 (over-routes (inside-route (take (nodes .count) (nodes .rows)) (take (edges .count) (edges .rows))) (chosen-by false (now (mask .entry))) (routes-of (now (points .entry)) (now (counts .entry))) 0) (visits .0) ⌝ }
+) -> Finding
+    requires { ⌜ InteriorTables nodes edges (now mask) (now points) (now counts) ⌝ }
+    ensures { λ r. ⌜ told r (now (left .exit)) ≡ walk 12 (interior-looks nodes edges (now (mask .entry)) (now (points .entry)) (now (counts .entry))) (now (left .entry)) ⌝ }
 {
-    let mut left = visits;
     let mut e: usize = 0;
     while e < counts.len() {
         let k = e;
         e += 1;
         if mask[k] {
-            let v = route_inside(nodes, edges.rows[k], points, 68 * k, counts[k], left);
-            match v {
-                Verdict::Refused(r, p) => {
-                    return Verdict::Refused(r, p);
-                }
-                Verdict::Clean(q) => {
-                    left = q;
-                }
+            let f = route_inside(nodes, edges.rows[k], points, 68 * k, counts[k], &mut *left);
+            if let Finding::Refused(r) = f {
+                return Finding::Refused(r);
             }
         }
     }
-    Verdict::Clean(left)
+    Finding::Clean
+}
+
+// The same, paid from a purse that is lent.
+pub fn verify_one_bundle_route_node_interiors(
+    purse: &mut GeometryVisits,
+    nodes: Nodes,
+    edges: Edges,
+    mask: &[bool],
+    points: &[f64],
+    counts: &[usize],
+) -> Finding
+    requires { ⌜ InteriorTables nodes edges (now mask) (now points) (now counts) ⌝ }
+    ensures { λ r. ⌜ told r (now (purse .exit) .0) ≡ walk 12 (interior-looks nodes edges (now (mask .entry)) (now (points .entry)) (now (counts .entry))) (now (purse .entry) .0) ⌝ }
+{
+    node_interiors(&mut purse.0, nodes, edges, mask, points, counts)
+}
+
+// The same, for a caller that has the visits: it makes the purse.
+pub fn interiors_paid(
+    visits: GeometryVisits,
+    nodes: Nodes,
+    edges: Edges,
+    mask: &[bool],
+    points: &[f64],
+    counts: &[usize],
+) -> Verdict
+    requires { ⌜ InteriorTables nodes edges (now mask) (now points) (now counts) ⌝ }
+    ensures { λ r. ⌜ r ≡ walk 12 (interior-looks nodes edges (now (mask .entry)) (now (points .entry)) (now (counts .entry))) (visits .0) ⌝ }
+{
+    let mut purse = visits;
+    let f = verify_one_bundle_route_node_interiors(&mut purse, nodes, edges, mask, points, counts);
+    with_left(f, purse)
 }

@@ -8,64 +8,73 @@ use native.Mathlib.Omega.{arith}
 use lib.ListN.{length, getD, set, replicate}
 use lib.Seq.{getD-set-same, getD-set-other}
 use lib.Dec.{eqb}
-use lib.Ieee.{Float}
+use lib.Ieee.{Float, nan}
 use borrow.Author.Tests.{eqb-true, eqb-false}
 use Rattle.board.specs.declared.Bundle.{Bundle}
 use Rattle.board.specs.declared.Member.{Member}
 use Rattle.board.specs.Board.{Board}
 use Rattle.plan.specs.declared.Bound.{Bound}
 use Rattle.plan.specs.declared.Bound.the-variants.{None, At}
-use Rattle.plan.specs.declared.Corridor.{Corridor}
 use Rattle.geometry.specs.declared.Role.{Role}
 use Rattle.plan.specs.Depths.{same-role, members-in, first-of, corridor-x, corridor-among, corridor-from}
-use Rattle.plan.specs.Tables.{corridor-at, no-corridor}
+use Rattle.plan.specs.Tables.{corridor-in}
 
 first-none : (o : Bound) → o ≡ first-of o None
 first-none None = refl
 first-none (At x) = refl
 
-again-first : (o : Bound) (x : Float) (r : Bound) → first-of (first-of o (At x)) r ≡ first-of o (At x)
-again-first None x r = refl
-again-first (At y) x r = refl
+module _ (b : Board) (u : Bundle) (offset : Float) (marks : List Bool) (xs : List Float) (m : Member) (at : ℕ) (ea : at ≡ m .edge) (e : ℕ) (ms l : List Member) (p : l ≡ m ∷ ms) where
+  rest : Bound
+  rest = corridor-among b u offset e ms
 
-module _ (b : Board) (u : Bundle) (offset : Float) (rows : List Corridor) (m : Member) (h : m .edge < length rows) (next : Bound) (en : next ≡ first-of (corridor-at rows (m .edge)) (At (corridor-x b u offset m))) where
-  pub among-turn : (e : ℕ) (ms l : List Member) → l ≡ m ∷ ms
-      → first-of (corridor-at (set rows (m .edge) (record { x = next })) e) (corridor-among b u offset e ms) ≡ first-of (corridor-at rows e) (corridor-among b u offset e l)
+  opened : first-of (corridor-in marks xs e) (cond (eqb at e) (At (corridor-x b u offset m)) (corridor-among b u offset e ms)) ≡ first-of (corridor-in marks xs e) (corridor-among b u offset e l)
   unfolding corridor-among
-  among-turn e ms l p = go (eqb (m .edge) e) refl ∙ sym (ap (λ (k : List Member). first-of (corridor-at rows e) (corridor-among b u offset e k)) p)
+  opened =
+      ap (λ (j : ℕ). first-of (corridor-in marks xs e) (cond (eqb j e) (At (corridor-x b u offset m)) (corridor-among b u offset e ms))) ea
+      ∙ sym (ap (λ (k : List Member). first-of (corridor-in marks xs e) (corridor-among b u offset e k)) p)
+
+  -- the edge has a corridor
+  pub among-known : getD marks at false ≡ true → first-of (corridor-in marks xs e) (corridor-among b u offset e ms) ≡ first-of (corridor-in marks xs e) (corridor-among b u offset e l)
+  among-known h = go (eqb at e) refl ∙ opened
     where
-      rest : Bound
-      rest = corridor-among b u offset e ms
+      go : (t : Bool) → eqb at e ≡ t → first-of (corridor-in marks xs e) (corridor-among b u offset e ms) ≡ first-of (corridor-in marks xs e) (cond (eqb at e) (At (corridor-x b u offset m)) (corridor-among b u offset e ms))
+      go true q = let y : getD marks e false ≡ true = ap (λ (j : ℕ). getD marks j false) (sym (eqb-true at e q)) ∙ h in rw y
+      go false q = rw q
 
-      go : (t : Bool) → eqb (m .edge) e ≡ t → first-of (corridor-at (set rows (m .edge) (record { x = next })) e) rest ≡ first-of (corridor-at rows e) (cond (eqb (m .edge) e) (At (corridor-x b u offset m)) rest)
+  -- it has none, and this is its first
+  pub among-new : (x : Float) → at < length marks → at < length xs → getD marks at false ≡ false → x ≡ corridor-x b u offset m
+      → first-of (corridor-in (set marks at true) (set xs at x) e) (corridor-among b u offset e ms) ≡ first-of (corridor-in marks xs e) (corridor-among b u offset e l)
+  among-new x hm hx h ex = go (eqb at e) refl ∙ opened
+    where
+      go : (t : Bool) → eqb at e ≡ t → first-of (corridor-in (set marks at true) (set xs at x) e) (corridor-among b u offset e ms)
+          ≡ first-of (corridor-in marks xs e) (cond (eqb at e) (At (corridor-x b u offset m)) (corridor-among b u offset e ms))
       go true q =
-          let k : m .edge ≡ e = eqb-true (m .edge) e q in
-          rw q
-          (ap (λ (j : ℕ). first-of (corridor-at (set rows (m .edge) (record { x = next })) j) rest) (sym k)
-          ∙ ap (λ (c : Corridor). first-of (c .x) rest) (getD-set-same rows (m .edge) (record { x = next }) no-corridor h)
-          ∙ ap (λ (o : Bound). first-of o rest) en
-          ∙ again-first (corridor-at rows (m .edge)) (corridor-x b u offset m) rest
-          ∙ ap (λ (j : ℕ). first-of (corridor-at rows j) (At (corridor-x b u offset m))) k)
+          let k : at ≡ e = eqb-true at e q in
+          let y : getD marks e false ≡ false = ap (λ (j : ℕ). getD marks j false) (sym k) ∙ h in
+          let z : getD (set marks at true) e false ≡ true = ap (λ (j : ℕ). getD (set marks at true) j false) (sym k) ∙ getD-set-same marks at true false hm in
+          let w : getD (set xs at x) e nan ≡ corridor-x b u offset m = ap (λ (j : ℕ). getD (set xs at x) j nan) (sym k) ∙ getD-set-same xs at x nan hx ∙ ex in
+          rw (q, y, z, w)
       go false q =
-          let k : e ≡ m .edge → ⊥ = λ p. eqb-false (m .edge) e q (sym p) in
-          rw q (ap (λ (c : Corridor). first-of (c .x) rest) (getD-set-other rows (m .edge) e (record { x = next }) no-corridor k))
+          let k : e ≡ at → ⊥ = λ p. eqb-false at e q (sym p) in
+          rw (q, getD-set-other marks at e true false k, getD-set-other xs at e x nan k)
 
-pub among-end : (b : Board) (u : Bundle) (offset : Float) (rows : List Corridor) (e : ℕ) (l : List Member) → l ≡ [] → corridor-at rows e ≡ first-of (corridor-at rows e) (corridor-among b u offset e l)
+pub among-end : (b : Board) (u : Bundle) (offset : Float) (o : Bound) (e : ℕ) (l : List Member) → l ≡ [] → o ≡ first-of o (corridor-among b u offset e l)
 unfolding corridor-among
-among-end b u offset rows e l p = first-none (corridor-at rows e) ∙ sym (ap (λ (k : List Member). first-of (corridor-at rows e) (corridor-among b u offset e k)) p)
+among-end b u offset o e l p = first-none o ∙ sym (ap (λ (k : List Member). first-of o (corridor-among b u offset e k)) p)
 
 -- ---- over the bundles
 first-assoc : (o p q : Bound) → first-of (first-of o p) q ≡ first-of o (first-of p q)
 first-assoc None p q = refl
 first-assoc (At x) p q = refl
 
-none-at : (n e : ℕ) → corridor-at (replicate n no-corridor) e ≡ None
-none-at zero e = refl
-none-at (suc n) zero = refl
-none-at (suc n) (suc e) = none-at n e
-
-pub from-start : (n e : ℕ) (r : Bound) → first-of (corridor-at (replicate n no-corridor) e) r ≡ r
-from-start n e r = ap (λ (o : Bound). first-of o r) (none-at n e)
+-- where nothing is marked there is no corridor
+pub none-marked : (n : ℕ) (xs : List Float) (e : ℕ) (r : Bound) → first-of (corridor-in (replicate n false) xs e) r ≡ r
+none-marked n xs e r = ap (λ (t : Bool). first-of (cond t (At (getD xs e nan)) None) r) (go n e)
+  where
+    go : (n e : ℕ) → getD (replicate n false) e false ≡ false
+    go zero e = refl
+    go (suc n) zero = refl
+    go (suc n) (suc e) = go n e
 
 module _ (b : Board) (role : Role) (e : ℕ) (u : Bundle) (d : Float) (us l : List Bundle) (ds k : List Float) (p : l ≡ u ∷ us) (q : k ≡ d ∷ ds) where
   both : corridor-from b role e l k ≡ corridor-from b role e (u ∷ us) (d ∷ ds)

@@ -34,14 +34,14 @@ unfolding last-x points-from
 end-none Input s a n e = sym (ap (λ (k : ℕ). last-x (points-from s a k)) e)
 end-none Output s a n e = sym (ap (λ (k : ℕ). first-x (points-from s a k)) e)
 
-pub end-last : (s : List Float) (a n : ℕ) → 0 < n → At (point-at s (a + n - 1) .x) ≡ last-x (points-from s a n)
+pub end-last : (s : List Float) (a n : ℕ) → 0 < n → At (point-at s (a + (n - 1)) .x) ≡ last-x (points-from s a n)
 end-last s a zero h = absurd (omega arith)
-end-last s a (suc n) h = let e : a + suc n - 1 ≡ a + n = omega arith in ap (λ (i : ℕ). At (point-at s i .x)) e ∙ sym (last-from s a n)
+end-last s a (suc n) h = let e : a + (suc n - 1) ≡ a + n = omega arith in ap (λ (i : ℕ). At (point-at s i .x)) e ∙ sym (last-from s a n)
 
-pub end-first : (s : List Float) (a n : ℕ) → 0 < n → At (point-at s a .x) ≡ first-x (points-from s a n)
+pub end-first : (s : List Float) (a n : ℕ) → 0 < n → At (point-at s (a + 0) .x) ≡ first-x (points-from s a n)
 unfolding points-from
 end-first s a zero h = absurd (omega arith)
-end-first s a (suc n) h = refl
+end-first s a (suc n) h = let e : a + 0 ≡ a = omega arith in rw e
 
 -- ---- a turn over the members
 module _ (b : Board) (given : List Route) where

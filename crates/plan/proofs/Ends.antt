@@ -10,10 +10,10 @@ use lib.Seq.{getD-take, getD-drop}
 use lib.Dec.{eqb}
 use lib.Ieee.{Float}
 use borrow.Author.Tests.{eq-eqb, ne-eqb}
-use Rattle.geometry.specs.declared.Point.{Point}
 use Rattle.geometry.specs.declared.Role.{Role}
+use Rattle.geometry.specs.declared.Segment.{Segment}
 use Rattle.geometry.specs.declared.Stretch.{Stretch}
-use Rattle.geometry.specs.Points.{Route, point-at, points-from}
+use Rattle.geometry.specs.Points.{Route, point-at, run-at, points-from}
 use Rattle.geometry.specs.Stretch.{stretch, holds}
 use Rattle.board.specs.Board.{window}
 use Rattle.search.specs.Stretches.{routes}
@@ -38,13 +38,13 @@ module _ (role : Role) (pitch x : Float) (s : List Float) where
       ap (λ (j : ℕ). cond (holds x (stretch role pitch (point-at s a) (point-at s j))) (At (point-at s j .x)) (diverges-at role pitch x (points-from s j (suc k)))) e
       ∙ ap (λ (j : ℕ). cond (holds x (stretch role pitch (point-at s a) (point-at s (a + 1)))) (At (point-at s (a + 1) .x)) (diverges-at role pitch x (points-from s (a + 1) j))) f
 
-  module _ (a k : ℕ) (h : 1 < k) (p q : Point) (ep : p ≡ point-at s a) (eq : q ≡ point-at s (a + 1)) (t : Stretch) (et : t ≡ stretch role pitch p q) (r : Bool) (er : r ≡ holds x t) where
+  module _ (a k : ℕ) (h : 1 < k) (g : Segment) (eg : g ≡ run-at s a) (t : Stretch) (et : t ≡ stretch role pitch (g .start) (g .end)) (r : Bool) (er : r ≡ holds x t) where
     tested : r ≡ holds x (stretch role pitch (point-at s a) (point-at s (a + 1)))
-    tested = er ∙ ap (holds x) (et ∙ ap (λ (z : Point). stretch role pitch z q) ep ∙ ap (stretch role pitch (point-at s a)) eq)
+    tested = er ∙ ap (holds x) (et ∙ ap (λ (z : Segment). stretch role pitch (z .start) (z .end)) eg)
 
-    pub ends-here : r ≡ true → At (q .x) ≡ diverges-at role pitch x (points-from s a k)
+    pub ends-here : r ≡ true → At (g .end .x) ≡ diverges-at role pitch x (points-from s a k)
     ends-here y =
-        ap (λ (z : Point). At (z .x)) eq
+        ap (λ (z : Segment). At (z .end .x)) eg
         ∙ sym (test a k h ∙ ap (λ (b : Bool). cond b (At (point-at s (a + 1) .x)) (diverges-at role pitch x (points-from s (a + 1) (k - 1)))) (sym tested ∙ y))
 
     pub ends-later : r ≡ false → diverges-at role pitch x (points-from s (a + 1) (k - 1)) ≡ diverges-at role pitch x (points-from s a k)

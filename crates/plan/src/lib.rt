@@ -6,12 +6,13 @@ ghost use mathlib.Core.Path.{_≡_};
 ghost use mathlib.Core.Bool.{true};
 ghost use mathlib.Core.List.{List, [], _∷_, map};
 ghost use Rattle.board.specs.declared.Edge.{Edge};
-ghost use Prim.Native.Nat.{ℕ, _+_, _*_, _≤_, _<_};
+ghost use Rattle.board.specs.declared.Member.{Member};
+ghost use Rattle.geometry.specs.declared.Role.the-variants.{Input, Output};
+ghost use Prim.Native.Nat.{ℕ, _+_, _-_, _*_, _≤_, _<_};
 ghost use lib.ListN.{length, take, drop, set, getD};
 ghost use Rattle.plan.specs.Depths.{past, lanes-past, further, used-by, used, inward};
-ghost use Rattle.plan.specs.Depths.{lane-count, offsets-of, _⊕_, number, first-of, endpoint-of, pitch-of, same-role, corridor-among, corridor-from};
-ghost use Rattle.plan.specs.Tables.{deeper, board-of, no-member, Sound, corridor-at};
-ghost use Rattle.plan.specs.declared.Bound.the-variants.{At};
+ghost use Rattle.plan.specs.Depths.{lane-count, offsets-of, _⊕_, number, first-of, endpoint-of, pitch-of, same-role, corridor-among, corridor-from, corridor-of};
+ghost use Rattle.plan.specs.Tables.{deeper, board-of, no-member, Sound, corridor-in};
 ghost use Rattle.board.specs.Board.{Board, window, rail-depth};
 ghost use lib.Ieee as Ieee;
 ghost use lib.Ieee.{Float, binary64};
@@ -19,7 +20,7 @@ ghost use Rattle.geometry.specs.Points.{Route, points-from};
 ghost use Rattle.plan.specs.declared.Bound.the-variants.{None};
 ghost use Rattle.plan.specs.Depths.{members-in};
 ghost use Rattle.plan.specs.Bounds.{if-at, reach-all, bounds-of};
-ghost use Rattle.plan.specs.Prepared.{other, end-x, Inside, Searchable, Among, Routed, Windowed, Cornered, Tells, AllTell, AllAmong, RangedBy, passed, Listing, SameBundles, x-of, plan-in, upper-at, EdgesOf, RangesAmong, TabledTo, ranged-from};
+ghost use Rattle.plan.specs.Prepared.{other, end-x, Inside, Searchable, Among, Below, AllBelow, Rowed, Ended, Routed, Windowed, Cornered, Tells, AllTell, AllAmong, RangedBy, passed, Listing, SameBundles, x-of, plan-in, upper-at, EdgesOf, RangesAmong, TabledTo, ranged-from};
 ghost use Rattle.plan.specs.Over.{divergence-over, has, meet};
 ghost use Rattle.search.specs.Stretches.{routes};
 ghost use Rattle.plan.specs.Plan.{diverges-at, seek-in, seek, narrowed, first-pass, Ranged, asked, required, found-x, again, found?, joined};
@@ -29,6 +30,7 @@ ghost use Rattle.plan.specs.Plan.{push-all, walk};
 ghost use Rattle.plan.specs.Stack.{row-of, walk-of, component-from, room};
 use board::Bundle;
 use board::Bundles;
+use board::Member;
 use board::Members;
 use board::Nodes;
 use board::Options;
@@ -61,16 +63,6 @@ pub struct Deeper {
 // A number for each bundle.
 pub struct Offsets {
     pub rows: [f64; 32],
-}
-
-// The corridor of an edge, if it has one.
-pub struct Corridor {
-    pub x: Bound,
-}
-
-// The corridors of the edges, for bundles of one role.
-pub struct Corridors {
-    pub rows: [Corridor; 256],
 }
 
 // A bundle, where its port stands, and how far its members let its collector go.
@@ -252,19 +244,25 @@ fn deepen(pitch: f64, depth: f64, lanes: u32, role: Role, w: Used) -> Deeper
     }
 }
 
-// The lane after the last member's, or 0.
-fn lane_count(members: Members, u: Bundle) -> u32
-    requires { ⌜ (members .count ≤ 256) × (u .first + u .count ≤ members .count) ⌝ }
-    requires { ⌜ ((i : ℕ) → i < members .count → getD (members .rows) i no-member .«tap_lane» ≤ 255) ⌝ }
-    ensures { λ r. ⌜ r ≡ lane-count (take (u .count) (drop (u .first) (take (members .count) (members .rows)))) ⌝ }
+// The place before one, or 0.
+fn place_before(n: usize) -> usize
+    ensures { λ r. ⌜ r ≡ n - 1 ⌝ }
 {
-    let k = u.count;
-    if k == 0 {
+    if n == 0 {
         return 0;
     }
-    let at = u.first + k - 1;
-    let m = members.rows[at];
-    m.tap_lane + 1
+    n - 1
+}
+
+// The lane after the last member's, or 0 where there is no member.
+fn lane_count(count: usize, last: Member) -> u32
+    requires { ⌜ (0 < count → last .«tap_lane» ≤ 255) ⌝ }
+    ensures { λ r. ⌜ ((rows : List Member) (n first : ℕ) → n ≤ length rows → first + count ≤ n → getD rows (first + count - 1) no-member ≡ last → r ≡ lane-count (take count (drop first (take n rows)))) ⌝ }
+{
+    if count == 0 {
+        return 0;
+    }
+    last.tap_lane + 1
 }
 
 // Additional depth of each bundle's corridors.
@@ -294,7 +292,9 @@ pub fn corridor_depth_offsets(
         let node = nodes.rows[on];
         let body = node.body;
         let depth = body.width + rail;
-        let lanes = lane_count(members, u);
+        let last = place_before(u.first + u.count);
+        let m = members.rows[last];
+        let lanes = lane_count(u.count, m);
         let pitch = board::pitch_of_bundle(o, u);
         let role = u.role;
         let d = deepen(pitch, depth, lanes, role, w);
@@ -307,13 +307,16 @@ pub fn corridor_depth_offsets(
 
 // ---- fallback_corridors_by_edge
 
-fn first_of(b: Bound, x: f64) -> Bound
-    ensures { λ r. ⌜ r ≡ first-of b (At x) ⌝ }
+// The corridor of an edge, if one is marked.
+pub fn corridor_at(marks: &[bool; 256], xs: &[f64; 256], e: usize) -> Bound
+    requires { ⌜ e < 256 ⌝ }
+    ensures { λ r. ⌜ r ≡ corridor-in (now (marks .entry)) (now (xs .entry)) e ⌝ }
 {
-    match b {
-        Bound::None => Bound::At(x),
-        Bound::At(y) => Bound::At(y),
+    if marks[e] {
+        let x = xs[e];
+        return Bound::At(x);
     }
+    Bound::None
 }
 
 // The corridor of a member on a lane, from the tap's side on.
@@ -330,31 +333,30 @@ fn add_corridors(
     tap: f64,
     offset: f64,
     pitch: f64,
-    members: Members,
+    edges: &[usize; 256],
+    lanes: &[u32; 256],
     u: Bundle,
-    before: Corridors,
-) -> Corridors
-    requires { ⌜ (members .count ≤ 256) × (u .first + u .count ≤ members .count) ⌝ }
-    requires { ⌜ ((i : ℕ) → i < members .count → getD (members .rows) i no-member .«tap_lane» ≤ 255) ⌝ }
-    requires { ⌜ ((i : ℕ) → i < members .count → getD (members .rows) i no-member .edge < 256) ⌝ }
-    ensures { λ r. ⌜ ((b : Board) (e : ℕ) → tap ≡ inward (u .role) (endpoint-of b u .x) (rail-depth (b .options)) → pitch ≡ pitch-of b u → corridor-at (r .rows) e ≡ first-of (corridor-at (before .rows) e) (corridor-among b u offset e (take (u .count) (drop (u .first) (take (members .count) (members .rows)))))) ⌝ }
+    marks: &mut [bool],
+    xs: &mut [f64],
+)
+    requires { ⌜ Below (now edges) u × Below (now lanes) u ⌝ }
+    requires { ⌜ (length (now marks) ≡ 256) × (length (now xs) ≡ 256) ⌝ }
+    ensures { λ _. ⌜ ((b : Board) (e : ℕ) → Rowed b (now (edges .entry)) (now (lanes .entry)) → u .first + u .count ≤ length (b .members) → tap ≡ inward (u .role) (endpoint-of b u .x) (rail-depth (b .options)) → pitch ≡ pitch-of b u → corridor-in (now (marks .exit)) (now (xs .exit)) e ≡ first-of (corridor-in (now (marks .entry)) (now (xs .entry)) e) (corridor-among b u offset e (members-in b u))) ⌝ }
 {
     let role = u.role;
     let first = u.first;
     let n = u.count;
-    let mut rows = before.rows;
     let mut i: usize = 0;
     while i < n {
-        let m = members.rows[first + i];
-        let at = m.edge;
-        let x = corridor_x(role, tap, offset, pitch, m.tap_lane);
-        let old = rows[at];
-        let known = old.x;
-        let next = first_of(known, x);
-        rows[at] = Corridor { x: next };
+        let k = first + i;
+        let at = edges[k];
+        let x = corridor_x(role, tap, offset, pitch, lanes[k]);
         i += 1;
+        if !marks[at] {
+            marks[at] = true;
+            xs[at] = x;
+        }
     }
-    Corridors { rows: rows }
 }
 
 pub fn is_same_role(a: Role, b: Role) -> bool
@@ -372,42 +374,47 @@ pub fn is_same_role(a: Role, b: Role) -> bool
     }
 }
 
-// The corridors of the edges for one role, given each bundle's offset.
+// The corridors of the edges for one role, given each bundle's endpoint and offset: what is marked
+// stays, and the rest is put beside it.
 pub fn fallback_corridors_by_edge(
     role: Role,
     o: Options,
-    nodes: Nodes,
-    ports: Ports,
     bundles: Bundles,
-    members: Members,
+    ends: Offsets,
+    edges: &[usize; 256],
+    lanes: &[u32; 256],
     offsets: Offsets,
-) -> Corridors
-    requires { ⌜ Sound nodes ports bundles members ⌝ }
-    ensures { λ r. ⌜ ((edges : List Edge) (e : ℕ) → corridor-at (r .rows) e ≡ corridor-from (board-of o nodes ports edges bundles members) role e (take (bundles .count) (bundles .rows)) (take (bundles .count) (offsets .rows))) ⌝ }
+    marks: &mut [bool],
+    xs: &mut [f64],
+)
+    requires { ⌜ AllBelow (now edges) bundles × AllBelow (now lanes) bundles ⌝ }
+    requires { ⌜ (length (now marks) ≡ 256) × (length (now xs) ≡ 256) ⌝ }
+    ensures { λ _. ⌜ ((b : Board) (e : ℕ) → Rowed b (now (edges .entry)) (now (lanes .entry)) → Ended b o bundles (ends .rows) → corridor-in (now (marks .exit)) (now (xs .exit)) e ≡ first-of (corridor-in (now (marks .entry)) (now (xs .entry)) e) (corridor-from b role e (take (bundles .count) (bundles .rows)) (take (bundles .count) (offsets .rows)))) ⌝ }
 {
     let rail = board::boundary_bundle_rail_depth(o);
-    let mut table = Corridors {
-        rows: [Corridor { x: Bound::None }; 256],
-    };
     let n = bundles.count;
     let mut i: usize = 0;
     while i < n {
         let u = bundles.rows[i];
+        let end = ends.rows[i];
         let offset = offsets.rows[i];
         i += 1;
         let mine = u.role;
         if is_same_role(mine, role) {
-            let at = u.port;
-            let p = ports.rows[at];
-            let on = p.node;
-            let node = nodes.rows[on];
-            let end = board::endpoint_of(node, p);
-            let tap = inward(mine, end.x, rail);
+            let tap = inward(mine, end, rail);
             let pitch = board::pitch_of_bundle(o, u);
-            table = add_corridors(tap, offset, pitch, members, u, table);
+            add_corridors(
+                tap,
+                offset,
+                pitch,
+                edges,
+                lanes,
+                u,
+                &mut marks[..],
+                &mut xs[..],
+            );
         }
     }
-    table
 }
 
 // ---- interior_collector_bounds
@@ -455,13 +462,40 @@ fn end_x(role: Role, points: &[f64], start: usize, count: usize) -> Bound
     }
     match role {
         Role::Input => {
-            let p = geometry::point_at(points, start + count - 1);
+            let p = geometry::route_last(points, start, count);
             Bound::At(p.x)
         }
         Role::Output => {
-            let p = geometry::point_at(points, start);
+            let p = geometry::route_point(points, start, count, 0);
             Bound::At(p.x)
         }
+    }
+}
+
+fn other(role: Role) -> Role
+    ensures { λ r. ⌜ r ≡ other role ⌝ }
+{
+    match role {
+        Role::Input => Role::Output,
+        Role::Output => Role::Input,
+    }
+}
+
+// The corridor of an edge for a role, from those of both.
+pub fn corridor_of(
+    role: Role,
+    in_marks: &[bool; 256],
+    in_xs: &[f64; 256],
+    out_marks: &[bool; 256],
+    out_xs: &[f64; 256],
+    e: usize,
+) -> Bound
+    requires { ⌜ e < 256 ⌝ }
+    ensures { λ r. ⌜ ((b : Board) → Cornered b Input (now («in_marks» .entry)) (now («in_xs» .entry)) → Cornered b Output (now («out_marks» .entry)) (now («out_xs» .entry)) → r ≡ corridor-of b role e) ⌝ }
+{
+    match role {
+        Role::Input => corridor_at(in_marks, in_xs, e),
+        Role::Output => corridor_at(out_marks, out_xs, e),
     }
 }
 
@@ -472,25 +506,25 @@ pub fn reach_all(
     points: &[f64],
     starts: &[usize; 256],
     counts: &[usize; 256],
-    corridors: Corridors,
-    members: Members,
+    edges: &[usize; 256],
+    in_marks: &[bool; 256],
+    in_xs: &[f64; 256],
+    out_marks: &[bool; 256],
+    out_xs: &[f64; 256],
     u: Bundle,
 ) -> Bound
-    requires { ⌜ (members .count ≤ 256) × (u .first + u .count ≤ members .count) ⌝ }
-    requires { ⌜ ((i : ℕ) → i < members .count → getD (members .rows) i no-member .edge < 256) ⌝ }
-    requires { ⌜ Inside (now points) (now starts) (now counts) (members .count) ⌝ }
-    ensures { λ r. ⌜ ((b : Board) (given : List Route) → reserve ≡ b .options .«member_endpoint_reserve» → Windowed b given (now (points .entry)) (now (starts .entry)) (now (counts .entry)) members → Cornered b (other role) (corridors .rows) → r ≡ reach-all b given role None (members-in b u)) ⌝ }
+    requires { ⌜ Below (now edges) u × Inside (now points) (now starts) (now counts) 256 ⌝ }
+    ensures { λ r. ⌜ ((b : Board) (given : List Route) (lanes : List ℕ) → reserve ≡ b .options .«member_endpoint_reserve» → Rowed b (now (edges .entry)) lanes → u .first + u .count ≤ length (b .members) → Windowed b given (now (points .entry)) (now (starts .entry)) (now (counts .entry)) → Cornered b Input (now («in_marks» .entry)) (now («in_xs» .entry)) → Cornered b Output (now («out_marks» .entry)) (now («out_xs» .entry)) → r ≡ reach-all b given role None (members-in b u)) ⌝ }
 {
+    let across = other(role);
     let first = u.first;
     let n = u.count;
     let mut d = Bound::None;
     let mut i: usize = 0;
     while i < n {
         let k = first + i;
-        let m = members.rows[k];
-        let at = m.edge;
-        let c = corridors.rows[at];
-        let corridor = c.x;
+        let at = edges[k];
+        let corridor = corridor_of(across, in_marks, in_xs, out_marks, out_xs, at);
         let start = starts[k];
         let count = counts[k];
         let end = end_x(role, points, start, count);
@@ -773,12 +807,11 @@ fn run_end(role: Role, pitch: f64, x: f64, points: &[f64], start: usize, count: 
 {
     let mut i: usize = 0;
     while i + 1 < count {
-        let a = geometry::point_at(points, start + i);
-        let b = geometry::point_at(points, start + i + 1);
-        let s = geometry::shared_trunk_horizontal_range(a, b, role, pitch);
+        let run = geometry::route_run(points, start, count, i);
+        let s = geometry::shared_trunk_horizontal_range(run.start, run.end, role, pitch);
         i += 1;
         if geometry::stretch_holds(s, x) {
-            return Bound::At(b.x);
+            return Bound::At(run.end.x);
         }
     }
     Bound::None

@@ -11,7 +11,6 @@ use board::Members;
 use geometry::Role;
 use job::Job;
 use plan::Bound;
-use plan::Corridors;
 use plan::Planned;
 use plan::Planning;
 use plan::Reaches;
@@ -93,19 +92,27 @@ fn put_corridor(out: &mut [u8], at: usize, x: Bound) -> usize {
 }
 
 // The corridors of a bundle's members.
-fn put_members(u: Bundle, members: Members, t: Corridors, out: &mut [u8], from: usize) -> usize
+fn put_members(
+    u: Bundle,
+    members: Members,
+    in_marks: &[bool; 256],
+    in_xs: &[f64; 256],
+    out_marks: &[bool; 256],
+    out_xs: &[f64; 256],
+    out: &mut [u8],
+    from: usize,
+) -> usize
     requires { ⌜ (members .count ≤ 256) × (u .first + u .count ≤ members .count) ⌝ }
     requires { ⌜ ((i : ℕ) → i < members .count → getD (members .rows) i no-member .edge < 256) ⌝ }
 {
+    let role = u.role;
     let first = u.first;
     let n = u.count;
     let mut at = put_count(&mut out[..], from, n);
     let mut i: usize = 0;
     while i < n {
         let m = members.rows[first + i];
-        let e = m.edge;
-        let c = t.rows[e];
-        let x = c.x;
+        let x = plan::corridor_of(role, in_marks, in_xs, out_marks, out_xs, m.edge);
         at = put_corridor(&mut out[..], at, x);
         i += 1;
     }
@@ -113,7 +120,15 @@ fn put_members(u: Bundle, members: Members, t: Corridors, out: &mut [u8], from: 
 }
 
 // The corridors of all bundles, from those of both roles.
-fn put_bundles(j: Job, a: Corridors, b: Corridors, out: &mut [u8], from: usize) -> usize
+fn put_bundles(
+    j: Job,
+    in_marks: &[bool; 256],
+    in_xs: &[f64; 256],
+    out_marks: &[bool; 256],
+    out_xs: &[f64; 256],
+    out: &mut [u8],
+    from: usize,
+) -> usize
     requires { ⌜ Sound (j .nodes) (j .ports) (j .bundles) (j .members) ⌝ }
 {
     let bundles = j.bundles;
@@ -123,37 +138,66 @@ fn put_bundles(j: Job, a: Corridors, b: Corridors, out: &mut [u8], from: usize) 
     let mut i: usize = 0;
     while i < n {
         let u = bundles.rows[i];
-        let role = u.role;
-        let mine = planner::corridors_of(role, a, b);
-        at = put_members(u, members, mine, &mut out[..], at);
+        at = put_members(
+            u,
+            members,
+            in_marks,
+            in_xs,
+            out_marks,
+            out_xs,
+            &mut out[..],
+            at,
+        );
         i += 1;
     }
     at
 }
 
 fn put_corridors(j: Job, out: &mut [u8], at: usize) -> usize
-    requires { ⌜ Sound (j .nodes) (j .ports) (j .bundles) (j .members) ⌝ }
+    requires { ⌜ Sound (j .nodes) (j .ports) (j .bundles) (j .members) × (j .edges .count ≤ 256) ⌝ }
+    requires { ⌜ ((i : ℕ) → i < j .members .count → getD (j .members .rows) i no-member .edge < j .edges .count) ⌝ }
 {
-    let t = plan::corridor_depth_offsets(j.options, j.nodes, j.ports, j.bundles, j.members);
-    let a = plan::fallback_corridors_by_edge(
+    let mut starts = [0; 256];
+    let mut counts = [0; 256];
+    let mut edges = [0; 256];
+    let mut lanes = [0; 256];
+    planner::member_rows(
+        j.edges,
+        j.members,
+        &mut starts[..],
+        &mut counts[..],
+        &mut edges[..],
+        &mut lanes[..],
+    );
+    let offsets = plan::corridor_depth_offsets(j.options, j.nodes, j.ports, j.bundles, j.members);
+    let ends = planner::bundle_ends(j.nodes, j.ports, j.bundles);
+    let mut in_marks = [false; 256];
+    let mut in_xs = [0.0; 256];
+    plan::fallback_corridors_by_edge(
         Role::Input,
         j.options,
-        j.nodes,
-        j.ports,
         j.bundles,
-        j.members,
-        t,
+        ends,
+        &edges,
+        &lanes,
+        offsets,
+        &mut in_marks[..],
+        &mut in_xs[..],
     );
-    let b = plan::fallback_corridors_by_edge(
+    let mut out_marks = [false; 256];
+    let mut out_xs = [0.0; 256];
+    plan::fallback_corridors_by_edge(
         Role::Output,
         j.options,
-        j.nodes,
-        j.ports,
         j.bundles,
-        j.members,
-        t,
+        ends,
+        &edges,
+        &lanes,
+        offsets,
+        &mut out_marks[..],
+        &mut out_xs[..],
     );
-    put_bundles(j, a, b, &mut out[..], at)
+    put_bundles(j, &in_marks, &in_xs, &out_marks, &out_xs, &mut out[..], at)
 }
 
 // ---- 33, 34: bounds, and searches between them
@@ -503,9 +547,18 @@ fn put_routed(
     requires { ⌜ Sound (j .nodes) (j .ports) (j .bundles) (j .members) × RoutesIn (now points) (j .edges) (j .members) ⌝ }
     requires { ⌜ (4096 < length (now xs)) × (length (now xs) ≤ length (now scratch)) ⌝ }
 {
-    let w = planner::member_rows(j.edges, j.members);
-    let starts = w.starts;
-    let counts = w.counts;
+    let mut starts = [0; 256];
+    let mut counts = [0; 256];
+    let mut edges = [0; 256];
+    let mut lanes = [0; 256];
+    planner::member_rows(
+        j.edges,
+        j.members,
+        &mut starts[..],
+        &mut counts[..],
+        &mut edges[..],
+        &mut lanes[..],
+    );
     let t = planner::reach_bundles(
         j.options,
         j.nodes,
@@ -515,6 +568,8 @@ fn put_routed(
         points,
         &starts,
         &counts,
+        &edges,
+        &lanes,
     );
     let rail = board::boundary_bundle_rail_depth(j.options);
     let pitch = board::pitch_of_sheet(j.options);

@@ -17,6 +17,7 @@ use Rattle.board.specs.declared.Members.{Members}
 use Rattle.board.specs.declared.Options.{Options}
 use Rattle.board.specs.declared.Nodes.{Nodes}
 use Rattle.board.specs.declared.Ports.{Ports}
+use Rattle.board.specs.declared.Edge.{Edge}
 use Rattle.board.specs.declared.Edges.{Edges}
 use Rattle.board.specs.declared.Bundles.{Bundles}
 use Rattle.board.specs.Board.{Board, window}
@@ -26,9 +27,9 @@ use Rattle.plan.specs.declared.Reached.{Reached}
 use Rattle.plan.specs.declared.Reaches.{Reaches}
 use Rattle.plan.specs.Tables.{no-member, no-bundle, no-edge, board-of, given-route, given-routes, Sound, RoutesIn}
 use Rattle.plan.specs.Over.{edge-of}
-use Rattle.plan.specs.Prepared.{Inside, Windowed, Routed, AllAmong, no-reached, reached-at, bundle-of}
+use Rattle.plan.specs.Prepared.{Inside, AllBelow, Rowed, Ended, Windowed, Routed, AllAmong, no-reached, reached-at, bundle-of}
 use Rattle.plan.proofs.Rows.{length-part, getD-any}
-use Rattle.planner.specs.Members.{member-at, RowsOf, Listed, EdgesIn}
+use Rattle.planner.specs.Members.{member-at, Clear, RowsOf, MembersIn, Standing, EndsOf, Listed, EdgesIn}
 
 -- ---- a table filled from its front
 
@@ -52,21 +53,18 @@ blank (suc n) d (suc j) = blank n d j
 pub window-cons : {A : Type 0} (l : List A) (first k : ℕ) (d : A) → first < length l → window first (suc k) l ≡ getD l first d ∷ window (suc first) k l
 window-cons l first k d h = ap (take (suc k)) (drop-cons l first d h)
 
-module _ (b : Board) (given : List Route) (points : List Float) (starts counts : List ℕ) (members : Members) (w : Windowed b given points starts counts members)
-    (ks : members .count ≤ length starts) (kc : members .count ≤ length counts) (km : members .count ≤ length (members .rows)) where
-  routes-are : (k first : ℕ) → first + k ≤ members .count → routes points (window first k starts) (window first k counts) ≡ map (route-of b given) (window first k (take (members .count) (members .rows)))
+module _ (b : Board) (given : List Route) (points : List Float) (starts counts : List ℕ) (w : Windowed b given points starts counts) (ks : length (b .members) ≤ length starts) (kc : length (b .members) ≤ length counts) where
+  routes-are : (k first : ℕ) → first + k ≤ length (b .members) → routes points (window first k starts) (window first k counts) ≡ map (route-of b given) (window first k (b .members))
   unfolding routes
   routes-are zero first h = refl
   routes-are (suc k) first h =
-      let n = members .count in
-      let low : first < n = omega arith in
-      let lm = length-part (members .rows) n km in
-      rw (window-cons starts first k 0 (omega arith), window-cons counts first k 0 (omega arith), window-cons (take n (members .rows)) first k no-member (omega (arith, lm)))
-      (ap (λ (r : Route). r ∷ routes points (window (suc first) k starts) (window (suc first) k counts)) (w .routes-are first low ∙ ap (route-of b given) (sym (getD-take n (members .rows) first no-member low)))
-      ∙ ap (λ (rs : List Route). route-of b given (getD (take n (members .rows)) first no-member) ∷ rs) (routes-are k (suc first) (omega arith)))
+      let low : first < length (b .members) = omega arith in
+      rw (window-cons starts first k 0 (omega arith), window-cons counts first k 0 (omega arith), window-cons (b .members) first k no-member low)
+      (ap (λ (r : Route). r ∷ routes points (window (suc first) k starts) (window (suc first) k counts)) (w .routes-are first low)
+      ∙ ap (λ (rs : List Route). route-of b given (getD (b .members) first no-member) ∷ rs) (routes-are k (suc first) (omega arith)))
 
-  pub routed : (u : Bundle) → u .first + u .count ≤ members .count → Routed b given points starts counts u
-  routed u h = record { routes-are = routes-are (u .count) (u .first) h ∙ ap (λ (l : List Member). map (route-of b given) (window (u .first) (u .count) l)) (sym (w .members-are)) }
+  pub routed : (u : Bundle) → u .first + u .count ≤ length (b .members) → Routed b given points starts counts u
+  routed u h = record { routes-are = routes-are (u .count) (u .first) h }
 
 -- ---- the rows of the bundles
 
@@ -77,10 +75,56 @@ same-rows (suc n) (u ∷ l) [] h k e = absurd (omega arith)
 same-rows (suc n) (u ∷ l) (r ∷ rows) h k e =
     ap (λ (z : Bundle). z ∷ take n l) (sym (e 0 (omega arith))) ∙ ap (λ (z : List Bundle). r .bundle ∷ z) (same-rows n l rows (omega arith) (omega arith) (λ j m. e (suc j) (omega arith)))
 
+-- ---- what the plan asks of its rows
+
+pub standing : (nodes : Nodes) (ports : Ports) (bundles : Bundles) (members : Members) → Sound nodes ports bundles members → Standing nodes ports bundles
+standing nodes ports bundles members s = record { nodes-few = s .nodes-few; ports-few = s .ports-few; bundles-few = s .bundles-few; ports-on = s .ports-on; bundles-on = λ i h. s .bundles-on i h .port-in }
+
+pub clear : Clear (replicate 256 0)
+clear = record { long = refl; none = blank 256 0 }
+
+module _ (nodes : Nodes) (ports : Ports) (bundles : Bundles) (members : Members) (sound : Sound nodes ports bundles members) (edges lanes : List ℕ) (m : MembersIn members edges lanes) where
+  fits : (i : ℕ) (h : i < bundles .count) → getD (bundles .rows) i no-bundle .first + getD (bundles .rows) i no-bundle .count ≤ 256
+  fits i h = omega (arith, sound .bundles-on i h .members-in, sound .members-few)
+
+  there : (i : ℕ) (h : i < bundles .count) (j : ℕ) → j < getD (bundles .rows) i no-bundle .count → getD (bundles .rows) i no-bundle .first + j < members .count
+  there i h j k = omega (arith, k, sound .bundles-on i h .members-in)
+
+  pub edges-below : AllBelow edges bundles
+  edges-below = record {
+    bundles-few = sound .bundles-few;
+    each = λ i h. record { fits = fits i h; low = λ j k. omega (arith, m .edge-is _ (there i h j k), sound .edges-low _ (there i h j k)) };
+  }
+
+  pub lanes-below : AllBelow lanes bundles
+  lanes-below = record {
+    bundles-few = sound .bundles-few;
+    each = λ i h. record { fits = fits i h; low = λ j k. omega (arith, m .lane-is _ (there i h j k), sound .lanes-few _ (there i h j k)) };
+  }
+
+  module _ (o : Options) (table : List Edge) (km : members .count ≤ length (members .rows)) where
+    long : length (take (members .count) (members .rows)) ≡ members .count
+    long = length-part (members .rows) (members .count) km
+
+    pub rowed : Rowed (board-of o nodes ports table bundles members) edges lanes
+    rowed = record {
+      few = omega (arith, long, sound .members-few);
+      edge-is = λ i h. let k : i < members .count = omega (arith, h, long) in m .edge-is i k ∙ ap edge-of (sym (getD-take (members .count) (members .rows) i no-member k));
+      lane-is = λ i h. let k : i < members .count = omega (arith, h, long) in m .lane-is i k ∙ ap (λ (z : Member). z .«tap_lane») (sym (getD-take (members .count) (members .rows) i no-member k));
+    }
+
+    pub ended : (ends : List Float) → EndsOf nodes ports bundles ends → Ended (board-of o nodes ports table bundles members) o bundles ends
+    ended ends e = record {
+      options-are = refl;
+      bundles-are = refl;
+      members-in = λ i h. omega (arith, sound .bundles-on i h .members-in, long);
+      end-is = e .end-is (board-of o nodes ports table bundles members) refl refl;
+    }
+
 -- ---- the members' rows
 
-module _ (o : Options) (nodes : Nodes) (ports : Ports) (table : Edges) (bundles : Bundles) (members : Members) (points : List Float) (starts counts edges : List ℕ)
-    (w : RowsOf table members starts counts edges) (few : members .count ≤ 256) (in-table : RoutesIn points table members) (kt : table .count ≤ length (table .rows)) (km : members .count ≤ length (members .rows)) where
+module _ (o : Options) (nodes : Nodes) (ports : Ports) (table : Edges) (bundles : Bundles) (members : Members) (points : List Float) (starts counts edges lanes : List ℕ)
+    (w : RowsOf table members starts counts edges lanes) (few : members .count ≤ 256) (in-table : RoutesIn points table members) (kt : table .count ≤ length (table .rows)) (km : members .count ≤ length (members .rows)) where
   abbrev pub board : Board
   board = board-of o nodes ports (take (table .count) (table .rows)) bundles members
 
@@ -106,10 +150,10 @@ module _ (o : Options) (nodes : Nodes) (ports : Ports) (table : Edges) (bundles 
           rw (w .start-is i k, w .count-is i k) (in-table .routes-in (member-at members i .edge) (in-table .members-on i k))
       go i false q = let k = ltb-false i (members .count) q in rw (w .no-start i k, w .no-count i k) (omega arith)
 
-  pub windowed : Windowed board given points starts counts members
+  pub windowed : Windowed board given points starts counts
   windowed = record {
-    members-are = refl;
-    routes-are = λ i h.
+    routes-are = λ i q.
+        let h : i < members .count = omega (arith, q, length-part (members .rows) (members .count) km) in
         let e = member-at members i .edge in
         let low : e < table .count = in-table .members-on i h in
         let l = take (table .count) (table .rows) in
@@ -117,7 +161,8 @@ module _ (o : Options) (nodes : Nodes) (ports : Ports) (table : Edges) (bundles 
         rw (w .start-is i h, w .count-is i h)
         (ap (given-route points) (sym (getD-take (table .count) (table .rows) e no-edge low))
         ∙ sym (List·getD-map (given-route points) l e no-edge)
-        ∙ getD-any (map (given-route points) l) e (given-route points no-edge) [] (omega (arith, length-map l (given-route points))));
+        ∙ getD-any (map (given-route points) l) e (given-route points no-edge) [] (omega (arith, length-map l (given-route points)))
+        ∙ ap (route-of board given) (sym (getD-take (members .count) (members .rows) i no-member h)));
   }
 
   edges-are : (k first : ℕ) → first + k ≤ members .count → window first k edges ≡ map edge-of (window first k (take (members .count) (members .rows)))
@@ -126,7 +171,7 @@ module _ (o : Options) (nodes : Nodes) (ports : Ports) (table : Edges) (bundles 
       let n = members .count in
       let low : first < n = omega arith in
       rw (window-cons edges first k 0 (omega (arith, w .edges-long)), window-cons (take n (members .rows)) first k no-member (omega (arith, length-part (members .rows) n km)))
-      (ap (λ (e : ℕ). e ∷ window (suc first) k edges) (w .edge-is first low ∙ ap edge-of (sym (getD-take n (members .rows) first no-member low)))
+      (ap (λ (e : ℕ). e ∷ window (suc first) k edges) (w .told .edge-is first low ∙ ap edge-of (sym (getD-take n (members .rows) first no-member low)))
       ∙ ap (λ (es : List ℕ). edge-of (getD (take n (members .rows)) first no-member) ∷ es) (edges-are k (suc first) (omega arith)))
 
   module _ (sound : Sound nodes ports bundles members) (t : Reaches) (same : Listed t bundles) where

@@ -12,11 +12,11 @@ ghost use Rattle.geometry.specs.declared.Role.the-variants.{Input, Output};
 ghost use Rattle.board.specs.declared.Edge.{Edge};
 ghost use Rattle.search.specs.Search.{search-of};
 ghost use Rattle.plan.specs.Depths.{parting-pitch};
-ghost use Rattle.plan.specs.Tables.{Sound, RoutesIn, board-of, given-routes, corridor-at};
+ghost use Rattle.plan.specs.Tables.{Sound, RoutesIn, board-of, given-routes};
 ghost use Rattle.plan.specs.Plan.{plan-with, plan-of};
-ghost use Rattle.plan.specs.Prepared.{other, Inside, Searchable, Windowed, Cornered, AllTell, AllAmong};
+ghost use Rattle.plan.specs.Prepared.{Inside, Searchable, AllBelow, Rowed, Ended, Windowed, Cornered, AllTell, AllAmong};
 ghost use Rattle.components.specs.Settled.{step-in};
-ghost use Rattle.planner.specs.Members.{member-at, RowsOf, Listed, Worked, EdgesIn};
+ghost use Rattle.planner.specs.Members.{member-at, Clear, RowsOf, MembersIn, Standing, EndsOf, Listed, Worked, EdgesIn};
 use board::Bundle;
 use board::Bundles;
 use board::Edges;
@@ -27,27 +27,25 @@ use board::Ports;
 use components::Step;
 use geometry::Role;
 use plan::Bound;
-use plan::Corridors;
+use plan::Offsets;
 use plan::Reached;
 use plan::Reaches;
 use search::TapVisits;
 
-// Of each member: where its given route starts, how many points it has, and its edge.
-pub struct MemberRows {
-    pub starts: [usize; 256],
-    pub counts: [usize; 256],
-    pub edges: [usize; 256],
-}
-
-// The same, from the tables.
-pub fn member_rows(table: Edges, members: Members) -> MemberRows
+// Of each member: where its given route starts, how many points it has, its edge and its lane.
+pub fn member_rows(
+    table: Edges,
+    members: Members,
+    starts: &mut [usize],
+    counts: &mut [usize],
+    edges: &mut [usize],
+    lanes: &mut [u32],
+)
     requires { ⌜ (table .count ≤ 256) × (members .count ≤ 256) ⌝ }
     requires { ⌜ ((i : ℕ) → i < members .count → member-at members i .edge < table .count) ⌝ }
-    ensures { λ r. ⌜ RowsOf table members (r .starts) (r .counts) (r .edges) ⌝ }
+    requires { ⌜ Clear (now starts) × Clear (now counts) × (length (now edges) ≡ 256) × (length (now lanes) ≡ 256) ⌝ }
+    ensures { λ _. ⌜ RowsOf table members (now (starts .exit)) (now (counts .exit)) (now (edges .exit)) (now (lanes .exit)) ⌝ }
 {
-    let mut starts = [0; 256];
-    let mut counts = [0; 256];
-    let mut edges = [0; 256];
     let n = members.count;
     let mut i: usize = 0;
     while i < n {
@@ -57,50 +55,49 @@ pub fn member_rows(table: Edges, members: Members) -> MemberRows
         starts[i] = e.first;
         counts[i] = e.count;
         edges[i] = at;
+        lanes[i] = m.tap_lane;
         i += 1;
     }
-    MemberRows {
-        starts: starts,
-        counts: counts,
-        edges: edges,
-    }
 }
 
-pub fn corridors_of(role: Role, inputs: Corridors, outputs: Corridors) -> Corridors
-    ensures { λ r. ⌜ ((b : Board) → Cornered b Input (inputs .rows) → Cornered b Output (outputs .rows) → Cornered b role (r .rows)) ⌝ }
+// Where the port of each bundle stands.
+pub fn bundle_ends(nodes: Nodes, ports: Ports, bundles: Bundles) -> Offsets
+    requires { ⌜ Standing nodes ports bundles ⌝ }
+    ensures { λ r. ⌜ EndsOf nodes ports bundles (r .rows) ⌝ }
 {
-    match role {
-        Role::Input => inputs,
-        Role::Output => outputs,
+    let mut rows = [0.0; 32];
+    let n = bundles.count;
+    let mut i: usize = 0;
+    while i < n {
+        let u = bundles.rows[i];
+        let at = u.port;
+        let p = ports.rows[at];
+        let on = p.node;
+        let node = nodes.rows[on];
+        let end = board::endpoint_of(node, p);
+        rows[i] = end.x;
+        i += 1;
     }
-}
-
-fn other(role: Role) -> Role
-    ensures { λ r. ⌜ r ≡ other role ⌝ }
-{
-    match role {
-        Role::Input => Role::Output,
-        Role::Output => Role::Input,
-    }
+    Offsets { rows: rows }
 }
 
 // How far the members of each bundle let its collector go.
-pub fn reaches(
+fn reaches(
     o: Options,
-    nodes: Nodes,
-    ports: Ports,
     bundles: Bundles,
-    members: Members,
-    inputs: Corridors,
-    outputs: Corridors,
+    ends: Offsets,
+    in_marks: &[bool; 256],
+    in_xs: &[f64; 256],
+    out_marks: &[bool; 256],
+    out_xs: &[f64; 256],
     points: &[f64],
     starts: &[usize; 256],
     counts: &[usize; 256],
+    edges: &[usize; 256],
 ) -> Reaches
-    requires { ⌜ Sound nodes ports bundles members ⌝ }
-    requires { ⌜ Inside (now points) (now starts) (now counts) (members .count) ⌝ }
-    requires { ⌜ (members .count ≤ length (now starts)) × (members .count ≤ length (now counts)) ⌝ }
-    ensures told { λ r. ⌜ ((edges : List Edge) (given : List Route) → Windowed (board-of o nodes ports edges bundles members) given (now (points .entry)) (now (starts .entry)) (now (counts .entry)) members → Cornered (board-of o nodes ports edges bundles members) Input (inputs .rows) → Cornered (board-of o nodes ports edges bundles members) Output (outputs .rows) → AllTell (board-of o nodes ports edges bundles members) given (now (points .entry)) (now (starts .entry)) (now (counts .entry)) (rail-depth o) (sheet-pitch o) r) ⌝ }
+    requires { ⌜ AllBelow (now edges) bundles × Inside (now points) (now starts) (now counts) 256 ⌝ }
+    requires { ⌜ (length (now starts) ≡ 256) × (length (now counts) ≡ 256) ⌝ }
+    ensures told { λ r. ⌜ ((b : Board) (given : List Route) (lanes : List ℕ) → Ended b o bundles (ends .rows) → Rowed b (now (edges .entry)) lanes → Windowed b given (now (points .entry)) (now (starts .entry)) (now (counts .entry)) → Cornered b Input (now («in_marks» .entry)) (now («in_xs» .entry)) → Cornered b Output (now («out_marks» .entry)) (now («out_xs» .entry)) → AllTell b given (now (points .entry)) (now (starts .entry)) (now (counts .entry)) (rail-depth o) (sheet-pitch o) r) ⌝ }
     ensures same { λ r. ⌜ Listed r bundles ⌝ }
 {
     let none = Bundle {
@@ -120,26 +117,24 @@ pub fn reaches(
     let mut i: usize = 0;
     while i < n {
         let u = bundles.rows[i];
-        let at = u.port;
-        let p = ports.rows[at];
-        let on = p.node;
-        let node = nodes.rows[on];
-        let end = board::endpoint_of(node, p);
+        let end = ends.rows[i];
         let role = u.role;
-        let corridors = corridors_of(other(role), inputs, outputs);
         let d = plan::reach_all(
             role,
             o.member_endpoint_reserve,
             points,
             starts,
             counts,
-            corridors,
-            members,
+            edges,
+            in_marks,
+            in_xs,
+            out_marks,
+            out_xs,
             u,
         );
         rows[i] = Reached {
             bundle: u,
-            endpoint: end.x,
+            endpoint: end,
             reached: d,
         };
         i += 1;
@@ -160,43 +155,55 @@ pub fn reach_bundles(
     points: &[f64],
     starts: &[usize; 256],
     counts: &[usize; 256],
+    edges: &[usize; 256],
+    lanes: &[u32; 256],
 ) -> Reaches
-    requires { ⌜ Sound nodes ports bundles members ⌝ }
-    requires { ⌜ Inside (now points) (now starts) (now counts) (members .count) ⌝ }
-    requires { ⌜ (members .count ≤ length (now starts)) × (members .count ≤ length (now counts)) ⌝ }
-    ensures told { λ r. ⌜ ((edges : List Edge) (given : List Route) → Windowed (board-of o nodes ports edges bundles members) given (now (points .entry)) (now (starts .entry)) (now (counts .entry)) members → AllTell (board-of o nodes ports edges bundles members) given (now (points .entry)) (now (starts .entry)) (now (counts .entry)) (rail-depth o) (sheet-pitch o) r) ⌝ }
+    requires { ⌜ Sound nodes ports bundles members × MembersIn members (now edges) (now lanes) ⌝ }
+    requires { ⌜ Inside (now points) (now starts) (now counts) 256 ⌝ }
+    requires { ⌜ (length (now starts) ≡ 256) × (length (now counts) ≡ 256) ⌝ }
+    ensures told { λ r. ⌜ ((table : List Edge) (given : List Route) → Windowed (board-of o nodes ports table bundles members) given (now (points .entry)) (now (starts .entry)) (now (counts .entry)) → AllTell (board-of o nodes ports table bundles members) given (now (points .entry)) (now (starts .entry)) (now (counts .entry)) (rail-depth o) (sheet-pitch o) r) ⌝ }
     ensures same { λ r. ⌜ Listed r bundles ⌝ }
 {
+    let mut in_marks = [false; 256];
+    let mut in_xs = [0.0; 256];
+    let mut out_marks = [false; 256];
+    let mut out_xs = [0.0; 256];
     let offsets = plan::corridor_depth_offsets(o, nodes, ports, bundles, members);
-    let inputs = plan::fallback_corridors_by_edge(
+    let ends = bundle_ends(nodes, ports, bundles);
+    plan::fallback_corridors_by_edge(
         Role::Input,
         o,
-        nodes,
-        ports,
         bundles,
-        members,
+        ends,
+        edges,
+        lanes,
         offsets,
+        &mut in_marks[..],
+        &mut in_xs[..],
     );
-    let outputs = plan::fallback_corridors_by_edge(
+    plan::fallback_corridors_by_edge(
         Role::Output,
         o,
-        nodes,
-        ports,
         bundles,
-        members,
+        ends,
+        edges,
+        lanes,
         offsets,
+        &mut out_marks[..],
+        &mut out_xs[..],
     );
     reaches(
         o,
-        nodes,
-        ports,
         bundles,
-        members,
-        inputs,
-        outputs,
+        ends,
+        &in_marks,
+        &in_xs,
+        &out_marks,
+        &out_xs,
         points,
         starts,
         counts,
+        edges,
     )
 }
 
@@ -283,11 +290,30 @@ pub fn plan_interior_collectors(
     requires { ⌜ (4096 < length (now xs)) × (length (now xs) ≤ length (now scratch)) ⌝ }
     ensures { λ r. ⌜ step-in (bundles .count) r ≡ plan-of (board-of o nodes ports (take (table .count) (table .rows)) bundles members) (given-routes (now (points .entry)) table) separate (granted .0) ⌝ }
 {
-    let w = member_rows(table, members);
-    let starts = w.starts;
-    let counts = w.counts;
-    let edges = w.edges;
-    let t = reach_bundles(o, nodes, ports, bundles, members, points, &starts, &counts);
+    let mut starts = [0; 256];
+    let mut counts = [0; 256];
+    let mut edges = [0; 256];
+    let mut lanes = [0; 256];
+    member_rows(
+        table,
+        members,
+        &mut starts[..],
+        &mut counts[..],
+        &mut edges[..],
+        &mut lanes[..],
+    );
+    let t = reach_bundles(
+        o,
+        nodes,
+        ports,
+        bundles,
+        members,
+        points,
+        &starts,
+        &counts,
+        &edges,
+        &lanes,
+    );
     let rail = board::boundary_bundle_rail_depth(o);
     let pitch = board::pitch_of_sheet(o);
     plan_reached(

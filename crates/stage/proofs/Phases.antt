@@ -1,6 +1,6 @@
 -- The phases of the stage, from what its functions' callees ensure to what is told and written.
 -- Assumes nothing.
-use Prim.Native.Nat.{ℕ, _≤_, _<_}
+use Prim.Native.Nat.{ℕ, _*_, _≤_, _<_}
 use mathlib.Core.Path.{_≡_, refl, sym, ap, _∙_, subst}
 use mathlib.Core.Bool.{Bool, true, false, cond}
 use mathlib.Core.List.{List, [], map}
@@ -137,6 +137,6 @@ sheet-room t s room e h = rw e at h
 pub told-room : (s t : Told) (room : ℕ) → s ≡ t → length (told-bytes s) ≤ room → length (told-bytes t) ≤ room
 told-room s t room e h = subst (λ (z : Told). length (told-bytes z) ≤ room) e h
 
-pub room-for : (members n : ℕ) (taps points : List Float) (counts : List ℕ) (mask : List Bool) (scratch : List Float) → members ≤ 256 → n ≤ 256 → length taps ≡ 512 → length points ≡ 34816 → length counts ≡ n → length mask ≡ 256 → length scratch ≡ 136
+pub room-for : (members n : ℕ) (taps points : List Float) (counts : List ℕ) (mask : List Bool) (scratch : List Float) → members ≤ 256 → n ≤ 256 → length taps ≡ 512 → 136 * n ≤ length points → length counts ≡ n → length mask ≡ 256 → length scratch ≡ 136
     → Room members taps points counts mask scratch
 room-for members n taps points counts mask scratch hm hn t p c m s = record { places = omega arith; slots = omega arith; masked = omega arith; spare = omega arith }

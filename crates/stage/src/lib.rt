@@ -153,16 +153,16 @@ fn draw_in(
     }
 }
 
-// The same, in slices of its own.
-fn draw(j: Job, given: &[f64], p: Planning, answer: &mut [u8]) -> usize
+// The same, with the slots of the present routes lent and the other slices its own.
+fn draw_on(j: Job, given: &[f64], p: Planning, points: &mut [f64], answer: &mut [u8]) -> usize
     requires { ⌜ Came j (now given) × (6 ≤ length (now answer)) ⌝ }
     requires { ⌜ length (told-bytes (after-sheet (job-in j (now given) .board) (plan-in (j .bundles .count) p) (sheet-drawn (job-in j (now given)) (plan-in (j .bundles .count) p)))) ≤ length (now answer) ⌝ }
+    requires { ⌜ 136 * j .edges .count ≤ length (now points) ⌝ }
     ensures { λ r. ⌜ Writes (now (answer .entry)) (now (answer .exit)) r (after-sheet (job-in j (now (given .entry)) .board) (plan-in (j .bundles .count) p) (sheet-drawn (job-in j (now (given .entry))) (plan-in (j .bundles .count) p))) ⌝ }
 {
     let mut edges = [0; 256];
     let mut lanes = [0; 256];
     let mut taps = [0.0; 512];
-    let mut points = [0.0; 34816];
     let mut counts = [0; 256];
     let mut mask = [false; 256];
     let mut scratch = [0.0; 136];
@@ -183,6 +183,40 @@ fn draw(j: Job, given: &[f64], p: Planning, answer: &mut [u8]) -> usize
         &mut scratch[..],
         &mut answer[..],
     )
+}
+
+// The same, in slots of its own for up to 32 routes: most of a small board's time would go into
+// clearing 256.
+fn draw_few(j: Job, given: &[f64], p: Planning, answer: &mut [u8]) -> usize
+    requires { ⌜ Came j (now given) × (6 ≤ length (now answer)) ⌝ }
+    requires { ⌜ length (told-bytes (after-sheet (job-in j (now given) .board) (plan-in (j .bundles .count) p) (sheet-drawn (job-in j (now given)) (plan-in (j .bundles .count) p)))) ≤ length (now answer) ⌝ }
+    requires { ⌜ j .edges .count ≤ 32 ⌝ }
+    ensures { λ r. ⌜ Writes (now (answer .entry)) (now (answer .exit)) r (after-sheet (job-in j (now (given .entry)) .board) (plan-in (j .bundles .count) p) (sheet-drawn (job-in j (now (given .entry))) (plan-in (j .bundles .count) p))) ⌝ }
+{
+    let mut points = [0.0; 4352];
+    draw_on(j, given, p, &mut points[..], &mut answer[..])
+}
+
+// The same, in slots of its own for any number of routes.
+fn draw_many(j: Job, given: &[f64], p: Planning, answer: &mut [u8]) -> usize
+    requires { ⌜ Came j (now given) × (6 ≤ length (now answer)) ⌝ }
+    requires { ⌜ length (told-bytes (after-sheet (job-in j (now given) .board) (plan-in (j .bundles .count) p) (sheet-drawn (job-in j (now given)) (plan-in (j .bundles .count) p)))) ≤ length (now answer) ⌝ }
+    ensures { λ r. ⌜ Writes (now (answer .entry)) (now (answer .exit)) r (after-sheet (job-in j (now (given .entry)) .board) (plan-in (j .bundles .count) p) (sheet-drawn (job-in j (now (given .entry))) (plan-in (j .bundles .count) p))) ⌝ }
+{
+    let mut points = [0.0; 34816];
+    draw_on(j, given, p, &mut points[..], &mut answer[..])
+}
+
+fn draw(j: Job, given: &[f64], p: Planning, answer: &mut [u8]) -> usize
+    requires { ⌜ Came j (now given) × (6 ≤ length (now answer)) ⌝ }
+    requires { ⌜ length (told-bytes (after-sheet (job-in j (now given) .board) (plan-in (j .bundles .count) p) (sheet-drawn (job-in j (now given)) (plan-in (j .bundles .count) p)))) ≤ length (now answer) ⌝ }
+    ensures { λ r. ⌜ Writes (now (answer .entry)) (now (answer .exit)) r (after-sheet (job-in j (now (given .entry)) .board) (plan-in (j .bundles .count) p) (sheet-drawn (job-in j (now (given .entry))) (plan-in (j .bundles .count) p))) ⌝ }
+{
+    let table = j.edges;
+    if table.count <= 32 {
+        return draw_few(j, given, p, &mut answer[..]);
+    }
+    draw_many(j, given, p, &mut answer[..])
 }
 
 // ---- the plan (13)

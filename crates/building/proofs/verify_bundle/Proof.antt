@@ -14,16 +14,15 @@ use Rattle.building.proofs.verify_bundle.Statement.{statement}
 use Rattle.building.proofs.verify_bundle.Tie as tie
 use Rattle.building.proofs.verify_bundle.Reads as reads
 use Rattle.building.proofs.verify_bundle.Lts as lts
-use Rattle.checks.proofs.verify_new_bundle_route_contacts.Reads as verify-new-bundle-route-contacts-reads
-use Rattle.checks.proofs.verify_one_bundle_route_node_interiors.Reads as verify-one-bundle-route-node-interiors-reads
+use Rattle.checks.proofs.contacts_paid.Reads as contacts-paid-reads
+use Rattle.checks.proofs.interiors_paid.Reads as interiors-paid-reads
 use Rattle.building.proofs.mark_members.Reads as mark-members-reads
 
 mark-members-requires : tie.Need-mark-members-requires
 mark-members-requires c κs = search needs
 
-verify-one-bundle-route-node-interiors-requires :
-    tie.Need-verify-one-bundle-route-node-interiors-requires
-verify-one-bundle-route-node-interiors-requires c κs =
+interiors-paid-requires : tie.Need-interiors-paid-requires
+interiors-paid-requires c κs =
     let t = c .before .before .before .before .before .before .before .before .before .before in
     let a = t .args in
     let f = c .before .before .before .mark-members in
@@ -39,8 +38,8 @@ enum-known-v c = search needs
 enum-known-v-2 : tie.Need-enum-known-v-2
 enum-known-v-2 c = search needs
 
-verify-new-bundle-route-contacts-requires : tie.Need-verify-new-bundle-route-contacts-requires
-verify-new-bundle-route-contacts-requires c κs =
+contacts-paid-requires : tie.Need-contacts-paid-requires
+contacts-paid-requires c κs =
     let t = c .before .before .before .before .before .before .before .before .before .before .before .before .before .before .before in
     let a = t .args in
     let f = c .before .before .before .before .before .before .before .before .mark-members in
@@ -63,7 +62,7 @@ returns c =
     let w = s .slots in
     let x = s .masked in
     let y = routes-length (now (a .points)) 0 (now (a .counts)) in
-    both-off _ _ (contact-tests (a .o) (a .allow) (drawn-of (now (a .edges)) (now (a .taps)) (a .new)) (among (members-from (now (a .edges)) [] (a .new .first) (a .new .count))) (map (drawn-of (now (a .edges)) (now (a .taps))) (take (a .priors .count) (a .priors .rows))) (routes-of (now (a .points)) (now (a .counts)))) (a .visits .0) _ _ (sym (c .before .before .before .verify-one-bundle-route-node-interiors .ensures) ∙ c .before .v .given .1) (inside-masked (members-from (now (a .edges)) [] (a .new .first) (a .new .count)) (f .last .1 .1 .1 .0) (routes-of (now (a .points)) (now (a .counts))) (f .ensures) (omega (arith, k, x, y)) (take (a .nodes .count) (a .nodes .rows)) (take (a .table .count) (a .table .rows)))
+    both-off _ _ (contact-tests (a .o) (a .allow) (drawn-of (now (a .edges)) (now (a .taps)) (a .new)) (among (members-from (now (a .edges)) [] (a .new .first) (a .new .count))) (map (drawn-of (now (a .edges)) (now (a .taps))) (take (a .priors .count) (a .priors .rows))) (routes-of (now (a .points)) (now (a .counts)))) (a .visits .0) _ _ (sym (c .before .before .before .interiors-paid .ensures) ∙ c .before .v .given .1) (inside-masked (members-from (now (a .edges)) [] (a .new .first) (a .new .count)) (f .last .1 .1 .1 .0) (routes-of (now (a .points)) (now (a .counts))) (f .ensures) (omega (arith, k, x, y)) (take (a .nodes .count) (a .nodes .rows)) (take (a .table .count) (a .table .rows)))
 
 same-length-2 : tie.Need-same-length-2
 same-length-2 c = search needs
@@ -78,18 +77,18 @@ returns-2 c =
     let w = s .slots in
     let x = s .masked in
     let y = routes-length (now (a .points)) 0 (now (a .counts)) in
-    c .verify-new-bundle-route-contacts .ensures
-    ∙ both-on _ _ _ _ (a .visits .0) _ (sym (c .before .before .before .before .before .verify-one-bundle-route-node-interiors .ensures) ∙ c .before .before .before .v2 .given .1) (inside-masked (members-from (now (a .edges)) [] (a .new .first) (a .new .count)) (f .last .1 .1 .1 .0) (routes-of (now (a .points)) (now (a .counts))) (f .ensures) (omega (arith, k, x, y)) (take (a .nodes .count) (a .nodes .rows)) (take (a .table .count) (a .table .rows))) (contact-masked (members-from (now (a .edges)) [] (a .new .first) (a .new .count)) (f .last .1 .1 .1 .0) (routes-of (now (a .points)) (now (a .counts))) (f .ensures) (omega (arith, k, x, y)) (a .o) (a .allow) (drawn-of (now (a .edges)) (now (a .taps)) (a .new)) (map (drawn-of (now (a .edges)) (now (a .taps))) (take (a .priors .count) (a .priors .rows))))
+    c .contacts-paid .ensures
+    ∙ both-on _ _ _ _ (a .visits .0) _ (sym (c .before .before .before .before .before .interiors-paid .ensures) ∙ c .before .before .before .v2 .given .1) (inside-masked (members-from (now (a .edges)) [] (a .new .first) (a .new .count)) (f .last .1 .1 .1 .0) (routes-of (now (a .points)) (now (a .counts))) (f .ensures) (omega (arith, k, x, y)) (take (a .nodes .count) (a .nodes .rows)) (take (a .table .count) (a .table .rows))) (contact-masked (members-from (now (a .edges)) [] (a .new .first) (a .new .count)) (f .last .1 .1 .1 .0) (routes-of (now (a .points)) (now (a .counts))) (f .ensures) (omega (arith, k, x, y)) (a .o) (a .allow) (drawn-of (now (a .edges)) (now (a .taps)) (a .new)) (map (drawn-of (now (a .edges)) (now (a .taps))) (take (a .priors .count) (a .priors .rows))))
 
 pub verify-bundle-spec : {M : Type 1} → statement M
 verify-bundle-spec =
     tie.close
     (tie.spec
     mark-members-requires
-    verify-one-bundle-route-node-interiors-requires
+    interiors-paid-requires
     enum-known-v
     enum-known-v-2
-    verify-new-bundle-route-contacts-requires
+    contacts-paid-requires
     same-length
     returns
     same-length-2

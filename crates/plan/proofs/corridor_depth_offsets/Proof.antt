@@ -9,20 +9,20 @@ use Rattle.board.specs.declared.Bundle.{Bundle}
 use Rattle.board.specs.declared.Port.{Port}
 use Rattle.board.specs.Board.{Board}
 use Rattle.plan.specs.Depths.{offsets-from, no-port}
-use Rattle.plan.specs.Tables.{board-of, Resolved, no-bundle}
+use Rattle.plan.specs.Tables.{board-of, Resolved, no-bundle, no-member}
 use Rattle.plan.proofs.Rows as laws
 use borrow.Author.Needs.{needs}
 use Rattle.plan.proofs.corridor_depth_offsets.Statement.{statement}
 use Rattle.plan.proofs.corridor_depth_offsets.Tie as tie
 
 abbrev Inv-loop : tie.InvT-loop
-Inv-loop o members nodes ports bundles rail rows₀ w₀ n i₀ rows w i =
+Inv-loop o nodes ports bundles members rail rows₀ w₀ n i₀ rows w i =
     (i ≤ n) × (length rows ≡ 32)
     × ((edges : List Edge) → take i rows ++ offsets-from (board-of o nodes ports edges bundles members) (drop i (take n (bundles .rows))) w
     ≡ offsets-from (board-of o nodes ports edges bundles members) (take n (bundles .rows)) w₀)
 
 abbrev μ-loop : tie.MeasureT-loop
-μ-loop o members nodes ports bundles rail rows₀ w₀ n i₀ rows w i = n - i
+μ-loop o nodes ports bundles members rail rows₀ w₀ n i₀ rows w i = n - i
 
 bundles-length : (s : tie.Start Inv-loop μ-loop) → length (s .args .t4 .rows) ≡ 32
 bundles-length s = search (needs, laws.length-mapped)
@@ -32,6 +32,9 @@ ports-length s = search (needs, laws.length-mapped)
 
 nodes-length : (s : tie.Start Inv-loop μ-loop) → length (s .args .t2 .rows) ≡ 128
 nodes-length s = search (needs, laws.length-mapped)
+
+members-length : (s : tie.Start Inv-loop μ-loop) → length (s .args .t5 .rows) ≡ 256
+members-length s = search (needs, laws.length-mapped)
 
 abbrev bundle : tie.Start Inv-loop μ-loop → ℕ → Bundle
 bundle s i = getD (s .args .t4 .rows) i no-bundle
@@ -75,11 +78,33 @@ element-copy-out-node c =
     let s = c .before .before .before .before .before in
     omega (arith, node-in s (c .before .before .before .loop .i) (c .before .before .loop-test .taken), s .pre .nodes-few)
 
+add-place-before : tie.Need-add-place-before Inv-loop μ-loop
+add-place-before c =
+    let s = c .before .before .before .before .before .before .before .before .before in
+    let r = s .pre .bundles-on (c .before .before .before .before .before .before .before .loop .i) (c .before .before .before .before .before .before .loop-test .taken) .members-in in
+    omega (arith, r, s .pre .members-few)
+
+place-before-requires : tie.Need-place-before-requires Inv-loop μ-loop
+place-before-requires c κs = search needs
+
+mul-m : tie.Need-mul-m Inv-loop μ-loop
+mul-m c =
+    let s = c .before .before .before .before .before .before .before .before .before .before in
+    let r = s .pre .bundles-on (c .before .before .before .before .before .before .before .before .loop .i) (c .before .before .before .before .before .before .before .loop-test .taken) .members-in in
+    let k = s .pre .members-few in
+    let e = c .place-before .ensures in
+    search needs
+
+element-copy-out-m : tie.Need-element-copy-out-m Inv-loop μ-loop
+element-copy-out-m c =
+    let s = c .before .before .before .before .before .before .before .before .before .before in
+    omega (arith, s .pre .bundles-on (c .before .before .before .before .before .before .before .before .loop .i) (c .before .before .before .before .before .before .before .loop-test .taken) .members-in, s .pre .members-few, c .place-before .ensures)
+
 lane-count-requires : tie.Need-lane-count-requires Inv-loop μ-loop
 lane-count-requires c κs =
-    let s = c .before .before .before .before .before .before .before .before in
-    let r = s .pre .bundles-on (c .before .before .before .before .before .before .loop .i) (c .before .before .before .before .before .loop-test .taken) in
-    ((s .pre .members-few, r .members-in), s .pre .lanes-few)
+    let s = c .before .before .before .before .before .before .before .before .before .before .before in
+    let r = s .pre .bundles-on (c .before .before .before .before .before .before .before .before .before .loop .i) (c .before .before .before .before .before .before .before .before .loop-test .taken) .members-in in
+    λ h. s .pre .lanes-few (c .before .place-before .result) (omega (arith, r, c .before .place-before .ensures))
 
 pitch-of-bundle-requires : tie.Need-pitch-of-bundle-requires Inv-loop μ-loop
 pitch-of-bundle-requires c κs = search needs
@@ -101,17 +126,19 @@ loop-less c = search needs
 
 loop-again : tie.Need-loop-again Inv-loop μ-loop
 loop-again c =
-    let s = c .before .before .before .before .before .before .before .before .before .before .before .before in
+    let s = c .before .before .before .before .before .before .before .before .before .before .before .before .before .before .before in
     let a = s .args in
     let d = c .before .deepen in
     let p = c .before .before .pitch-of-bundle in
     let m = c .before .before .before .lane-count in
-    let l = c .before .before .before .before .before .before .before .before .before .before .loop in
-    let h : l .i < a .t4 .count = c .before .before .before .before .before .before .before .before .before .loop-test .taken in
-    let rail = c .before .before .before .before .before .before .before .before .before .before .before .boundary-bundle-rail-depth in
+    let place = c .before .before .before .before .before .place-before in
+    let l = c .before .before .before .before .before .before .before .before .before .before .before .before .before .loop in
+    let h : l .i < a .t4 .count = c .before .before .before .before .before .before .before .before .before .before .before .before .loop-test .taken in
+    let rail = c .before .before .before .before .before .before .before .before .before .before .before .before .before .before .boundary-bundle-rail-depth in
     let r = s .pre .bundles-on (l .i) h in
     let k = bundles-length s in
     let kp = ports-length s in
+    let km = members-length s in
     let kn = nodes-length s in
     let q : a .t4 .count ≤ length (a .t4 .rows) = omega (arith, s .pre .bundles-few) in
     let qp : a .t3 .count ≤ length (a .t3 .rows) = omega (arith, s .pre .ports-few) in
@@ -120,11 +147,11 @@ loop-again c =
       omega arith,
       length-set (l .rows) (l .i) (d .result .offset) ∙ l .inv .1,
       λ edges.
-          let b : Board = board-of (a .o) (a .t2) (a .t3) edges (a .t4) (a .members) in
+          let b : Board = board-of (a .o) (a .t2) (a .t3) edges (a .t4) (a .t5) in
           let u = getD (a .t4 .rows) (l .i) no-bundle in
           let n = laws.node-read b (a .t3 .rows) (a .t3 .count) refl qp u (r .port-in) (a .t2 .rows) (a .t2 .count) refl qn (s .pre .ports-on (u .port) (r .port-in)) in
           laws.offsets-turn b (a .t4 .rows) (a .t4 .count) (l .i) (l .rows) (l .w) (p .result) _ (m .result) (d .result) h q g
-          (p .ensures) (laws.depth-is b u (getD (a .t2 .rows) (getD (a .t3 .rows) (u .port) laws.null-port .node) laws.null-node) (rail .result) n (rail .ensures)) (m .ensures) (d .ensures)
+          (p .ensures) (laws.depth-is b u (getD (a .t2 .rows) (getD (a .t3 .rows) (u .port) laws.null-port .node) laws.null-node) (rail .result) n (rail .ensures)) (m .ensures (a .t5 .rows) (a .t5 .count) (u .first) (omega (arith, s .pre .members-few)) (r .members-in) (ap (λ (j : ℕ). getD (a .t5 .rows) j no-member) (sym (place .ensures)))) (d .ensures)
           ∙ l .inv .2 edges,
     )
 
@@ -138,7 +165,7 @@ returns c =
     let e : a .t4 .count ≡ l .i = omega (arith, c .loop-test .left, l .inv .0) in
     λ edges.
     ap (λ (j : ℕ). take j (l .rows)) e
-    ∙ laws.offsets-end (board-of (a .o) (a .t2) (a .t3) edges (a .t4) (a .members)) (a .t4 .rows) (a .t4 .count) (l .i) (l .rows) (l .w) (c .loop-test .left) q
+    ∙ laws.offsets-end (board-of (a .o) (a .t2) (a .t3) edges (a .t4) (a .t5)) (a .t4 .rows) (a .t4 .count) (l .i) (l .rows) (l .w) (c .loop-test .left) q
     ∙ l .inv .2 edges
 
 pub corridor-depth-offsets-spec : {M : Type 1} → statement M
@@ -155,6 +182,10 @@ corridor-depth-offsets-spec =
     element-copy-out-p
     mul-node
     element-copy-out-node
+    add-place-before
+    place-before-requires
+    mul-m
+    element-copy-out-m
     lane-count-requires
     pitch-of-bundle-requires
     deepen-requires

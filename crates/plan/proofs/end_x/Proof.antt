@@ -18,26 +18,20 @@ returns c = let a = c .before .before .args in laws.end-none (a .role) (a .point
 enum-told : tie.Need-enum-told
 enum-told c = search needs
 
-add-point-at : tie.Need-add-point-at
-add-point-at c = search needs
-
-sub-point-at : tie.Need-sub-point-at
-sub-point-at c = search needs
-
-point-at-requires : tie.Need-point-at-requires
-point-at-requires c κs = search needs
+route-last-requires : tie.Need-route-last-requires
+route-last-requires c κs = search needs
 
 enum-told-2 : tie.Need-enum-told-2
 enum-told-2 c = search needs
 
-point-at-requires-2 : tie.Need-point-at-requires-2
-point-at-requires-2 c κs = search needs
+route-point-requires : tie.Need-route-point-requires
+route-point-requires c κs = search needs
 
 returns-2 : tie.Need-returns-2
 returns-2 c =
     let a = c .before .before .before .before .before .args in
     let h : 0 < a .count = omega (arith, c .before .before .before .if1 .left) in
-    ap (λ (p : Point). At (p .x)) (c .point-at .ensures)
+    ap (λ (p : Point). At (p .x)) (c .route-last .ensures)
     ∙ laws.end-last (a .points .now) (a .start) (a .count) h
     ∙ ap (λ (r : Role). end-x r (points-from (a .points .now) (a .start) (a .count))) (sym (c .before .enum-told .given .1))
 
@@ -45,7 +39,7 @@ returns-3 : tie.Need-returns-3
 returns-3 c =
     let a = c .before .before .before .before .before .args in
     let h : 0 < a .count = omega (arith, c .before .before .before .if1 .left) in
-    ap (λ (p : Point). At (p .x)) (c .point-at2 .ensures)
+    ap (λ (p : Point). At (p .x)) (c .route-point .ensures)
     ∙ laws.end-first (a .points .now) (a .start) (a .count) h
     ∙ ap (λ (r : Role). end-x r (points-from (a .points .now) (a .start) (a .count))) (sym (c .before .enum-told2 .given .1))
 
@@ -55,10 +49,8 @@ end-x-spec =
     (tie.spec
     returns
     enum-told
-    add-point-at
-    sub-point-at
-    point-at-requires
+    route-last-requires
     enum-told-2
-    point-at-requires-2
+    route-point-requires
     returns-2
     returns-3)

@@ -4,14 +4,17 @@ use mathlib.Core.List.{List, [], _∷_}
 use Prim.Native.Nat.{ℕ, _+_, _-_, _*_, _≤_, _<_}
 use native.Mathlib.Omega.{arith}
 use lib.ListN.{length, getD, take, drop}
-use Rattle.geometry.specs.Points.{Route}
+use Rattle.geometry.specs.declared.Role.{Role}
+use Rattle.geometry.specs.declared.Role.the-variants.{Input, Output}
+use Rattle.geometry.specs.Points.{Route, points-from}
+use Rattle.board.specs.declared.Bundle.{Bundle}
 use Rattle.board.specs.declared.Member.{Member}
-use Rattle.board.specs.Board.{Board, window}
+use Rattle.board.specs.Board.{Board}
 use Rattle.plan.specs.declared.Bound.{Bound}
-use Rattle.plan.specs.declared.Bound.the-variants.{None}
 use Rattle.plan.specs.Bounds.{reach-all}
+use Rattle.plan.specs.Depths.{members-in, corridor-of}
 use Rattle.plan.specs.Tables.{no-member}
-use Rattle.plan.specs.Prepared.{other, end-x, Windowed, Cornered}
+use Rattle.plan.specs.Prepared.{other, end-x, Rowed, Windowed, Cornered}
 use Rattle.plan.proofs.Rows as rows
 use Rattle.plan.proofs.Bounding as laws
 use borrow.Author.Needs.{needs}
@@ -19,70 +22,63 @@ use Rattle.plan.proofs.reach_all.Statement.{statement}
 use Rattle.plan.proofs.reach_all.Tie as tie
 
 abbrev Inv-loop : tie.InvT-loop
-Inv-loop role reserve points starts counts corridors members first n d₀ i₀ d i =
+Inv-loop role reserve points starts counts edges in-marks in-xs out-marks out-xs across first n d₀ i₀ d i =
     (i ≤ n)
-    × ((b : Board) (given : List Route) → reserve ≡ b .options .«member_endpoint_reserve» → Windowed b given points starts counts members → Cornered b (other role) (corridors .rows)
-    → reach-all b given role d (drop i (take n (drop first (take (members .count) (members .rows))))) ≡ reach-all b given role d₀ (take n (drop first (take (members .count) (members .rows)))))
+    × ((b : Board) (given : List Route) (lanes : List ℕ) (u : Bundle) → u .first ≡ first → u .count ≡ n → reserve ≡ b .options .«member_endpoint_reserve» → Rowed b edges lanes → u .first + u .count ≤ length (b .members)
+    → Windowed b given points starts counts → Cornered b Input in-marks in-xs → Cornered b Output out-marks out-xs
+    → reach-all b given role d (drop i (members-in b u)) ≡ reach-all b given role d₀ (members-in b u))
 
 abbrev μ-loop : tie.MeasureT-loop
-μ-loop role reserve points starts counts corridors members first n d₀ i₀ d i = n - i
+μ-loop role reserve points starts counts edges in-marks in-xs out-marks out-xs across first n d₀ i₀ d i = n - i
 
-members-length : (s : tie.Start Inv-loop μ-loop) → length (s .args .t7 .rows) ≡ 256
-members-length s = search (needs, rows.length-mapped)
+-- the member that a turn reads, and what it reads of it
+module _ (b : Board) (edges lanes : List ℕ) (u : Bundle) (first n i : ℕ) (ef : u .first ≡ first) (en : u .count ≡ n) (w : Rowed b edges lanes) (k : u .first + u .count ≤ length (b .members)) (h : i < n) where
+  there : u .first + i < length (b .members)
+  there = omega (arith, h, en, k)
 
-abbrev place : tie.Start Inv-loop μ-loop → ℕ → ℕ
-place s i = s .args .u .first + i
+  abbrev member : Member
+  member = getD (b .members) (u .first + i) no-member
 
-abbrev member : tie.Start Inv-loop μ-loop → ℕ → Member
-member s i = getD (s .args .t7 .rows) (place s i) no-member
+  edge-is : getD edges (first + i) 0 ≡ member .edge
+  edge-is = ap (λ (j : ℕ). getD edges (j + i) 0) (sym ef) ∙ w .edge-is (u .first + i) there
 
-place-in : (s : tie.Start Inv-loop μ-loop) (i : ℕ) → i < s .args .u .count → place s i < s .args .t7 .count
-place-in s i h = omega (arith, s .pre .0 .1)
+  part : drop i (members-in b u) ≡ member ∷ drop (i + 1) (members-in b u)
+  part = rows.part-at no-member (b .members) (u .first) (u .count) k i (omega (arith, h, en))
 
-edge-low : (s : tie.Start Inv-loop μ-loop) (i : ℕ) → i < s .args .u .count → member s i .edge < 256
-edge-low s i h = s .pre .1 .0 (place s i) (place-in s i h)
-
-part : (s : tie.Start Inv-loop μ-loop) (i : ℕ) → i < s .args .u .count
-    → drop i (take (s .args .u .count) (drop (s .args .u .first) (take (s .args .t7 .count) (s .args .t7 .rows)))) ≡ member s i ∷ drop (i + 1) (take (s .args .u .count) (drop (s .args .u .first) (take (s .args .t7 .count) (s .args .t7 .rows))))
-part s i h =
-    let k = members-length s in
-    rows.part-at no-member (s .args .t7 .rows) (s .args .t7 .count) (s .args .u .first) (s .args .u .count) (omega (arith, s .pre .0 .0)) (s .pre .0 .1) i h
+other-requires : tie.Need-other-requires Inv-loop μ-loop
+other-requires c κs = search needs
 
 loop-holds : tie.Need-loop-holds Inv-loop μ-loop
-loop-holds c = (omega arith, λ b given r w e. refl)
+loop-holds c = (omega arith, λ b given lanes u f n r w k q i o. refl)
 
 add-k : tie.Need-add-k Inv-loop μ-loop
-add-k c = search needs
+add-k c = omega (arith, c .loop-test .taken, c .before .before .before .before .pre .0 .fits)
 
-mul-m : tie.Need-mul-m Inv-loop μ-loop
-mul-m c = search needs
+mul-at : tie.Need-mul-at Inv-loop μ-loop
+mul-at c = let f = c .before .before .before .before .pre .0 .fits in search needs
 
-element-copy-out-m : tie.Need-element-copy-out-m Inv-loop μ-loop
-element-copy-out-m c = search needs
+element-copy-out-at : tie.Need-element-copy-out-at Inv-loop μ-loop
+element-copy-out-at c = omega (arith, c .loop-test .taken, c .before .before .before .before .pre .0 .fits)
 
-mul-c : tie.Need-mul-c Inv-loop μ-loop
-mul-c c = let h = edge-low (c .before .before .before .before) (c .before .before .loop .i) (c .before .loop-test .taken) in search needs
-
-element-copy-out-c : tie.Need-element-copy-out-c Inv-loop μ-loop
-element-copy-out-c c = edge-low (c .before .before .before .before) (c .before .before .loop .i) (c .before .loop-test .taken)
+corridor-of-requires : tie.Need-corridor-of-requires Inv-loop μ-loop
+corridor-of-requires c κs = c .before .before .before .before .before .pre .0 .low (c .before .before .loop .i) (c .before .loop-test .taken)
 
 mul-start : tie.Need-mul-start Inv-loop μ-loop
-mul-start c = search needs
+mul-start c = let f = c .before .before .before .before .before .before .pre .0 .fits in search needs
 
 element-copy-out-start : tie.Need-element-copy-out-start Inv-loop μ-loop
-element-copy-out-start c = search needs
+element-copy-out-start c = omega (arith, c .before .before .loop-test .taken, c .before .before .before .before .before .before .pre .0 .fits)
 
 mul-count : tie.Need-mul-count Inv-loop μ-loop
-mul-count c = search needs
+mul-count c = let f = c .before .before .before .before .before .before .before .pre .0 .fits in search needs
 
 element-copy-out-count : tie.Need-element-copy-out-count Inv-loop μ-loop
-element-copy-out-count c = search needs
+element-copy-out-count c = omega (arith, c .before .before .before .loop-test .taken, c .before .before .before .before .before .before .before .pre .0 .fits)
 
 end-x-requires : tie.Need-end-x-requires Inv-loop μ-loop
 end-x-requires c κs =
-    let s = c .before .before .before .before .before .before .before in
-    let l = c .before .before .before .before .before .loop in
-    s .pre .1 .1 .inside (place s (l .i)) (place-in s (l .i) (c .before .before .before .before .loop-test .taken))
+    let s = c .before .before .before .before .before .before .before .before in
+    s .pre .1 .inside (s .args .u .first + c .before .before .before .before .before .loop .i) (omega (arith, c .before .before .before .before .loop-test .taken, s .pre .0 .fits))
 
 add-i : tie.Need-add-i Inv-loop μ-loop
 add-i c = search needs
@@ -95,17 +91,20 @@ enum-told c = search needs
 
 returns : tie.Need-returns Inv-loop μ-loop
 returns c =
-    let s = c .before .before .before .before .before .before .before .before .before .before .before in
+    let s = c .before .before .before .before .before .before .before .before .before .before .before .before in
     let a = s .args in
     let l = c .before .before .before .before .before .before .before .before .before .loop in
     let h = c .before .before .before .before .before .before .before .before .loop-test .taken in
-    let m = member s (l .i) in
-    λ b given r w e.
-    laws.reach-none b given (a .role) (l .d) m _ _ (part s (l .i) h) (c .before .before .member-reach .result)
-    (c .before .before .member-reach .ensures ∙ laws.reach-is b given (a .role) m (a .reserve) _ (c .before .before .before .end-x .result) r (e .are (m .edge)) (c .before .before .before .end-x .ensures ∙ ap (end-x (a .role)) (w .routes-are (place s (l .i)) (place-in s (l .i) h))))
+    let cor = c .before .before .before .before .before .before .corridor-of in
+    let end = c .before .before .before .end-x in
+    let m = c .before .before .member-reach in
+    λ b given lanes r w k q i o.
+    laws.reach-none b given (a .role) (l .d) (member b (a .edges .now) lanes (a .u) (a .u .first) (a .u .count) (l .i) refl refl w k h) _ _ (part b (a .edges .now) lanes (a .u) (a .u .first) (a .u .count) (l .i) refl refl w k h) (m .result)
+    (m .ensures ∙ laws.reach-is b given (a .role) (member b (a .edges .now) lanes (a .u) (a .u .first) (a .u .count) (l .i) refl refl w k h) (a .reserve) _ (end .result) r
+    (cor .ensures b i o ∙ ap (λ (z : Role). corridor-of b z (getD (a .edges .now) (a .u .first + l .i) 0)) (c .before .before .before .before .before .before .before .before .before .before .other .ensures) ∙ ap (corridor-of b (other (a .role))) (edge-is b (a .edges .now) lanes (a .u) (a .u .first) (a .u .count) (l .i) refl refl w k h))
+    (end .ensures ∙ ap (end-x (a .role)) (q .routes-are (a .u .first + l .i) (there b (a .edges .now) lanes (a .u) (a .u .first) (a .u .count) (l .i) refl refl w k h))))
     (c .enum-told .given .1)
-    ∙ l .inv .1 b given r w e
-    ∙ ap (λ (z : List Member). reach-all b given (a .role) None (window (a .u .first) (a .u .count) z)) (sym (w .members-are))
+    ∙ l .inv .1 b given lanes (a .u) refl refl r w k q i o
 
 enum-known-r : tie.Need-enum-known-r Inv-loop μ-loop
 enum-known-r c = search needs
@@ -118,29 +117,30 @@ loop-less c = search needs
 
 loop-again : tie.Need-loop-again Inv-loop μ-loop
 loop-again c =
-    let s = c .before .before .before .before .before .before .before .before .before .before .before .before .before in
+    let s = c .before .before .before .before .before .before .before .before .before .before .before .before .before .before in
     let a = s .args in
     let l = c .before .before .before .before .before .before .before .before .before .before .before .loop in
     let h = c .before .before .before .before .before .before .before .before .before .before .loop-test .taken in
-    let m = member s (l .i) in (
+    let cor = c .before .before .before .before .before .before .before .before .corridor-of in
+    let end = c .before .before .before .before .before .end-x in
+    let m = c .before .before .before .before .member-reach in (
       omega (arith, h),
-      λ b given r w e.
-          laws.reach-some b given (a .role) (l .d) m _ _ (part s (l .i) h) (c .before .before .before .before .member-reach .result)
-          (c .before .before .before .before .member-reach .ensures ∙ laws.reach-is b given (a .role) m (a .reserve) _ (c .before .before .before .before .before .end-x .result) r (e .are (m .edge)) (c .before .before .before .before .before .end-x .ensures ∙ ap (end-x (a .role)) (w .routes-are (place s (l .i)) (place-in s (l .i) h))))
+      λ b given lanes u f n r w k q i o.
+          laws.reach-some b given (a .role) (l .d) (member b (a .edges .now) lanes u (a .u .first) (a .u .count) (l .i) f n w k h) _ _ (part b (a .edges .now) lanes u (a .u .first) (a .u .count) (l .i) f n w k h) (m .result)
+          (m .ensures ∙ laws.reach-is b given (a .role) (member b (a .edges .now) lanes u (a .u .first) (a .u .count) (l .i) f n w k h) (a .reserve) _ (end .result) r
+          (cor .ensures b i o ∙ ap (λ (z : Role). corridor-of b z (getD (a .edges .now) (a .u .first + l .i) 0)) (c .before .before .before .before .before .before .before .before .before .before .before .before .other .ensures) ∙ ap (corridor-of b (other (a .role))) (edge-is b (a .edges .now) lanes u (a .u .first) (a .u .count) (l .i) f n w k h))
+          (end .ensures ∙ ap (end-x (a .role)) (ap (λ (j : ℕ). points-from (a .points .now) (getD (a .starts .now) (j + l .i) 0) (getD (a .counts .now) (j + l .i) 0)) (sym f) ∙ q .routes-are (u .first + l .i) (there b (a .edges .now) lanes u (a .u .first) (a .u .count) (l .i) f n w k h))))
           (c .before .before .r .given .0 .0) (c .tighten .result) (c .before .before .r .given .1) (c .tighten .ensures)
-          ∙ l .inv .1 b given r w e,
+          ∙ l .inv .1 b given lanes u f n r w k q i o,
     )
 
 returns-2 : tie.Need-returns-2 Inv-loop μ-loop
 returns-2 c =
-    let s = c .before .before .before in
-    let a = s .args in
+    let a = c .before .before .before .before .args in
     let l = c .before .loop in
-    let k = members-length s in
-    λ b given r w e.
-    laws.reach-end b given (a .role) (l .d) _ (rows.part-end no-member (a .t7 .rows) (a .t7 .count) (a .u .first) (a .u .count) (omega (arith, s .pre .0 .0)) (s .pre .0 .1) (l .i) (c .loop-test .left))
-    ∙ l .inv .1 b given r w e
-    ∙ ap (λ (z : List Member). reach-all b given (a .role) None (window (a .u .first) (a .u .count) z)) (sym (w .members-are))
+    λ b given lanes r w k q i o.
+    laws.reach-end b given (a .role) (l .d) _ (rows.part-end no-member (b .members) (a .u .first) (a .u .count) k (l .i) (c .loop-test .left))
+    ∙ l .inv .1 b given lanes (a .u) refl refl r w k q i o
 
 pub reach-all-spec : {M : Type 1} → statement M
 reach-all-spec =
@@ -148,12 +148,12 @@ reach-all-spec =
     (tie.spec
     Inv-loop
     μ-loop
+    other-requires
     loop-holds
     add-k
-    mul-m
-    element-copy-out-m
-    mul-c
-    element-copy-out-c
+    mul-at
+    element-copy-out-at
+    corridor-of-requires
     mul-start
     element-copy-out-start
     mul-count

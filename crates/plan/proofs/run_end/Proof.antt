@@ -31,20 +31,8 @@ loop-holds c =
 add-loop : tie.Need-add-loop Inv-loop μ-loop
 add-loop c = search needs
 
-add-point-at : tie.Need-add-point-at Inv-loop μ-loop
-add-point-at c = search needs
-
-point-at-requires : tie.Need-point-at-requires Inv-loop μ-loop
-point-at-requires c κs = search needs
-
-add-point-at-2 : tie.Need-add-point-at-2 Inv-loop μ-loop
-add-point-at-2 c = search needs
-
-add-point-at-3 : tie.Need-add-point-at-3 Inv-loop μ-loop
-add-point-at-3 c = search needs
-
-point-at-requires-2 : tie.Need-point-at-requires-2 Inv-loop μ-loop
-point-at-requires-2 c κs = search needs
+route-run-requires : tie.Need-route-run-requires Inv-loop μ-loop
+route-run-requires c κs = search needs
 
 shared-trunk-horizontal-range-requires :
     tie.Need-shared-trunk-horizontal-range-requires Inv-loop μ-loop
@@ -58,10 +46,10 @@ stretch-holds-requires c κs = search needs
 
 returns : tie.Need-returns Inv-loop μ-loop
 returns c =
-    let a = c .before .before .before .before .before .before .before .before .args in
-    let l = c .before .before .before .before .before .before .loop in
-    let h : 1 < a .count - l .i = omega (arith, c .before .before .before .before .before .loop-test .taken) in
-    laws.ends-here (a .role) (a .pitch) (a .x) (a .points .now) (a .start + l .i) (a .count - l .i) h (c .before .before .before .before .point-at .result) (c .before .before .before .point-at2 .result) (c .before .before .before .before .point-at .ensures) (c .before .before .before .point-at2 .ensures)
+    let a = c .before .before .before .before .before .before .before .args in
+    let l = c .before .before .before .before .before .loop in
+    let h : 1 < a .count - l .i = omega (arith, c .before .before .before .before .loop-test .taken) in
+    laws.ends-here (a .role) (a .pitch) (a .x) (a .points .now) (a .start + l .i) (a .count - l .i) h (c .before .before .before .route-run .result) (c .before .before .before .route-run .ensures)
     (c .before .before .shared-trunk-horizontal-range .result) (c .before .before .shared-trunk-horizontal-range .ensures) (c .before .stretch-holds .result) (c .before .stretch-holds .ensures) (c .if1 .taken)
     ∙ l .inv .1
 
@@ -70,16 +58,16 @@ loop-less c = search needs
 
 loop-again : tie.Need-loop-again Inv-loop μ-loop
 loop-again c =
-    let a = c .before .before .before .before .before .before .before .before .args in
-    let l = c .before .before .before .before .before .before .loop in
-    let t = c .before .before .before .before .before .loop-test .taken in
+    let a = c .before .before .before .before .before .before .before .args in
+    let l = c .before .before .before .before .before .loop in
+    let t = c .before .before .before .before .loop-test .taken in
     let h : 1 < a .count - l .i = omega (arith, t) in
     let e : a .start + (l .i + 1) ≡ a .start + l .i + 1 = omega arith in
     let f : a .count - (l .i + 1) ≡ a .count - l .i - 1 = omega arith in (
       omega (arith, t),
       ap (λ (j : ℕ). diverges-at (a .role) (a .pitch) (a .x) (points-from (a .points .now) j (a .count - (l .i + 1)))) e
           ∙ ap (λ (j : ℕ). diverges-at (a .role) (a .pitch) (a .x) (points-from (a .points .now) (a .start + l .i + 1) j)) f
-          ∙ laws.ends-later (a .role) (a .pitch) (a .x) (a .points .now) (a .start + l .i) (a .count - l .i) h (c .before .before .before .before .point-at .result) (c .before .before .before .point-at2 .result) (c .before .before .before .before .point-at .ensures) (c .before .before .before .point-at2 .ensures)
+          ∙ laws.ends-later (a .role) (a .pitch) (a .x) (a .points .now) (a .start + l .i) (a .count - l .i) h (c .before .before .before .route-run .result) (c .before .before .before .route-run .ensures)
           (c .before .before .shared-trunk-horizontal-range .result) (c .before .before .shared-trunk-horizontal-range .ensures) (c .before .stretch-holds .result) (c .before .stretch-holds .ensures) (c .if1 .left)
           ∙ l .inv .1,
     )
@@ -99,11 +87,7 @@ run-end-spec =
     μ-loop
     loop-holds
     add-loop
-    add-point-at
-    point-at-requires
-    add-point-at-2
-    add-point-at-3
-    point-at-requires-2
+    route-run-requires
     shared-trunk-horizontal-range-requires
     add-i
     stretch-holds-requires

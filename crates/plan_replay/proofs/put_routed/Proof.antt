@@ -1,5 +1,5 @@
 -- `plan_replay::put_routed` is safe and ends. Assumes nothing.
-use mathlib.Core.Path.{_≡_, sym, _∙_}
+use mathlib.Core.Path.{_≡_, refl, sym, _∙_}
 use mathlib.Core.List.{List}
 use Prim.Native.Nat.{ℕ, _≤_}
 use native.Mathlib.Omega.{arith}
@@ -19,7 +19,7 @@ edges-length s = let g = s .good .1 .1 .1 .0 .1 .1 .1 .1 .1 .1 .1 .0 in search (
 members-length : (s : tie.Start) → length (s .args .j .members .rows) ≡ 256
 members-length s = let g = s .good .1 .1 .1 .0 .1 .1 .1 .1 .1 .1 .1 .1 .1 .0 in search (g, needs, length-mapped)
 
-module _ (s : tie.Start) (starts counts edges : List ℕ) (w : RowsOf (s .args .j .edges) (s .args .j .members) starts counts edges) where
+module _ (s : tie.Start) (starts counts edges lanes : List ℕ) (w : RowsOf (s .args .j .edges) (s .args .j .members) starts counts edges lanes) where
   edges-in : s .args .j .edges .count ≤ length (s .args .j .edges .rows)
   edges-in = omega (arith, s .pre .0 .1 .edges-few, edges-length s)
 
@@ -27,20 +27,33 @@ module _ (s : tie.Start) (starts counts edges : List ℕ) (w : RowsOf (s .args .
   members-in = omega (arith, s .pre .0 .0 .members-few, members-length s)
 
   inside : (n : ℕ) → Inside (s .args .points .now) starts counts n
-  inside = let j = s .args .j in laws.inside (j .options) (j .nodes) (j .ports) (j .edges) (j .bundles) (j .members) (s .args .points .now) starts counts edges w (s .pre .0 .0 .members-few) (s .pre .0 .1) edges-in members-in
+  inside = let j = s .args .j in laws.inside (j .options) (j .nodes) (j .ports) (j .edges) (j .bundles) (j .members) (s .args .points .now) starts counts edges lanes w (s .pre .0 .0 .members-few) (s .pre .0 .1) edges-in members-in
 
   among : (t : Reaches) → Listed t (s .args .j .bundles) → AllAmong starts t
-  among = let j = s .args .j in laws.among (j .options) (j .nodes) (j .ports) (j .edges) (j .bundles) (j .members) (s .args .points .now) starts counts edges w (s .pre .0 .0 .members-few) (s .pre .0 .1) edges-in members-in (s .pre .0 .0)
+  among = let j = s .args .j in laws.among (j .options) (j .nodes) (j .ports) (j .edges) (j .bundles) (j .members) (s .args .points .now) starts counts edges lanes w (s .pre .0 .0 .members-few) (s .pre .0 .1) edges-in members-in (s .pre .0 .0)
+
+slice-aggregate-member-rows : tie.Need-slice-aggregate-member-rows
+slice-aggregate-member-rows c = search needs
+
+slice-aggregate-member-rows-2 : tie.Need-slice-aggregate-member-rows-2
+slice-aggregate-member-rows-2 c = search needs
+
+slice-aggregate-member-rows-3 : tie.Need-slice-aggregate-member-rows-3
+slice-aggregate-member-rows-3 c = search needs
+
+slice-aggregate-member-rows-4 : tie.Need-slice-aggregate-member-rows-4
+slice-aggregate-member-rows-4 c = search needs
 
 member-rows-requires : tie.Need-member-rows-requires
-member-rows-requires c κs = search needs
+member-rows-requires c κs =
+    let s = c .before .before .before .before .before .before .before .before .before in
+    ((s .pre .0 .1 .edges-few, s .pre .0 .0 .members-few), (s .pre .0 .1 .members-on, (laws.clear, laws.clear, refl, refl)))
 
 reach-bundles-requires : tie.Need-reach-bundles-requires
 reach-bundles-requires c κs =
-    let s = c .before .before .before .before .before .before .before .before .before .before in
-    let r = c .before .before .before .before .member-rows .result in
-    let w = c .before .before .before .before .member-rows .ensures in
-    (s .pre .0 .0, (inside s (r .starts) (r .counts) (r .edges) w (s .args .j .members .count), (omega (arith, s .pre .0 .0 .members-few, w .starts-long), omega (arith, s .pre .0 .0 .members-few, w .counts-long))))
+    let s = c .before .before .before .before .before .before .before .before .before .before .before .before .before .before .before .before .before .before in
+    let w = c .before .before .before .before .before .before .before .before .member-rows .ensures in
+    ((s .pre .0 .0, w .told), (inside s _ _ _ _ w 256, (w .starts-long, w .counts-long)))
 
 boundary-bundle-rail-depth-requires : tie.Need-boundary-bundle-rail-depth-requires
 boundary-bundle-rail-depth-requires c κs = search needs
@@ -56,11 +69,10 @@ slice-aggregate-put-reached-2 c = search needs
 
 put-reached-requires : tie.Need-put-reached-requires
 put-reached-requires c κs =
-    let s = c .before .before .before .before .before .before .before .before .before .before .before .before .before .before .before .before .before .before .before in
-    let r = c .before .before .before .before .before .before .before .before .before .before .before .before .before .member-rows .result in
-    let w = c .before .before .before .before .before .before .before .before .before .before .before .before .before .member-rows .ensures in
+    let s = c .before .before .before .before .before .before .before .before .before .before .before .before .before .before .before .before .before .before .before .before .before .before .before .before .before .before .before in
+    let w = c .before .before .before .before .before .before .before .before .before .before .before .before .before .before .before .before .before .member-rows .ensures in
     let t = c .before .before .before .before .before .before .before .before .reach-bundles in
-    (record { paired = w .starts-long ∙ sym (w .counts-long); windows = inside s (r .starts) (r .counts) (r .edges) w (length (r .starts)); room = s .pre .1 .0; scratch-room = s .pre .1 .1 }, among s (r .starts) (r .counts) (r .edges) w (t .result) (t .ensures .1))
+    (record { paired = w .starts-long ∙ sym (w .counts-long); windows = inside s _ _ _ _ w _; room = s .pre .1 .0; scratch-room = s .pre .1 .1 }, among s _ _ _ _ w (t .result) (t .ensures .1))
 
 same-length : tie.Need-same-length
 same-length c = search needs
@@ -78,6 +90,10 @@ pub put-routed-spec : {M : Type 1} → statement M
 put-routed-spec =
     tie.close
     (tie.spec
+    slice-aggregate-member-rows
+    slice-aggregate-member-rows-2
+    slice-aggregate-member-rows-3
+    slice-aggregate-member-rows-4
     member-rows-requires
     reach-bundles-requires
     boundary-bundle-rail-depth-requires

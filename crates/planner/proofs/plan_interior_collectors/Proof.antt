@@ -1,11 +1,16 @@
 -- `planner::plan_interior_collectors` meets its contract. Assumes nothing.
 use mathlib.Core.Path.{_≡_, refl, sym, _∙_, ap}
+use mathlib.Core.List.{List}
 use Prim.Native.Nat.{ℕ, _+_, _≤_, _<_}
 use native.Mathlib.Omega.{arith}
 use lib.ListN.{length, take}
-use Rattle.plan.specs.Prepared.{AllTell}
+use Rattle.geometry.specs.Points.{Route}
+use Rattle.board.specs.Board.{Board}
+use Rattle.plan.specs.declared.Reaches.{Reaches}
+use Rattle.plan.specs.Prepared.{Inside, Windowed, AllAmong}
 use Rattle.components.specs.Settled.{step-in}
 use Rattle.plan.proofs.Rows as rows
+use Rattle.planner.specs.Members.{RowsOf, Listed, EdgesIn}
 use Rattle.planner.proofs.Laws as laws
 use borrow.Author.Needs.{needs}
 use Rattle.planner.proofs.plan_interior_collectors.Statement.{statement}
@@ -17,16 +22,53 @@ table-length s = search (needs, rows.length-mapped)
 members-length : (s : tie.Start) → length (s .args .members .rows) ≡ 256
 members-length s = search (needs, rows.length-mapped)
 
+module _ (s : tie.Start) (starts counts edges lanes : List ℕ) (w : RowsOf (s .args .table) (s .args .members) starts counts edges lanes) where
+  edges-in : s .args .table .count ≤ length (s .args .table .rows)
+  edges-in = omega (arith, s .pre .0 .1 .edges-few, table-length s)
+
+  members-in : s .args .members .count ≤ length (s .args .members .rows)
+  members-in = omega (arith, s .pre .0 .0 .members-few, members-length s)
+
+  abbrev board : Board
+  board = laws.board (s .args .o) (s .args .nodes) (s .args .ports) (s .args .table) (s .args .bundles) (s .args .members) (s .args .points .now) starts counts edges lanes w (s .pre .0 .0 .members-few) (s .pre .0 .1) edges-in members-in
+
+  abbrev given : List Route
+  given = laws.given (s .args .o) (s .args .nodes) (s .args .ports) (s .args .table) (s .args .bundles) (s .args .members) (s .args .points .now) starts counts edges lanes w (s .pre .0 .0 .members-few) (s .pre .0 .1) edges-in members-in
+
+  inside : (n : ℕ) → Inside (s .args .points .now) starts counts n
+  inside = laws.inside (s .args .o) (s .args .nodes) (s .args .ports) (s .args .table) (s .args .bundles) (s .args .members) (s .args .points .now) starts counts edges lanes w (s .pre .0 .0 .members-few) (s .pre .0 .1) edges-in members-in
+
+  windowed : Windowed board given (s .args .points .now) starts counts
+  windowed = laws.windowed (s .args .o) (s .args .nodes) (s .args .ports) (s .args .table) (s .args .bundles) (s .args .members) (s .args .points .now) starts counts edges lanes w (s .pre .0 .0 .members-few) (s .pre .0 .1) edges-in members-in
+
+  among : (t : Reaches) → Listed t (s .args .bundles) → AllAmong starts t
+  among = laws.among (s .args .o) (s .args .nodes) (s .args .ports) (s .args .table) (s .args .bundles) (s .args .members) (s .args .points .now) starts counts edges lanes w (s .pre .0 .0 .members-few) (s .pre .0 .1) edges-in members-in (s .pre .0 .0)
+
+  of-edges : (t : Reaches) → Listed t (s .args .bundles) → EdgesIn board edges t
+  of-edges = laws.edges-in (s .args .o) (s .args .nodes) (s .args .ports) (s .args .table) (s .args .bundles) (s .args .members) (s .args .points .now) starts counts edges lanes w (s .pre .0 .0 .members-few) (s .pre .0 .1) edges-in members-in (s .pre .0 .0)
+
+slice-aggregate-member-rows : tie.Need-slice-aggregate-member-rows
+slice-aggregate-member-rows c = search needs
+
+slice-aggregate-member-rows-2 : tie.Need-slice-aggregate-member-rows-2
+slice-aggregate-member-rows-2 c = search needs
+
+slice-aggregate-member-rows-3 : tie.Need-slice-aggregate-member-rows-3
+slice-aggregate-member-rows-3 c = search needs
+
+slice-aggregate-member-rows-4 : tie.Need-slice-aggregate-member-rows-4
+slice-aggregate-member-rows-4 c = search needs
+
 member-rows-requires : tie.Need-member-rows-requires
-member-rows-requires c κs = let s = c .before .before .before in ((s .pre .0 .1 .edges-few, s .pre .0 .0 .members-few), s .pre .0 .1 .members-on)
+member-rows-requires c κs =
+    let s = c .before .before .before .before .before .before .before in
+    ((s .pre .0 .1 .edges-few, s .pre .0 .0 .members-few), (s .pre .0 .1 .members-on, (laws.clear, laws.clear, refl, refl)))
 
 reach-bundles-requires : tie.Need-reach-bundles-requires
 reach-bundles-requires c κs =
-    let s = c .before .before .before .before .before .before .before .before .before in
-    let a = s .args in
-    let r = c .before .before .before .before .before .member-rows .result in
-    let w = c .before .before .before .before .before .member-rows .ensures in
-    (s .pre .0 .0, (laws.inside (a .o) (a .nodes) (a .ports) (a .table) (a .bundles) (a .members) (a .points .now) (r .starts) (r .counts) (r .edges) w (s .pre .0 .0 .members-few) (s .pre .0 .1) (omega (arith, s .pre .0 .1 .edges-few, table-length s)) (omega (arith, s .pre .0 .0 .members-few, members-length s)) (a .members .count), (omega (arith, s .pre .0 .0 .members-few, w .starts-long), omega (arith, s .pre .0 .0 .members-few, w .counts-long))))
+    let s = c .before .before .before .before .before .before .before .before .before .before .before .before .before .before .before .before in
+    let w = c .before .before .before .before .before .before .before .before .member-rows .ensures in
+    ((s .pre .0 .0, w .told), (inside s _ _ _ _ w 256, (w .starts-long, w .counts-long)))
 
 boundary-bundle-rail-depth-requires : tie.Need-boundary-bundle-rail-depth-requires
 boundary-bundle-rail-depth-requires c κs = search needs
@@ -45,14 +87,19 @@ slice-aggregate-plan-reached-3 c = search needs
 
 plan-reached-requires : tie.Need-plan-reached-requires
 plan-reached-requires c κs =
-    let s = c .before .before .before .before .before .before .before .before .before .before .before .before .before .before .before .before .before in
+    let s = c .before .before .before .before .before .before .before .before .before .before .before .before .before .before .before .before .before .before .before .before .before .before .before .before in
     let a = s .args in
-    let r = c .before .before .before .before .before .before .before .before .before .before .before .before .before .member-rows .result in
-    let w = c .before .before .before .before .before .before .before .before .before .before .before .before .before .member-rows .ensures in
-    let t = c .before .before .before .before .before .before .before .reach-bundles in
-    let told = t .ensures .0 (take (a .table .count) (a .table .rows)) (laws.given (a .o) (a .nodes) (a .ports) (a .table) (a .bundles) (a .members) (a .points .now) (r .starts) (r .counts) (r .edges) w (s .pre .0 .0 .members-few) (s .pre .0 .1) (omega (arith, s .pre .0 .1 .edges-few, table-length s)) (omega (arith, s .pre .0 .0 .members-few, members-length s))) (laws.windowed (a .o) (a .nodes) (a .ports) (a .table) (a .bundles) (a .members) (a .points .now) (r .starts) (r .counts) (r .edges) w (s .pre .0 .0 .members-few) (s .pre .0 .1) (omega (arith, s .pre .0 .1 .edges-few, table-length s)) (omega (arith, s .pre .0 .0 .members-few, members-length s))) in (
-      record { paired = w .starts-long ∙ sym (w .counts-long); windows = laws.inside (a .o) (a .nodes) (a .ports) (a .table) (a .bundles) (a .members) (a .points .now) (r .starts) (r .counts) (r .edges) w (s .pre .0 .0 .members-few) (s .pre .0 .1) (omega (arith, s .pre .0 .1 .edges-few, table-length s)) (omega (arith, s .pre .0 .0 .members-few, members-length s)) (length (r .starts)); room = s .pre .1 .0; scratch-room = s .pre .1 .1 },
-      ((laws.among (a .o) (a .nodes) (a .ports) (a .table) (a .bundles) (a .members) (a .points .now) (r .starts) (r .counts) (r .edges) w (s .pre .0 .0 .members-few) (s .pre .0 .1) (omega (arith, s .pre .0 .1 .edges-few, table-length s)) (omega (arith, s .pre .0 .0 .members-few, members-length s)) (s .pre .0 .0) (t .result) (t .ensures .1), omega (arith, w .starts-long, w .edges-long)), record { board = laws.board (a .o) (a .nodes) (a .ports) (a .table) (a .bundles) (a .members) (a .points .now) (r .starts) (r .counts) (r .edges) w (s .pre .0 .0 .members-few) (s .pre .0 .1) (omega (arith, s .pre .0 .1 .edges-few, table-length s)) (omega (arith, s .pre .0 .0 .members-few, members-length s)); given = laws.given (a .o) (a .nodes) (a .ports) (a .table) (a .bundles) (a .members) (a .points .now) (r .starts) (r .counts) (r .edges) w (s .pre .0 .0 .members-few) (s .pre .0 .1) (omega (arith, s .pre .0 .1 .edges-few, table-length s)) (omega (arith, s .pre .0 .0 .members-few, members-length s)); told = rw (c .before .before .before .before .before .before .boundary-bundle-rail-depth .ensures, c .before .before .before .before .before .pitch-of-sheet .ensures) told }),
+    let w = c .before .before .before .before .before .before .before .before .before .before .before .before .before .before .before .before .member-rows .ensures in
+    let t = c .before .before .before .before .before .before .before .reach-bundles in (
+      record { paired = w .starts-long ∙ sym (w .counts-long); windows = inside s _ _ _ _ w _; room = s .pre .1 .0; scratch-room = s .pre .1 .1 },
+      (
+        (among s _ _ _ _ w (t .result) (t .ensures .1), omega (arith, w .starts-long, w .edges-long)),
+        record {
+          board = board s _ _ _ _ w;
+          given = given s _ _ _ _ w;
+          told = rw (c .before .before .before .before .before .before .boundary-bundle-rail-depth .ensures, c .before .before .before .before .before .pitch-of-sheet .ensures) (t .ensures .0 (take (a .table .count) (a .table .rows)) (given s _ _ _ _ w) (windowed s _ _ _ _ w));
+        },
+      ),
     )
 
 same-length : tie.Need-same-length
@@ -63,22 +110,24 @@ same-length-2 c = search needs
 
 returns : tie.Need-returns
 returns c =
-    let s = c .before .before .before .before .before .before .before .before .before .before .before .before .before .before .before .before .before .before .before .before .before .before in
+    let s = c .before .before .before .before .before .before .before .before .before .before .before .before .before .before .before .before .before .before .before .before .before .before .before .before .before .before .before .before .before in
     let a = s .args in
-    let r = c .before .before .before .before .before .before .before .before .before .before .before .before .before .before .before .before .before .before .member-rows .result in
-    let w = c .before .before .before .before .before .before .before .before .before .before .before .before .before .before .before .before .before .before .member-rows .ensures in
+    let w = c .before .before .before .before .before .before .before .before .before .before .before .before .before .before .before .before .before .before .before .before .before .member-rows .ensures in
     let t = c .before .before .before .before .before .before .before .before .before .before .before .before .reach-bundles in
-    let told = t .ensures .0 (take (a .table .count) (a .table .rows)) (laws.given (a .o) (a .nodes) (a .ports) (a .table) (a .bundles) (a .members) (a .points .now) (r .starts) (r .counts) (r .edges) w (s .pre .0 .0 .members-few) (s .pre .0 .1) (omega (arith, s .pre .0 .1 .edges-few, table-length s)) (omega (arith, s .pre .0 .0 .members-few, members-length s))) (laws.windowed (a .o) (a .nodes) (a .ports) (a .table) (a .bundles) (a .members) (a .points .now) (r .starts) (r .counts) (r .edges) w (s .pre .0 .0 .members-few) (s .pre .0 .1) (omega (arith, s .pre .0 .1 .edges-few, table-length s)) (omega (arith, s .pre .0 .0 .members-few, members-length s))) in
     let rail = c .before .before .before .before .before .before .before .before .before .before .before .boundary-bundle-rail-depth .ensures in
     let pitch = c .before .before .before .before .before .before .before .before .before .before .pitch-of-sheet .ensures in
     let p = c .before .before .before .before .plan-reached in
     ap (λ (n : ℕ). step-in n (p .result)) (sym (t .ensures .1 .as-many))
-    ∙ p .ensures (laws.board (a .o) (a .nodes) (a .ports) (a .table) (a .bundles) (a .members) (a .points .now) (r .starts) (r .counts) (r .edges) w (s .pre .0 .0 .members-few) (s .pre .0 .1) (omega (arith, s .pre .0 .1 .edges-few, table-length s)) (omega (arith, s .pre .0 .0 .members-few, members-length s))) (laws.given (a .o) (a .nodes) (a .ports) (a .table) (a .bundles) (a .members) (a .points .now) (r .starts) (r .counts) (r .edges) w (s .pre .0 .0 .members-few) (s .pre .0 .1) (omega (arith, s .pre .0 .1 .edges-few, table-length s)) (omega (arith, s .pre .0 .0 .members-few, members-length s))) pitch (rw (rail, pitch) told) (laws.edges-in (a .o) (a .nodes) (a .ports) (a .table) (a .bundles) (a .members) (a .points .now) (r .starts) (r .counts) (r .edges) w (s .pre .0 .0 .members-few) (s .pre .0 .1) (omega (arith, s .pre .0 .1 .edges-few, table-length s)) (omega (arith, s .pre .0 .0 .members-few, members-length s)) (s .pre .0 .0) (t .result) (t .ensures .1))
+    ∙ p .ensures (board s _ _ _ _ w) (given s _ _ _ _ w) pitch (rw (rail, pitch) (t .ensures .0 (take (a .table .count) (a .table .rows)) (given s _ _ _ _ w) (windowed s _ _ _ _ w))) (of-edges s _ _ _ _ w (t .result) (t .ensures .1))
 
 pub plan-interior-collectors-spec : {M : Type 1} → statement M
 plan-interior-collectors-spec =
     tie.close
     (tie.spec
+    slice-aggregate-member-rows
+    slice-aggregate-member-rows-2
+    slice-aggregate-member-rows-3
+    slice-aggregate-member-rows-4
     member-rows-requires
     reach-bundles-requires
     boundary-bundle-rail-depth-requires
