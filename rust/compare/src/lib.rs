@@ -2,10 +2,13 @@
 
 #![deny(unsafe_code)]
 
+pub mod boards;
 pub mod check;
+pub mod fuzz;
 pub mod heap;
 #[allow(unsafe_code)]
 pub mod outside;
-pub mod runs;
+pub mod plot;
+pub mod report;
 pub mod stack;
 pub mod time;

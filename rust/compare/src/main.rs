@@ -2,16 +2,25 @@
 
 #![forbid(unsafe_code)]
 
+use std::path::Path;
 use std::process::ExitCode;
 
-use compare::{heap, runs, stack, time};
+use compare::fuzz::{self, Settings};
+use compare::time::Whose;
+use compare::{boards, heap, outside, report, stack, time};
 
-const USAGE: &str =
-    "compare run [SEED [PERCENT]]     same bytes on all families, damages, short strings
-compare heap [SEED [COUNT]]      same bytes, buffers of exact size on the heap; for memcheck
-compare stack [SEED [COUNT]]     bytes of stack, COUNT jobs of each family
-compare stack-of PAGES           largest jobs on a stack of that many pages
-compare time [SEED]              microseconds a job and growth, both stages";
+const USAGE: &str = "compare fuzz [--seed S] [--from I] [--jobs N] [--seconds T] [--workers W]
+                                        same bytes on all families and mutated jobs
+compare heap [SEED [COUNT]]             same bytes, buffers of exact size on the heap; for memcheck
+compare stack [SEED [COUNT]]            bytes of stack, COUNT jobs of each family
+compare stack-of PAGES                  largest jobs on a stack of that many pages
+compare time [SEED [ROUNDS]]            microseconds a job, both stages
+compare boards                          the names of the boards that are measured
+compare repeat BOARD ours|rust TIMES    one stage on one board's jobs, for callgrind and perf
+compare document FOLDER COUNTS          measures and writes the table and the plot of BENCHMARKS.md";
+
+/// Rounds of a measurement where nothing else is asked for.
+const ROUNDS: u64 = 31;
 
 fn main() -> ExitCode {
     let words = std::env::args().skip(1).collect::<Vec<_>>();
@@ -27,21 +36,71 @@ fn main() -> ExitCode {
 }
 
 fn command(words: &[&str]) -> Result<bool, String> {
-    let (&name, rest) = words.split_first().ok_or(USAGE)?;
-    let numbers = rest
-        .iter()
-        .map(|word| word.parse().map_err(|_| format!("'{word}' is no number")))
-        .collect::<Result<Vec<u64>, _>>()?;
-    let number = |place: usize, else_: u64| numbers.get(place).copied().unwrap_or(else_);
-    match (name, numbers.len()) {
-        ("run", 0..=2) => Ok(runs::run(number(0, 1), number(1, 100))),
-        ("heap", 0..=2) => Ok(heap::heap(number(0, 1), number(1, 1_000))),
-        ("stack", 0..=2) => Ok(stack::stack(number(0, 1), number(1, 1_000))),
-        ("stack-of", 1) => Ok(stack::stack_of(number(0, 0) as usize)),
-        ("time", 0..=1) => {
-            time::time(number(0, 1));
+    match *words {
+        ["fuzz", ref rest @ ..] => Ok(fuzz::fuzz(&settings(rest)?, outside::stage)),
+        ["heap", ref rest @ ..] => {
+            let [seed, count] = numbers(rest, [1, 1_000])?;
+            Ok(heap::heap(seed, count))
+        }
+        ["stack", ref rest @ ..] => {
+            let [seed, count] = numbers(rest, [1, 1_000])?;
+            Ok(stack::stack(seed, count))
+        }
+        ["stack-of", pages] => Ok(stack::stack_of(number(pages)? as usize)),
+        ["time", ref rest @ ..] => {
+            let [seed, rounds] = numbers(rest, [1, ROUNDS])?;
+            report::time(seed, rounds as usize);
+            Ok(true)
+        }
+        ["boards"] => {
+            println!("{}", boards::NAMES.join("\n"));
+            Ok(true)
+        }
+        ["repeat", board, whose, times] => {
+            let set = boards::set(board, 1).ok_or("no such board")?;
+            let whose = Whose::of(whose).ok_or(USAGE)?;
+            time::repeat(&set, whose, number(times)? as usize);
+            Ok(true)
+        }
+        ["document", folder, counts] => {
+            report::document(Path::new(folder), Path::new(counts), 1, ROUNDS as usize)?;
             Ok(true)
         }
         _ => Err(USAGE.to_string()),
     }
+}
+
+fn settings(words: &[&str]) -> Result<Settings, String> {
+    let mut settings = Settings::default();
+    for pair in words.chunks(2) {
+        let [name, value] = *pair else {
+            return Err(USAGE.to_string());
+        };
+        let field = match name {
+            "--seed" => &mut settings.seed,
+            "--from" => &mut settings.from,
+            "--jobs" => &mut settings.jobs,
+            "--seconds" => &mut settings.seconds,
+            "--workers" => &mut settings.workers,
+            _ => return Err(USAGE.to_string()),
+        };
+        *field = number(value)?;
+    }
+    settings.workers = settings.workers.clamp(1, 64);
+    Ok(settings)
+}
+
+/// The numbers given, and the others as they stand.
+fn numbers<const N: usize>(words: &[&str], mut values: [u64; N]) -> Result<[u64; N], String> {
+    if words.len() > N {
+        return Err(USAGE.to_string());
+    }
+    for (value, word) in values.iter_mut().zip(words) {
+        *value = number(word)?;
+    }
+    Ok(values)
+}
+
+fn number(word: &str) -> Result<u64, String> {
+    word.parse().map_err(|_| format!("'{word}' is no number"))
 }

@@ -1,14 +1,18 @@
 //! The only module with unsafe code: the C function of the static library, pages that have an
-//! unmapped page on either side, and the thread's clock. x86-64 Linux alone, as the library is.
+//! unmapped page on either side, processes that share memory, and the thread's clock. x86-64 Linux
+//! alone, as the library is.
 
 use std::arch::asm;
-use std::ffi::{c_int, c_void};
+use std::ffi::{c_int, c_uint, c_void};
+use std::panic::{AssertUnwindSafe, catch_unwind};
 use std::ptr::{self, NonNull};
 use std::slice;
+use std::sync::atomic::AtomicU64;
 
 const PROT_NONE: c_int = 0;
 const PROT_READ: c_int = 1;
 const PROT_WRITE: c_int = 2;
+const MAP_SHARED: c_int = 1;
 const MAP_PRIVATE: c_int = 2;
 const MAP_ANONYMOUS: c_int = 0x20;
 const CLOCK_THREAD_CPUTIME_ID: c_int = 3;
@@ -45,6 +49,10 @@ unsafe extern "C" {
     fn mprotect(address: *mut c_void, length: usize, protection: c_int) -> c_int;
     fn munmap(address: *mut c_void, length: usize) -> c_int;
     fn clock_gettime(clock: c_int, time: *mut Timespec) -> c_int;
+    fn fork() -> c_int;
+    fn waitpid(process: c_int, status: *mut c_int, options: c_int) -> c_int;
+    fn _exit(status: c_int) -> !;
+    fn alarm(seconds: c_uint) -> c_uint;
 }
 
 /// The proved stage.
@@ -148,4 +156,69 @@ impl Drop for Fenced {
             munmap(base.cast(), self.length + 2 * PAGE);
         }
     }
+}
+
+/// Words that this process shares with those that it forks; 0 at first. They stay mapped.
+pub fn shared_words(count: usize) -> &'static [AtomicU64] {
+    let flags = MAP_SHARED | MAP_ANONYMOUS;
+    let length = count * size_of::<AtomicU64>();
+    // SAFETY: new pages at a place that the system chooses, readable, writable and set to 0, which
+    // is a valid AtomicU64; they are aligned to a page and never unmapped.
+    unsafe {
+        let base = mmap(
+            ptr::null_mut(),
+            length,
+            PROT_READ | PROT_WRITE,
+            flags,
+            -1,
+            0,
+        );
+        assert!(base.addr() != usize::MAX, "mmap of {count} words fails");
+        slice::from_raw_parts(base.cast(), count)
+    }
+}
+
+/// How a process ended.
+#[derive(Clone, Copy, Debug, Eq, PartialEq)]
+pub enum End {
+    Exit(i32),
+    Signal(i32),
+}
+
+/// The exit status of a process that panicked.
+pub const PANICKED: i32 = 101;
+
+/// Does `work` in a new process, which ends with the status that it gives; the number of the
+/// process. Only for a process of one thread.
+pub fn forked(work: impl FnOnce() -> i32) -> i32 {
+    // SAFETY: there is no other thread that could hold a lock. The new process does its work and
+    // ends, without coming back to the caller's code and without running what is left to the
+    // caller's end.
+    unsafe {
+        let process = fork();
+        assert!(process >= 0, "fork fails");
+        if process == 0 {
+            _exit(catch_unwind(AssertUnwindSafe(work)).unwrap_or(PANICKED));
+        }
+        process
+    }
+}
+
+/// Waits for the next of the forked processes to end.
+pub fn wait_for_any() -> (i32, End) {
+    let mut status = 0;
+    // SAFETY: `status` is lent for the call.
+    let process = unsafe { waitpid(-1, &mut status, 0) };
+    assert!(process > 0, "waitpid fails");
+    let end = match status & 0x7f {
+        0 => End::Exit(status >> 8 & 0xff),
+        signal => End::Signal(signal),
+    };
+    (process, end)
+}
+
+/// The process is ended by SIGALRM after that many seconds, unless this is called again before.
+pub fn end_after(seconds: u32) {
+    // SAFETY: it sets the process's alarm and nothing else.
+    unsafe { alarm(seconds) };
 }

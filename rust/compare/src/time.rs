@@ -1,182 +1,185 @@
-//! Microseconds per job in both stages, on the same accepted jobs, from one driver.
+//! Microseconds a job in both stages, on the same accepted jobs, from one driver.
 
 use std::hint::black_box;
+use std::time::Instant;
 
-use jobs::boards;
-use jobs::draft::{Draft, DraftBundle, EAST, INPUT, Scale, WEST};
 use jobs::families;
-use jobs::rng::Rng;
 use oracle::job;
-use oracle::stage::BUFFER;
+use oracle::stage::{BUFFER, Part};
 
+use crate::boards::Set;
 use crate::outside::{microseconds, stage};
 
-/// Timings of each job in each stage, by turns; their median counts.
-const TIMINGS: usize = 15;
-/// Calls in a timing of a job under 20,000 bytes, so that reading the clock does not show.
-const CALLS: u32 = 16;
-/// Bands of the realistic boards on which the growth is measured.
-const BANDS: [usize; 8] = [1, 2, 4, 6, 8, 12, 16, 20];
+/// The least time that one timing takes, so that reading the clock does not show.
+const LEAST: f64 = 2_000.0;
 
-/// Means over some jobs.
-struct Means {
-    bytes: f64,
-    tap_visits: f64,
-    geometry_visits: f64,
-    ours: f64,
-    judge: f64,
+/// What one set of jobs comes to. Visits, bytes and times are means over its jobs, times the
+/// median of the rounds.
+pub struct Measured {
+    pub name: &'static str,
+    pub jobs: usize,
+    pub bytes: f64,
+    pub tap_visits: f64,
+    pub geometry_visits: f64,
+    /// Microseconds of the proved stage.
+    pub ours: f64,
+    /// Microseconds of the Rust, and the part of it that is named functions.
+    pub rust: f64,
+    pub named: f64,
+    /// Median over the rounds of ours by the Rust's.
+    pub ratio: f64,
 }
 
-impl Means {
-    fn row(&self, name: &str, jobs: usize) {
-        println!(
-            "{name:14}{jobs:>6}{:>9.0}{:>11.0}{:>11.0}{:>12.2}{:>12.2}{:>8.2}",
-            self.bytes,
-            self.tap_visits,
-            self.geometry_visits,
-            self.ours,
-            self.judge,
-            self.judge / self.ours
-        );
+impl Measured {
+    /// Ours by the Rust's named functions alone.
+    pub fn ratio_to_named(&self) -> f64 {
+        self.ratio * self.rust / self.named
     }
 }
 
-/// The first `wanted` jobs that are accepted, of at most 100 times as many.
-fn accepted(wanted: usize, make: impl Fn(u64) -> Vec<u8>) -> Vec<Vec<u8>> {
-    (0..wanted as u64 * 100)
-        .map(make)
-        .filter(|job| oracle::number(&oracle::answer_of(job)) == 0)
-        .take(wanted)
-        .collect()
+/// The two stages.
+#[derive(Clone, Copy, Debug, Eq, PartialEq)]
+pub enum Whose {
+    Ours,
+    Rust,
 }
 
-/// Microseconds of one call.
-fn timing(calls: u32, mut call: impl FnMut()) -> f64 {
-    let start = microseconds();
-    for _ in 0..calls {
-        call();
+impl Whose {
+    pub fn name(self) -> &'static str {
+        match self {
+            Whose::Ours => "ours",
+            Whose::Rust => "rust",
+        }
     }
-    (microseconds() - start) / f64::from(calls)
+
+    pub fn of(name: &str) -> Option<Whose> {
+        [Whose::Ours, Whose::Rust]
+            .into_iter()
+            .find(|whose| whose.name() == name)
+    }
 }
 
-fn median(timings: &mut [f64]) -> f64 {
-    timings.sort_by(f64::total_cmp);
-    timings[timings.len() / 2]
-}
-
-fn measure(job: &[u8]) -> Means {
+/// Calls one stage on all jobs, `times` times.
+pub fn repeat(set: &Set, whose: Whose, times: usize) {
     let mut buffer = vec![0; BUFFER];
-    let (mut ours, mut judge) = ([0.0; TIMINGS], [0.0; TIMINGS]);
-    let calls = if job.len() < 20_000 { CALLS } else { 1 };
-    for (ours, judge) in ours.iter_mut().zip(&mut judge) {
-        *ours = timing(calls, || {
-            black_box(stage(black_box(job), &mut buffer));
-        });
-        *judge = timing(calls, || {
-            black_box(oracle::stage(black_box(job), &mut buffer));
-        });
-    }
-    let read = job::read(job).expect("an accepted job");
-    let left = |at: usize| u32::from_be_bytes(buffer[at..at + 4].try_into().expect("four bytes"));
-    Means {
-        bytes: job.len() as f64,
-        tap_visits: f64::from(read.tap_visits - left(6)),
-        geometry_visits: f64::from(read.geometry_visits - left(10)),
-        ours: median(&mut ours),
-        judge: median(&mut judge),
-    }
-}
-
-fn mean(measured: &[Means], field: impl Fn(&Means) -> f64) -> f64 {
-    measured.iter().map(field).sum::<f64>() / measured.len() as f64
-}
-
-fn print_means(name: &str, measured: &[Means]) {
-    let means = Means {
-        bytes: mean(measured, |means| means.bytes),
-        tap_visits: mean(measured, |means| means.tap_visits),
-        geometry_visits: mean(measured, |means| means.geometry_visits),
-        ours: mean(measured, |means| means.ours),
-        judge: mean(measured, |means| means.judge),
+    let call = match whose {
+        Whose::Ours => stage,
+        Whose::Rust => oracle::stage,
     };
-    means.row(name, measured.len());
+    for _ in 0..times {
+        for job in &set.jobs {
+            black_box(call(black_box(job), &mut buffer));
+        }
+    }
 }
 
-/// Nanoseconds per visit: the slope of the line nearest to all jobs (least squares).
-fn slope(measured: &[Means], visits: fn(&Means) -> f64, time: fn(&Means) -> f64) -> f64 {
-    let (visits_mean, time_mean) = (mean(measured, visits), mean(measured, time));
+/// Measures in rounds: in each both stages do all jobs, the one first in even rounds and the other
+/// in odd ones, and the round's ratio is that of the two times.
+pub fn measure(set: &Set, rounds: usize) -> Measured {
+    let timing = |whose: Whose, times: usize| {
+        let start = microseconds();
+        repeat(set, whose, times);
+        microseconds() - start
+    };
+    let once = timing(Whose::Ours, 1).min(timing(Whose::Rust, 1));
+    let times = (LEAST / once).ceil().max(1.0) as usize;
+    let (mut ours, mut rust, mut ratios) = (vec![], vec![], vec![]);
+    let mut parts = Parts::new(set.jobs.len());
+    for round in 0..rounds {
+        let (first, second) = match round % 2 {
+            0 => (Whose::Ours, Whose::Rust),
+            _ => (Whose::Rust, Whose::Ours),
+        };
+        let (one, other) = (timing(first, times), timing(second, times));
+        let (mine, its) = match first {
+            Whose::Ours => (one, other),
+            Whose::Rust => (other, one),
+        };
+        ours.push(mine);
+        rust.push(its);
+        ratios.push(mine / its);
+        parts.measure(set);
+    }
+    let count = set.jobs.len() as f64;
+    let calls = count * times as f64;
+    let rust = median(rust) / calls;
+    let mut all = Measured {
+        name: set.name,
+        jobs: set.jobs.len(),
+        bytes: 0.0,
+        tap_visits: 0.0,
+        geometry_visits: 0.0,
+        ours: median(ours) / calls,
+        rust,
+        named: parts.named() * rust,
+        ratio: median(ratios),
+    };
+    for job in &set.jobs {
+        let read = job::read(job).expect("a job");
+        let (tap, geometry) = families::paid(&read).expect("an accepted job");
+        all.bytes += job.len() as f64 / count;
+        all.tap_visits += f64::from(tap) / count;
+        all.geometry_visits += f64::from(geometry) / count;
+    }
+    all
+}
+
+/// The least time of each job in either part of the Rust, over all rounds. By the wall's clock,
+/// which can be read often: what else ran meanwhile only adds to it, so that the least is right.
+struct Parts {
+    jobs: Vec<[f64; 2]>,
+}
+
+impl Parts {
+    fn new(jobs: usize) -> Parts {
+        Parts {
+            jobs: vec![[f64::INFINITY; 2]; jobs],
+        }
+    }
+
+    fn measure(&mut self, set: &Set) {
+        for (job, least) in set.jobs.iter().zip(&mut self.jobs) {
+            let mut spent = [0.0; 2];
+            let (mut part, mut since) = (Part::Around, Instant::now());
+            let mut enter = |next: Part| {
+                spent[part as usize] += since.elapsed().as_secs_f64();
+                (part, since) = (next, Instant::now());
+            };
+            black_box(oracle::stage::answer_in_parts(black_box(job), &mut enter));
+            enter(Part::Around);
+            for (least, spent) in least.iter_mut().zip(spent) {
+                *least = least.min(spent);
+            }
+        }
+    }
+
+    /// The share of the named functions, all jobs together.
+    fn named(&self) -> f64 {
+        let sum = |part: Part| self.jobs.iter().map(|job| job[part as usize]).sum::<f64>();
+        sum(Part::Named) / (sum(Part::Around) + sum(Part::Named))
+    }
+}
+
+fn median(mut values: Vec<f64>) -> f64 {
+    values.sort_by(f64::total_cmp);
+    values[values.len() / 2]
+}
+
+/// Nanoseconds per visit: the slope of the line nearest to all (least squares).
+pub fn slope(
+    measured: &[Measured],
+    visits: fn(&Measured) -> f64,
+    time: fn(&Measured) -> f64,
+) -> f64 {
+    let mean = |field: fn(&Measured) -> f64| {
+        measured.iter().map(field).sum::<f64>() / measured.len() as f64
+    };
+    let (visits_mean, time_mean) = (mean(visits), mean(time));
     let (mut over, mut under) = (0.0, 0.0);
-    for means in measured {
-        let from = visits(means) - visits_mean;
-        over += from * (time(means) - time_mean);
+    for one in measured {
+        let from = visits(one) - visits_mean;
+        over += from * (time(one) - time_mean);
         under += from * from;
     }
     over / under * 1e3
-}
-
-fn print_growth(name: &str, measured: &[Means], visits: fn(&Means) -> f64) {
-    let ours = slope(measured, visits, |means| means.ours);
-    let judge = slope(measured, visits, |means| means.judge);
-    println!("    growth: {ours:.2} ns a {name} visit, the judge {judge:.2}");
-}
-
-/// Measures the jobs and prints their means.
-fn row(name: &str, jobs: &[Vec<u8>]) -> Vec<Means> {
-    let measured = jobs.iter().map(|job| measure(job)).collect::<Vec<_>>();
-    print_means(name, &measured);
-    measured
-}
-
-pub fn time(seed: u64) {
-    println!(
-        "{:14}{:>6}{:>9}{:>11}{:>11}{:>12}{:>12}{:>8}",
-        "board", "jobs", "bytes", "tap paid", "geometry", "us ours", "us judge", "ratio"
-    );
-    row("empty", &[Draft::default().job(&Scale::ONE).encode()]);
-    for (name, wanted) in [("small", 200), ("realistic", 200), ("largest", 20)] {
-        let family = families::family(name).expect("a family");
-        row(name, &accepted(wanted, |index| family.job(seed, index)));
-    }
-    let mut all = Vec::new();
-    for bands in BANDS {
-        let jobs = accepted(40, |index| {
-            let mut rng = Rng::new("growth", seed, bands as u64 * 10_000 + index);
-            boards::realistic(&mut rng, bands, 6)
-                .job(&Scale::ONE)
-                .encode()
-        });
-        all.extend(row(&format!("{bands} bands"), &jobs));
-    }
-    print_growth("geometry", &all, |means| means.geometry_visits);
-    let mut all = Vec::new();
-    for members in [2, 4, 8, 16, 24, 31] {
-        all.extend(row(&format!("{members} x 63 runs"), &[searched(members)]));
-    }
-    print_growth("tap", &all, |means| means.tap_visits);
-}
-
-/// One Input bundle whose members have 63 runs each, so that nearly all visits are the search's:
-/// every stretch gives another candidate, and most are found in every member.
-fn searched(members: i64) -> Vec<u8> {
-    let mut draft = Draft {
-        gap: 1,
-        ..Draft::default()
-    };
-    let left = draft.node(-200, -10, 100, 20);
-    let right = draft.node(5_000, -10, 100, 20);
-    let source = draft.port_at(left, EAST, 0);
-    let target = draft.port_at(right, WEST, 0);
-    let edges = (0..members)
-        .map(|member| {
-            let points = (0..64).map(|run| (64 * run + member, 40 * member));
-            draft.edge(source, target, points.collect())
-        })
-        .collect::<Vec<_>>();
-    draft.bundles.push(DraftBundle {
-        port: source,
-        role: INPUT,
-        width: members as u32,
-        members: edges.iter().map(|&edge| (edge, edge as u16)).collect(),
-    });
-    draft.job(&Scale::ONE).encode()
 }

@@ -3,12 +3,33 @@
 use std::path::Path;
 
 use compare::check::Checker;
-use compare::{heap, runs, stack};
+use compare::{heap, outside, stack};
+use jobs::families::ALPHABET;
 use oracle::wire::Reader;
 
+/// The longest of the short strings.
+const SHORT: usize = 8;
+
+/// All strings of up to eight bytes over the alphabet.
 #[test]
-fn same_bytes_on_some_jobs() {
-    assert!(runs::run(7, 1));
+fn same_bytes_on_short_strings() {
+    let mut checker = Checker::new(outside::stage, 1);
+    for length in 0..=SHORT {
+        for number in 0..ALPHABET.len().pow(length as u32) {
+            let mut rest = number;
+            let mut job = [0; SHORT];
+            for byte in &mut job[..length] {
+                *byte = ALPHABET[rest % ALPHABET.len()];
+                rest /= ALPHABET.len();
+            }
+            let job = &job[..length];
+            checker.check(job, number as u64).expect("the same bytes");
+        }
+    }
+}
+
+#[test]
+fn same_bytes_in_heap_memory() {
     assert!(heap::heap(7, 500));
 }
 
@@ -16,16 +37,19 @@ fn same_bytes_on_some_jobs() {
 #[test]
 fn same_bytes_on_stored_jobs() {
     let folder = Path::new(env!("CARGO_MANIFEST_DIR")).join("../../stored");
-    let mut checker = Checker::new(1);
+    let mut checker = Checker::new(outside::stage, 1);
     for name in ["jobs.bin", "largest.bin"] {
         let bytes = std::fs::read(folder.join(name)).expect("a stored file");
         let mut from = Reader::new(&bytes);
+        let mut index = 0;
         while let Ok(length) = from.u32() {
             let job = from.take(length as usize).expect("a job").to_vec();
             let length = from.u32().expect("a length");
             let answer = from.take(length as usize).expect("an answer");
             assert_eq!(oracle::answer_of(&job), answer);
-            assert_eq!(checker.check(&job), Ok(oracle::number(answer)));
+            let same = checker.check(&job, index).expect("the same bytes");
+            assert_eq!(same.number, oracle::number(answer));
+            index += 1;
         }
     }
 }

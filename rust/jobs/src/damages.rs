@@ -80,7 +80,8 @@ fn set_length(job: &mut [u8]) {
     }
 }
 
-fn damage(job: &mut Vec<u8>, rng: &mut Rng) {
+/// One damage to the bytes of a job.
+pub fn damage(job: &mut Vec<u8>, rng: &mut Rng) {
     if job.is_empty() {
         job.push(0);
     }

@@ -286,13 +286,7 @@ fn move_line(job: &mut Job, field: fn(&mut (f64, f64)) -> &mut f64, from: f64, t
 }
 
 fn within_limits(job: &mut Job) {
-    for option in [
-        &mut job.port_stub,
-        &mut job.route_lane_gap,
-        &mut job.edge_node_clearance,
-        &mut job.minimum_parallel_wire_spacing,
-        &mut job.member_endpoint_reserve,
-    ] {
+    for option in job.options_mut() {
         *option = plus(option.clamp(0.0, power(20)));
     }
     for node in &mut job.nodes {
@@ -344,13 +338,7 @@ pub fn depths_job(rng: &mut Rng) -> Job {
         });
     }
     let mut job = draft.job(&Scale::ONE);
-    for option in [
-        &mut job.port_stub,
-        &mut job.route_lane_gap,
-        &mut job.edge_node_clearance,
-        &mut job.minimum_parallel_wire_spacing,
-        &mut job.member_endpoint_reserve,
-    ] {
+    for option in job.options_mut() {
         *option = match rng.below(3) {
             0 => 0.0,
             1 => palette.length(rng),
@@ -454,14 +442,14 @@ fn largest(seed: u64, index: u64) -> Vec<u8> {
     finish(&mut rng, draft.job(&Scale::ONE))
 }
 
-/// Visits that an accepted job pays: tap and geometry.
-fn paid(job: &Job) -> Option<(u32, u32)> {
+/// Visits that a job pays, if it is accepted: tap and geometry.
+pub fn paid(job: &Job) -> Option<(u32, u32)> {
     let answer = oracle::answer_of(&job.encode());
     if oracle::number(&answer) != 0 {
         return None;
     }
-    let word = |at: usize| u32::from_be_bytes(answer[at..at + 4].try_into().expect("four bytes"));
-    Some((job.tap_visits - word(6), job.geometry_visits - word(10)))
+    let (tap, geometry) = oracle::visits_left(&answer);
+    Some((job.tap_visits - tap, job.geometry_visits - geometry))
 }
 
 /// Ten jobs to a board: each grant one below, at and one above what is needed, and four times

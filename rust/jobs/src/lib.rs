@@ -2,7 +2,6 @@
 
 #![forbid(unsafe_code)]
 
-pub mod bench;
 pub mod boards;
 pub mod cases;
 pub mod check;
@@ -10,6 +9,7 @@ pub mod damages;
 pub mod draft;
 pub mod families;
 pub mod floats;
+pub mod mutations;
 pub mod rng;
 pub mod stored;
 pub mod survey;

@@ -7,7 +7,7 @@ use std::process::ExitCode;
 
 use jobs::cases::{self, KINDS};
 use jobs::families::{self, FAMILIES};
-use jobs::{bench, check, damages, stored, survey};
+use jobs::{check, damages, stored, survey};
 
 const USAGE: &str = "jobs list                                families of jobs and kinds of cases
 jobs make FAMILY SEED FIRST COUNT        jobs as records, for `oracle batch`
@@ -18,7 +18,6 @@ jobs distribution [SEED [PERCENT]]       numbers and features by family
 jobs outcomes [SEED [COUNT]]             first bytes of results by operation
 jobs clamp [SEED [COUNT]]                the patched plan against the unpatched one
 jobs digest [SEED [COUNT]]               digests of answers and results, to compare builds
-jobs bench [SEED]                        microseconds per job
 jobs stored FOLDER                       makes the stored answers
 jobs check-stored FOLDER                 makes them anew and compares";
 
@@ -82,11 +81,6 @@ fn run(words: &[&str]) -> Result<bool, String> {
         ["digest", ref rest @ ..] => {
             let [seed, count] = defaults(rest, [1, 2_000])?;
             check::digest(seed, count);
-            Ok(true)
-        }
-        ["bench", ref rest @ ..] => {
-            let [seed, _] = defaults(rest, [1, 0])?;
-            bench::bench(seed);
             Ok(true)
         }
         ["stored", folder] => stored::write(folder.as_ref()).map(|()| true),

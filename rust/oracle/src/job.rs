@@ -310,6 +310,16 @@ impl Job {
         ]
     }
 
+    pub fn options_mut(&mut self) -> [&mut f64; 5] {
+        [
+            &mut self.port_stub,
+            &mut self.route_lane_gap,
+            &mut self.edge_node_clearance,
+            &mut self.minimum_parallel_wire_spacing,
+            &mut self.member_endpoint_reserve,
+        ]
+    }
+
     /// The job's bytes: what `read` takes. Counts must fit the format.
     pub fn encode(&self) -> Vec<u8> {
         let mut out = Writer::new();

@@ -44,4 +44,4 @@ const MAX_LAYOUT_ROUTE_CONTACT_SEGMENTS: usize = 100_000;
 include!(concat!(env!("OUT_DIR"), "/rail_depth.rs"));
 
 pub use show::show;
-pub use stage::{answer_of, number, stage};
+pub use stage::{answer_of, number, stage, visits_left};

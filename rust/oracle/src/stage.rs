@@ -22,7 +22,22 @@ pub fn stage(job: &[u8], buffer: &mut [u8]) -> usize {
 
 /// The bytes of the answer or the notice, given a buffer that 2 lets through.
 pub fn answer_of(job: &[u8]) -> Vec<u8> {
-    match sheet(job) {
+    answer_in_parts(job, |_| {})
+}
+
+/// Whose code runs.
+#[derive(Clone, Copy, Debug, Eq, PartialEq)]
+pub enum Part {
+    /// Ours: the job's reader, the Rust's records made from it, the answer's writer.
+    Around,
+    /// The Rust's functions that document 01 names, and the maps that their caller makes for them.
+    Named,
+}
+
+/// As `answer_of`; `enter` is called where another part begins, so that a clock can tell them
+/// apart. The first part is `Around`.
+pub fn answer_in_parts(job: &[u8], enter: impl FnMut(Part)) -> Vec<u8> {
+    match sheet(job, enter) {
         Ok(bytes) => bytes,
         Err(number) => answer::notice(number),
     }
@@ -33,16 +48,25 @@ pub fn number(answer: &[u8]) -> u8 {
     answer[5]
 }
 
-fn sheet(bytes: &[u8]) -> Result<Vec<u8>, u8> {
+/// Tap and geometry visits left, in an answer.
+pub fn visits_left(answer: &[u8]) -> (u32, u32) {
+    let word = |at: usize| u32::from_be_bytes(answer[at..at + 4].try_into().expect("four bytes"));
+    (word(6), word(10))
+}
+
+fn sheet(bytes: &[u8], mut enter: impl FnMut(Part)) -> Result<Vec<u8>, u8> {
     let board = Board::new(&job::read(bytes)?);
     let graph = board.graph();
+    enter(Part::Named);
     let prepared = board.prepare(&graph);
     let mut tap_visits = board.tap_visits as usize;
     let planned = prepared
         .plan(&board.routes, board.separate, &mut tap_visits)
         .ok_or(13)?;
     let mut geometry_visits = board.geometry_visits as usize;
+    enter(Part::Around);
     let mut layout = board.layout();
+    enter(Part::Named);
     let interior = draw(
         &board,
         &prepared,
@@ -52,6 +76,7 @@ fn sheet(bytes: &[u8]) -> Result<Vec<u8>, u8> {
     )
     .map_err(|refused| refused.number)?;
     normalize(&mut layout);
+    enter(Part::Around);
     Ok(answer::write(
         &layout,
         &interior,

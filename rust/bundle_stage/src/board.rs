@@ -1,0 +1,297 @@
+//! The board: what a job says.
+
+use crate::wire::{Malformed, Reader, TooMany, Wire, Writer, choice, listed, record};
+
+/// The number by which a node, port, edge or bundle is named.
+pub type Id = u32;
+
+/// The version of the job's and the answer's format.
+pub(crate) const VERSION: u8 = 1;
+
+/// A placed and routed board whose bundles are to be drawn.
+///
+/// Its numbers are as they are: what the stage refuses (see [`Refusal`](crate::Refusal)) can be
+/// written here too, and the stage says so.
+#[derive(Clone, Debug, Default, PartialEq)]
+pub struct Board {
+    pub flags: Flags,
+    pub options: Options,
+    pub grants: Visits,
+    pub nodes: Vec<Node>,
+    pub ports: Vec<Port>,
+    pub edges: Vec<Edge>,
+    /// They are drawn in this order.
+    pub bundles: Vec<Bundle>,
+}
+
+/// What the whole sheet permits and asks for.
+#[derive(Clone, Copy, Debug, Default, Eq, PartialEq)]
+pub struct Flags {
+    /// Collectors of one role keep a pitch from each other.
+    pub separate_collectors: bool,
+    /// A bundle and a foreign route may cross where neither ends.
+    pub permit_crossings: bool,
+}
+
+/// Lengths that hold for the whole sheet, each from 0 to 2^20.
+///
+/// The *pitch*, from lane to lane, is the larger of `route_lane_gap` and
+/// `minimum_parallel_wire_spacing`. A bundle at the *rail* has its collector at the rail depth from
+/// its port: `edge_node_clearance` if that is above 0, else `port_stub` plus `route_lane_gap`.
+#[derive(Clone, Copy, Debug, Default, PartialEq)]
+pub struct Options {
+    pub port_stub: f64,
+    pub route_lane_gap: f64,
+    pub edge_node_clearance: f64,
+    pub minimum_parallel_wire_spacing: f64,
+    /// What an interior collector leaves free at the far end of its members.
+    pub member_endpoint_reserve: f64,
+}
+
+/// Visits, granted by a job or left in an answer: the stage pays one for each look.
+#[derive(Clone, Copy, Debug, Eq, PartialEq)]
+pub struct Visits {
+    /// For the search for places. Where none is left, it finds none, and bundles go to the rail.
+    pub tap: u32,
+    /// For the two checks. Where one is due and none is left, the job is refused.
+    pub geometry: u32,
+}
+
+impl Visits {
+    /// The largest grants that a job may have.
+    pub const MOST: Visits = Visits {
+        tap: 2_000_000,
+        geometry: 20_000_000,
+    };
+}
+
+/// The largest grants: [`Visits::MOST`].
+impl Default for Visits {
+    fn default() -> Visits {
+        Visits::MOST
+    }
+}
+
+/// A node by its upper left corner and its size.
+#[derive(Clone, Copy, Debug, PartialEq)]
+pub struct Node {
+    pub id: Id,
+    pub x: f64,
+    pub y: f64,
+    pub width: f64,
+    pub height: f64,
+}
+
+/// A port on a side of a node.
+#[derive(Clone, Copy, Debug, PartialEq)]
+pub struct Port {
+    pub node: Id,
+    /// One node's ports have different ids.
+    pub id: Id,
+    pub side: Side,
+    /// From the side's left end (north, south) or upper end (east, west).
+    pub offset: f64,
+}
+
+/// A side of a node: north is the upper one.
+#[derive(Clone, Copy, Debug, Eq, PartialEq)]
+pub enum Side {
+    North,
+    East,
+    South,
+    West,
+}
+
+/// A port by its node's id and its own.
+#[derive(Clone, Copy, Debug, Eq, PartialEq)]
+pub struct Endpoint {
+    pub node: Id,
+    pub port: Id,
+}
+
+/// An edge with its route, from source to target.
+#[derive(Clone, Debug, PartialEq)]
+pub struct Edge {
+    pub id: Id,
+    pub source: Endpoint,
+    pub target: Endpoint,
+    pub points: Vec<Point>,
+}
+
+/// A place on the sheet: x grows to the right, y downwards.
+#[derive(Clone, Copy, Debug, PartialEq)]
+pub struct Point {
+    pub x: f64,
+    pub y: f64,
+}
+
+/// Edges that are drawn as one trunk at a port.
+#[derive(Clone, Debug, PartialEq)]
+pub struct Bundle {
+    pub id: Id,
+    pub endpoint: Endpoint,
+    pub role: Role,
+    /// How many wires it stands for. Of width 0 or 1 it is drawn at the rail.
+    pub width: u32,
+    pub members: Vec<Member>,
+}
+
+/// Which way a bundle's wires go.
+#[derive(Clone, Copy, Debug, Eq, PartialEq)]
+pub enum Role {
+    /// Into the sheet: from the bundle's port to the right, fanning out to their targets.
+    Input,
+    /// Out of the sheet: from their sources to the right, to the bundle's port.
+    Output,
+}
+
+/// An edge in a bundle, and its lane on the collector at the rail.
+#[derive(Clone, Copy, Debug, Eq, PartialEq)]
+pub struct Member {
+    pub edge: Id,
+    pub lane: u16,
+}
+
+record!(Options {
+    port_stub: "port_stub",
+    route_lane_gap: "route_lane_gap",
+    edge_node_clearance: "edge_node_clearance",
+    minimum_parallel_wire_spacing: "minimum_parallel_wire_spacing",
+    member_endpoint_reserve: "member_endpoint_reserve",
+});
+record!(Visits {
+    tap: "tap visits",
+    geometry: "geometry visits"
+});
+record!(Node {
+    id: "a node's id",
+    x: "a node's x",
+    y: "a node's y",
+    width: "a node's width",
+    height: "a node's height",
+});
+record!(Port {
+    node: "a port's node",
+    id: "a port's id",
+    side: "a port's side (0 to 3)",
+    offset: "a port's offset",
+});
+record!(Endpoint {
+    node: "a node",
+    port: "a port"
+});
+record!(Edge {
+    id: "an edge's id",
+    source: "an edge's source",
+    target: "an edge's target",
+    points: "an edge's points",
+});
+record!(Point {
+    x: "a point's x",
+    y: "a point's y"
+});
+record!(Bundle {
+    id: "a bundle's id",
+    endpoint: "a bundle's endpoint",
+    role: "a bundle's role (0 or 1)",
+    width: "a bundle's width",
+    members: "a bundle's members",
+});
+record!(Member {
+    edge: "a member's edge",
+    lane: "a member's lane"
+});
+choice!(Side {
+    0 => Side::North,
+    1 => Side::East,
+    2 => Side::South,
+    3 => Side::West,
+});
+choice!(Role {
+    0 => Role::Input,
+    1 => Role::Output,
+});
+choice!(Flags {
+    0 => Flags { separate_collectors: false, permit_crossings: false },
+    1 => Flags { separate_collectors: true, permit_crossings: false },
+    2 => Flags { separate_collectors: false, permit_crossings: true },
+    3 => Flags { separate_collectors: true, permit_crossings: true },
+});
+listed!(Point "points");
+listed!(Member "members");
+
+impl Board {
+    /// The job's bytes. They fail only where a count is too large for the format; limits of the
+    /// stage are not looked at.
+    pub fn to_bytes(&self) -> Result<Vec<u8>, TooMany> {
+        let mut to = Writer::new();
+        VERSION.put(&mut to)?;
+        self.flags.put(&mut to)?;
+        self.options.put(&mut to)?;
+        self.grants.put(&mut to)?;
+        to.count("nodes", self.nodes.len())?;
+        to.count("ports", self.ports.len())?;
+        to.count("edges", self.edges.len())?;
+        to.count("bundles", self.bundles.len())?;
+        to.rows(&self.nodes)?;
+        to.rows(&self.ports)?;
+        to.rows(&self.edges)?;
+        to.rows(&self.bundles)?;
+        to.finish()
+    }
+
+    /// The board that a job's bytes say, if they are a whole job: the length is right, the version
+    /// is 1, flags, sides and roles are listed, no field is missing and no byte is left over.
+    /// Whether the stage accepts its numbers is not looked at. `to_bytes` gives the same bytes back.
+    pub fn from_bytes(bytes: &[u8]) -> Result<Board, Malformed> {
+        let mut from = Reader::new(bytes);
+        from.length()?;
+        version(&mut from)?;
+        let flags = from.field("the flags (0 to 3)")?;
+        let options = from.field("the options")?;
+        let grants = from.field("the grants")?;
+        let nodes = from.field("the count of nodes")?;
+        let ports = from.field("the count of ports")?;
+        let edges = from.field("the count of edges")?;
+        let bundles = from.field("the count of bundles")?;
+        let board = Board {
+            flags,
+            options,
+            grants,
+            nodes: from.rows(nodes, "a node")?,
+            ports: from.rows(ports, "a port")?,
+            edges: from.rows(edges, "an edge")?,
+            bundles: from.rows(bundles, "a bundle")?,
+        };
+        from.end()?;
+        Ok(board)
+    }
+
+    /// The first node with this id.
+    pub fn node(&self, id: Id) -> Option<&Node> {
+        self.nodes.iter().find(|node| node.id == id)
+    }
+
+    /// The first port with this node and id.
+    pub fn port(&self, at: Endpoint) -> Option<&Port> {
+        self.ports
+            .iter()
+            .find(|port| (port.node, port.id) == (at.node, at.port))
+    }
+
+    /// The first edge with this id.
+    pub fn edge(&self, id: Id) -> Option<&Edge> {
+        self.edges.iter().find(|edge| edge.id == id)
+    }
+
+    /// The first bundle with this id.
+    pub fn bundle(&self, id: Id) -> Option<&Bundle> {
+        self.bundles.iter().find(|bundle| bundle.id == id)
+    }
+}
+
+pub(crate) fn version(from: &mut Reader<'_>) -> Result<(), Malformed> {
+    from.listed("version 1", |version: u8| {
+        (version == VERSION).then_some(())
+    })
+}

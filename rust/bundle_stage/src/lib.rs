@@ -1,0 +1,101 @@
+//! The bundle stage for Rust programs: a placed and routed [`Board`] in, a [`Sheet`] with its bundles
+//! drawn out, or a [`Refusal`].
+//!
+//! The stage itself is proved, and linked as a static library: it does not trap, ends, and draws no
+//! false joint, whatever the board (README of the repository). Buffers are this crate's business.
+//!
+//! ```
+//! use bundle_stage::*;
+//!
+//! // Two wires lead from a port of node 1 to node 2, to be drawn as one bundle.
+//! let source = Endpoint { node: 1, port: 1 };
+//! let wire = |id, y| Edge {
+//!     id,
+//!     source,
+//!     target: Endpoint { node: 2, port: id },
+//!     points: vec![
+//!         Point { x: 40.0, y: 50.0 },
+//!         Point { x: 60.0, y: 50.0 },
+//!         Point { x: 60.0, y },
+//!         Point { x: 200.0, y },
+//!     ],
+//! };
+//! let board = Board {
+//!     options: Options {
+//!         port_stub: 10.0,
+//!         route_lane_gap: 10.0,
+//!         member_endpoint_reserve: 20.0,
+//!         ..Options::default()
+//!     },
+//!     nodes: vec![
+//!         Node { id: 1, x: 0.0, y: 30.0, width: 40.0, height: 40.0 },
+//!         Node { id: 2, x: 200.0, y: 0.0, width: 40.0, height: 100.0 },
+//!     ],
+//!     ports: vec![
+//!         Port { node: 1, id: 1, side: Side::East, offset: 20.0 },
+//!         Port { node: 2, id: 1, side: Side::West, offset: 40.0 },
+//!         Port { node: 2, id: 2, side: Side::West, offset: 60.0 },
+//!     ],
+//!     edges: vec![wire(1, 40.0), wire(2, 60.0)],
+//!     bundles: vec![Bundle {
+//!         id: 1,
+//!         endpoint: source,
+//!         role: Role::Input,
+//!         width: 2,
+//!         members: vec![Member { edge: 1, lane: 0 }, Member { edge: 2, lane: 1 }],
+//!     }],
+//!     ..Board::default()
+//! };
+//!
+//! let sheet = board.draw()?;
+//! let bundle = &sheet.bundles[0];
+//! assert!(bundle.interior);
+//! assert_eq!(bundle.collector.start, Point { x: 180.0, y: 40.0 });
+//! assert_eq!(bundle.collector.end, Point { x: 180.0, y: 60.0 });
+//! assert_eq!(sheet.routes[0].points[0], bundle.taps[0].point);
+//! # Ok::<(), Refusal>(())
+//! ```
+//!
+//! # Stack
+//!
+//! A call needs less than 1 MiB of stack, whatever the board (the README of the repository has the
+//! figure), and asks for no other memory than its 65,536 bytes of buffer and the typed values. Rust's
+//! threads have 2 MiB unless a program says otherwise. On a stack that is too short the process ends
+//! at the guard page.
+
+#![forbid(unsafe_code)]
+
+mod board;
+mod refusal;
+mod sheet;
+mod wire;
+
+use bundle_stage_sys::BUFFER;
+
+pub use board::{
+    Board, Bundle, Edge, Endpoint, Flags, Id, Member, Node, Options, Point, Port, Role, Side,
+    Visits,
+};
+pub use refusal::{Cause, Refusal};
+pub use sheet::{Answer, DrawnBundle, PlacedNode, Route, Segment, Sheet, Tap};
+pub use wire::{Fault, Malformed, TooMany};
+
+/// The answer to a job's bytes, whatever they are: the bytes that the program `sheet` writes.
+pub fn answer(job: &[u8]) -> Vec<u8> {
+    let mut buffer = Box::new([0; BUFFER]);
+    let count = bundle_stage_sys::stage(job, &mut buffer);
+    buffer[..count].to_vec()
+}
+
+impl Board {
+    /// Draws the bundles.
+    ///
+    /// A table that is too long for the format's 16-bit count is refused as [`Refusal::Limit`]: it
+    /// is above its limit, and cannot even be written down.
+    pub fn draw(&self) -> Result<Sheet, Refusal> {
+        let job = self.to_bytes().map_err(|_| Refusal::Limit)?;
+        Answer::from_bytes(&answer(&job))
+            .expect("the stage is proved to write whole answers")
+            .into_result()
+    }
+}

@@ -1,0 +1,210 @@
+//! Why a job is refused.
+
+use std::error::Error;
+use std::fmt;
+
+/// Why there is no sheet: one case for each number of document 01.
+#[derive(Clone, Copy, Debug, Eq, Hash, PartialEq)]
+pub enum Refusal {
+    /// 1
+    Length,
+    /// 2. This crate's buffers are never too short, so that no call of it gives this one.
+    Buffer,
+    /// 3
+    Version,
+    /// 4
+    Fields,
+    /// 5
+    Limit,
+    /// 6
+    NotListed,
+    /// 7
+    Number,
+    /// 8
+    Twice,
+    /// 9
+    Unknown,
+    /// 10
+    Rewriting,
+    /// 11
+    Contact,
+    /// 12
+    Interior,
+    /// 13
+    Split,
+    /// 14
+    Grant,
+}
+
+/// Who can cause a refusal.
+#[derive(Clone, Copy, Debug, Eq, PartialEq)]
+pub enum Cause {
+    /// The program that calls the stage.
+    Caller,
+    /// Whoever wrote the job.
+    Writer,
+    /// The drawing: the board is as it should be, but its bundles cannot be drawn on it.
+    Drawing,
+    /// The visits that the job grants.
+    Grant,
+}
+
+impl Refusal {
+    /// All of them, by number.
+    pub const ALL: [Refusal; 14] = [
+        Refusal::Length,
+        Refusal::Buffer,
+        Refusal::Version,
+        Refusal::Fields,
+        Refusal::Limit,
+        Refusal::NotListed,
+        Refusal::Number,
+        Refusal::Twice,
+        Refusal::Unknown,
+        Refusal::Rewriting,
+        Refusal::Contact,
+        Refusal::Interior,
+        Refusal::Split,
+        Refusal::Grant,
+    ];
+
+    /// The number in the notice.
+    pub fn number(self) -> u8 {
+        // The cases stand by number, from 1.
+        self as u8 + 1
+    }
+
+    /// The refusal with this number, if there is one.
+    pub fn of_number(number: u8) -> Option<Refusal> {
+        let place = usize::from(number).checked_sub(1)?;
+        Refusal::ALL.get(place).copied()
+    }
+
+    /// Who can cause it.
+    pub fn caused_by(self) -> Cause {
+        match self.number() {
+            1 | 2 => Cause::Caller,
+            3..=9 => Cause::Writer,
+            10..=13 => Cause::Drawing,
+            _ => Cause::Grant,
+        }
+    }
+
+    /// What is wrong, as a clause.
+    pub fn fault(self) -> &'static str {
+        match self {
+            Refusal::Length => {
+                "the job has under 5 bytes, or its first four bytes do not count the bytes that \
+                 follow them"
+            }
+            Refusal::Buffer => "the buffer for the answer has under 65,536 bytes",
+            Refusal::Version => "the job's version is not 1",
+            Refusal::Fields => "a field of the job runs past its end, or bytes remain behind it",
+            Refusal::Limit => "a count, lane or grant is above its limit",
+            Refusal::NotListed => "a flag, side or role is none of those listed",
+            Refusal::Number => "a number is not finite, is minus zero, or is out of its range",
+            Refusal::Twice => {
+                "an id stands twice among the nodes, the edges, the bundles or one node's ports, or \
+                 an edge is twice in bundles of one role"
+            }
+            Refusal::Unknown => {
+                "a port, edge or bundle names a node that is not there, a bundle names a port that \
+                 its node does not have, or a member names an edge that is not there"
+            }
+            Refusal::Rewriting => "the route of a bundle's member cannot be led to its tap",
+            Refusal::Contact => {
+                "a bundle would touch a route or another bundle where it must not, or come too \
+                 close to it"
+            }
+            Refusal::Interior => {
+                "the route of a bundle's member would run through a node that is neither its source \
+                 nor its target, or is slanted"
+            }
+            Refusal::Split => {
+                "input and output bundles that share edges have no room for their collectors: the \
+                 place that would part them has its low end above its high end"
+            }
+            Refusal::Grant => {
+                "the checks of the sheet need more geometry visits than the job grants"
+            }
+        }
+    }
+
+    /// What to look at, as a sentence.
+    pub fn advice(self) -> &'static str {
+        match self {
+            Refusal::Length => {
+                "Look at how the job was read or sent: it is cut short, too long, or no job."
+            }
+            Refusal::Buffer => "Lend a buffer of 65,536 bytes.",
+            Refusal::Version => "Look at the fifth byte, and at which program wrote the job.",
+            Refusal::Fields => {
+                "Look at the counts: each must be the number of records that are written."
+            }
+            Refusal::Limit => {
+                "Look for more than 128 nodes, 256 ports, 256 edges, 32 bundles, 64 points of a \
+                 route, 2,048 points in all, 64 members of a bundle, 256 members in all, a lane \
+                 above 255, or grants above 2,000,000 tap and 20,000,000 geometry visits."
+            }
+            Refusal::NotListed => {
+                "Flags are 0 to 3, sides 0 to 3 (north, east, south, west), roles 0 and 1 (input, \
+                 output)."
+            }
+            Refusal::Number => {
+                "Coordinates and offsets have magnitude at most 2^30, sizes are 0 to 2^30, options \
+                 0 to 2^20; write 0 for minus zero."
+            }
+            Refusal::Twice => {
+                "Look for the same id twice, and for an edge that bundles of one role list twice."
+            }
+            Refusal::Unknown => "Look for a misspelt id.",
+            Refusal::Rewriting => {
+                "Look at the bundle's member routes: each needs two points or more, and a level \
+                 run, or an upright one, at its corridor: the rail depth, the depth of the bundles \
+                 before it and its lane's pitches away from the bundle's port."
+            }
+            Refusal::Contact => {
+                "Look for routes that cross the place of the bundle's collector and spine; give \
+                 them room, permit crossings, or lower minimum_parallel_wire_spacing."
+            }
+            Refusal::Interior => {
+                "Look for nodes between the bundle's port and the far ends of its members, and for \
+                 routes with a run that is neither level nor upright."
+            }
+            Refusal::Split => {
+                "Look at the options and at how near the two ports stand: the numbers are rounded \
+                 so that no x is left between them."
+            }
+            Refusal::Grant => {
+                "Grant more geometry visits, up to 20,000,000, or give the board fewer runs and \
+                 bundles."
+            }
+        }
+    }
+}
+
+impl fmt::Display for Cause {
+    fn fmt(&self, to: &mut fmt::Formatter<'_>) -> fmt::Result {
+        to.write_str(match self {
+            Cause::Caller => "the calling program",
+            Cause::Writer => "the job's writer",
+            Cause::Drawing => "the drawing",
+            Cause::Grant => "the grant",
+        })
+    }
+}
+
+impl fmt::Display for Refusal {
+    fn fmt(&self, to: &mut fmt::Formatter<'_>) -> fmt::Result {
+        write!(
+            to,
+            "refused with {}, caused by {}: {}. {}",
+            self.number(),
+            self.caused_by(),
+            self.fault(),
+            self.advice()
+        )
+    }
+}
+
+impl Error for Refusal {}

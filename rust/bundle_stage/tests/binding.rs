@@ -1,0 +1,413 @@
+//! Round trips of every structure, every refusal by name, and the stored answers of the Rust.
+
+#![forbid(unsafe_code)]
+
+use std::error::Error;
+
+use bundle_stage::*;
+
+fn at(x: f64, y: f64) -> Point {
+    Point { x, y }
+}
+
+fn node(id: Id, x: f64, y: f64, width: f64, height: f64) -> Node {
+    Node {
+        id,
+        x,
+        y,
+        width,
+        height,
+    }
+}
+
+/// Two wires from a port of node 1 to node 2, one bundle.
+fn board() -> Board {
+    let source = Endpoint { node: 1, port: 1 };
+    let wire = |id, y| Edge {
+        id,
+        source,
+        target: Endpoint { node: 2, port: id },
+        points: vec![at(40.0, 50.0), at(60.0, 50.0), at(60.0, y), at(200.0, y)],
+    };
+    let port = |node, id, side, offset| Port {
+        node,
+        id,
+        side,
+        offset,
+    };
+    Board {
+        options: Options {
+            port_stub: 10.0,
+            route_lane_gap: 10.0,
+            member_endpoint_reserve: 20.0,
+            ..Options::default()
+        },
+        nodes: vec![
+            node(1, 0.0, 30.0, 40.0, 40.0),
+            node(2, 200.0, 0.0, 40.0, 100.0),
+        ],
+        ports: vec![
+            port(1, 1, Side::East, 20.0),
+            port(2, 1, Side::West, 40.0),
+            port(2, 2, Side::West, 60.0),
+        ],
+        edges: vec![wire(1, 40.0), wire(2, 60.0)],
+        bundles: vec![Bundle {
+            id: 1,
+            endpoint: source,
+            role: Role::Input,
+            width: 2,
+            members: vec![Member { edge: 1, lane: 0 }, Member { edge: 2, lane: 1 }],
+        }],
+        ..Board::default()
+    }
+}
+
+/// The board with a change, and what the stage says to it.
+fn changed(change: impl FnOnce(&mut Board)) -> Result<Sheet, Refusal> {
+    let mut board = board();
+    change(&mut board);
+    board.draw()
+}
+
+/// What the stage says to the bytes of the board's job, changed.
+fn changed_bytes(change: impl FnOnce(&mut Vec<u8>)) -> Result<Sheet, Refusal> {
+    let mut job = board().to_bytes().expect("a small board");
+    change(&mut job);
+    let answer = Answer::from_bytes(&answer(&job)).expect("a whole answer");
+    answer.into_result()
+}
+
+fn set_length(job: &mut [u8]) {
+    let length = job.len() as u32 - 4;
+    job[..4].copy_from_slice(&length.to_be_bytes());
+}
+
+#[test]
+fn the_two_wires_are_drawn() {
+    let sheet = board().draw().expect("drawn");
+    assert_eq!((sheet.width, sheet.height), (240.0, 100.0));
+    assert_eq!(
+        sheet.nodes[1],
+        PlacedNode {
+            id: 2,
+            x: 200.0,
+            y: 0.0
+        }
+    );
+    assert_eq!(
+        sheet.routes[0].points,
+        [at(180.0, 40.0), at(200.0, 40.0)],
+        "the route starts at its tap"
+    );
+    let bundle = &sheet.bundles[0];
+    assert!(bundle.interior);
+    assert_eq!(bundle.role(), Some(Role::Input));
+    assert_eq!(
+        bundle.spine,
+        Segment {
+            start: at(40.0, 50.0),
+            end: at(180.0, 50.0)
+        }
+    );
+    assert_eq!(
+        bundle.taps[1],
+        Tap {
+            edge: 2,
+            point: at(180.0, 60.0)
+        }
+    );
+    let paid = Visits::MOST.tap - sheet.visits_left.tap;
+    assert!(paid > 0 && sheet.visits_left.geometry < Visits::MOST.geometry);
+}
+
+// ---- round trips
+
+/// A board with every case of every field; the stage would refuse it.
+fn odd_board() -> Board {
+    let mut odd = board();
+    odd.options.port_stub = f64::from_bits(0x7ff0_0000_0000_0001);
+    odd.options.edge_node_clearance = -0.0;
+    odd.options.minimum_parallel_wire_spacing = f64::NEG_INFINITY;
+    odd.grants = Visits {
+        tap: u32::MAX,
+        geometry: 0,
+    };
+    for (id, side) in [(7, Side::North), (7, Side::South), (8, Side::West)] {
+        odd.ports.push(Port {
+            node: 99,
+            id,
+            side,
+            offset: 5e-324,
+        });
+    }
+    odd.edges[1].points.clear();
+    odd.bundles.push(Bundle {
+        id: 0,
+        endpoint: Endpoint {
+            node: u32::MAX,
+            port: 0,
+        },
+        role: Role::Output,
+        width: u32::MAX,
+        members: Vec::new(),
+    });
+    odd.bundles[0].members[1].lane = u16::MAX;
+    odd
+}
+
+#[test]
+fn boards_come_back() {
+    for separate_collectors in [false, true] {
+        for permit_crossings in [false, true] {
+            for mut board in [Board::default(), board(), odd_board()] {
+                board.flags = Flags {
+                    separate_collectors,
+                    permit_crossings,
+                };
+                let bytes = board.to_bytes().expect("small");
+                let back = Board::from_bytes(&bytes).expect("whole");
+                assert_eq!(back.to_bytes().expect("small"), bytes);
+                // A NaN is not equal to itself, so the words are compared.
+                assert_eq!(format!("{back:?}"), format!("{board:?}"));
+            }
+        }
+    }
+}
+
+#[test]
+fn the_empty_board_is_document_01_s() {
+    let job = Board {
+        grants: Visits {
+            tap: 0,
+            geometry: 0,
+        },
+        ..Board::default()
+    };
+    let mut bytes = vec![0, 0, 0, 0x3a, 1];
+    bytes.resize(62, 0);
+    assert_eq!(job.to_bytes().expect("small"), bytes);
+    let mut due = vec![0, 0, 0, 0x20, 1];
+    due.resize(36, 0);
+    assert_eq!(answer(&bytes), due);
+}
+
+#[test]
+fn answers_come_back() {
+    let mut sheet = board().draw().expect("drawn");
+    sheet.bundles[0].interior = false;
+    sheet.width = f64::from_bits(0xfff8_0000_0000_0123);
+    let empty = Sheet {
+        visits_left: Visits::MOST,
+        width: 0.0,
+        height: -0.0,
+        nodes: Vec::new(),
+        routes: vec![Route {
+            id: 5,
+            points: Vec::new(),
+        }],
+        bundles: Vec::new(),
+    };
+    let refusals = Refusal::ALL.map(Answer::Refused);
+    let drawn = [Answer::Drawn(sheet), Answer::Drawn(empty)];
+    for answer in refusals.into_iter().chain(drawn) {
+        let bytes = answer.to_bytes().expect("small");
+        let back = Answer::from_bytes(&bytes).expect("whole");
+        assert_eq!(back.to_bytes().expect("small"), bytes);
+        assert_eq!(format!("{back:?}"), format!("{answer:?}"));
+    }
+}
+
+#[test]
+fn what_is_cut_or_added_is_no_job_and_no_answer() {
+    let job = odd_board().to_bytes().expect("small");
+    let drawn = answer(&board().to_bytes().expect("small"));
+    for whole in [job, drawn] {
+        for length in 0..whole.len() {
+            let mut part = whole[..length].to_vec();
+            assert!(Board::from_bytes(&part).is_err() && Answer::from_bytes(&part).is_err());
+            if length >= 4 {
+                set_length(&mut part);
+                assert!(Board::from_bytes(&part).is_err(), "cut at {length}");
+                // A number alone can be a refusal, but these have number 0 or are no answer.
+                assert!(Answer::from_bytes(&part).is_err(), "cut at {length}");
+            }
+        }
+        let mut more = whole.clone();
+        more.push(0);
+        set_length(&mut more);
+        assert!(Board::from_bytes(&more).is_err() && Answer::from_bytes(&more).is_err());
+    }
+}
+
+#[test]
+fn what_is_wrong_with_bytes_is_said() {
+    let job = board().to_bytes().expect("small");
+    let words = |place: usize, value: u8| {
+        let mut wrong = job.clone();
+        wrong[place] = value;
+        Board::from_bytes(&wrong).expect_err("wrong").to_string()
+    };
+    assert_eq!(words(4, 2), "byte 4: expected version 1, found 2");
+    assert_eq!(words(5, 4), "byte 5: expected the flags (0 to 3), found 4");
+    assert_eq!(
+        Board::from_bytes(&[]).expect_err("short").to_string(),
+        "byte 0: expected the length of all bytes that follow, found the end"
+    );
+}
+
+#[test]
+fn too_many_to_write_down() {
+    let mut board = board();
+    board.edges[0].points = vec![at(0.0, 0.0); 65_536];
+    let error = board.to_bytes().expect_err("too many");
+    assert_eq!(
+        error.to_string(),
+        "65536 points are too many to write down: at most 65535"
+    );
+    assert_eq!(board.draw(), Err(Refusal::Limit));
+}
+
+// ---- refusals
+
+#[test]
+fn every_refusal_by_name() {
+    assert_eq!(changed_bytes(Vec::clear), Err(Refusal::Length));
+    assert_eq!(changed_bytes(|job| job.push(0)), Err(Refusal::Length));
+    assert_eq!(changed_bytes(|job| job[4] = 2), Err(Refusal::Version));
+    let cut = |job: &mut Vec<u8>| {
+        job.pop();
+        set_length(job);
+    };
+    assert_eq!(changed_bytes(cut), Err(Refusal::Fields));
+    let lane = |board: &mut Board| board.bundles[0].members[1].lane = 256;
+    assert_eq!(changed(lane), Err(Refusal::Limit));
+    let grant = |board: &mut Board| board.grants.tap += 1;
+    assert_eq!(changed(grant), Err(Refusal::Limit));
+    assert_eq!(changed_bytes(|job| job[5] = 4), Err(Refusal::NotListed));
+    for wrong in [-0.0, f64::NAN, f64::INFINITY, 2_f64.powi(30) + 1.0] {
+        let moved = |board: &mut Board| board.nodes[0].x = wrong;
+        assert_eq!(changed(moved), Err(Refusal::Number), "{wrong}");
+    }
+    let twice = |board: &mut Board| board.edges[1].id = 1;
+    assert_eq!(changed(twice), Err(Refusal::Twice));
+    let unknown = |board: &mut Board| board.bundles[0].endpoint.port = 9;
+    assert_eq!(changed(unknown), Err(Refusal::Unknown));
+    let short = |board: &mut Board| board.edges[0].points.truncate(1);
+    assert_eq!(changed(short), Err(Refusal::Rewriting));
+    // A wire of another edge across the trunk.
+    let foreign = |board: &mut Board| {
+        let mut wire = board.edges[0].clone();
+        wire.id = 3;
+        wire.points = vec![at(100.0, 0.0), at(100.0, 100.0)];
+        board.edges.push(wire);
+    };
+    assert_eq!(changed(foreign), Err(Refusal::Contact));
+    // A node between the collector and the far ends.
+    let between = |board: &mut Board| board.nodes.push(node(3, 185.0, 35.0, 10.0, 10.0));
+    assert_eq!(changed(between), Err(Refusal::Interior));
+    assert_eq!(split_board().draw(), Err(Refusal::Split));
+    let nothing = |board: &mut Board| board.grants.geometry = 0;
+    assert_eq!(changed(nothing), Err(Refusal::Grant));
+}
+
+/// The reading of document 01 for 13: the largest input minimum is 2^-33, pitch and smallest output
+/// maximum are 2^20.
+fn split_board() -> Board {
+    let pitch = 2_f64.powi(20);
+    let mut board = board();
+    board.options = Options {
+        route_lane_gap: pitch,
+        edge_node_clearance: 2_f64.powi(-33),
+        ..Options::default()
+    };
+    board.nodes = vec![
+        node(1, -pitch, 0.0, 0.0, 0.0),
+        node(2, 2.0 * pitch, 0.0, 0.0, 0.0),
+    ];
+    board.ports.iter_mut().for_each(|port| port.offset = 0.0);
+    for (y, edge) in [0.0, 1.0].into_iter().zip(&mut board.edges) {
+        edge.points = vec![at(-pitch, y), at(2.0 * pitch, y)];
+    }
+    let lanes = board.bundles[0].members.iter_mut();
+    lanes.for_each(|member| member.lane = 0);
+    let members = board.bundles[0].members.clone();
+    board.bundles.push(Bundle {
+        id: 2,
+        endpoint: Endpoint { node: 2, port: 1 },
+        role: Role::Output,
+        width: 2,
+        members,
+    });
+    board
+}
+
+#[test]
+fn refusals_have_their_numbers_and_words() {
+    for (refusal, number) in Refusal::ALL.into_iter().zip(1..) {
+        assert_eq!(refusal.number(), number);
+        assert_eq!(Refusal::of_number(number), Some(refusal));
+        let words = refusal.to_string();
+        let start = format!("refused with {number}, caused by {}: ", refusal.caused_by());
+        assert!(words.starts_with(&start), "{words}");
+        assert!(words.ends_with(refusal.advice()), "{words}");
+        let _: &dyn Error = &refusal;
+    }
+    assert_eq!(Refusal::of_number(0), None);
+    assert_eq!(Refusal::of_number(15), None);
+}
+
+// ---- against the Rust
+
+/// The records of a file in `stored/`: jobs and answers by turns.
+fn stored(name: &str) -> Vec<Vec<u8>> {
+    let path = format!("{}/../../stored/{name}", env!("CARGO_MANIFEST_DIR"));
+    let bytes = std::fs::read(path).expect("a stored file");
+    let mut rest = &bytes[..];
+    let mut records = Vec::new();
+    while let Some((length, tail)) = rest.split_first_chunk() {
+        let (record, tail) = tail.split_at(u32::from_be_bytes(*length) as usize);
+        records.push(record.to_vec());
+        rest = tail;
+    }
+    records
+}
+
+#[test]
+fn stored_jobs_and_answers() {
+    let mut boards = 0;
+    for records in [stored("jobs.bin"), stored("largest.bin")] {
+        for pair in records.chunks_exact(2) {
+            let (job, due) = (&pair[0], &pair[1]);
+            assert_eq!(&answer(job), due);
+            let said = Answer::from_bytes(due).expect("a whole answer");
+            assert_eq!(&said.to_bytes().expect("small"), due);
+            match Board::from_bytes(job) {
+                Ok(board) => {
+                    assert_eq!(&board.to_bytes().expect("small"), job);
+                    assert_eq!(board.draw(), said.into_result());
+                    boards += 1;
+                }
+                Err(malformed) => {
+                    let refusal = said.into_result().expect_err("no job, so no sheet");
+                    assert!(refusal.number() <= 7, "{malformed}: {refusal}");
+                }
+            }
+        }
+    }
+    assert!(boards > 100, "{boards} boards");
+}
+
+#[test]
+fn threads_draw_at_the_same_time() {
+    let due = board().draw();
+    let draw = || (0..50).map(|_| board().draw()).all(|sheet| sheet == due);
+    std::thread::scope(|scope| {
+        let threads = [(); 4].map(|()| scope.spawn(draw));
+        assert!(
+            threads
+                .into_iter()
+                .all(|thread| thread.join().expect("ends"))
+        );
+    });
+}

@@ -1,0 +1,130 @@
+//! What `bundles help` says.
+
+struct Command {
+    name: &'static str,
+    words: &'static str,
+    short: &'static str,
+    long: &'static str,
+}
+
+const COMMANDS: [Command; 6] = [
+    Command {
+        name: "pack",
+        words: "[BOARD]",
+        short: "a board written as text, to a job on standard output",
+        long: "\
+BOARD is a text file, as docs/TEXT-FORM.md describes it and examples/clock-board.txt shows.
+A line that is not as it should be is named with what was expected there; no job is written then.
+Whether the stage accepts the board is not looked at: `bundles draw` says so.",
+    },
+    Command {
+        name: "unpack",
+        words: "[JOB]",
+        short: "a job, to its text on standard output",
+        long: "\
+Every job can be unpacked that is whole: its length is right, its version is 1, flags, sides and
+roles are listed, no field is missing and no byte is left over. Packing the text gives the same
+bytes. A text's comments, blank lines and spaces are not in a job, so they do not come back.",
+    },
+    Command {
+        name: "draw",
+        words: "[JOB...]",
+        short: "a job, to its answer on standard output; or several jobs, each to a file",
+        long: "\
+The answer is the sheet with its bundles drawn, or the six bytes of a refusal, byte for byte what
+the program `sheet` writes; as there, at most 65,536 bytes of a job are looked at. A refusal is
+also said in words on standard error.
+
+With two jobs or more, each answer is written beside its job, with `.answer` in place of `.job` at
+the end of the name, or behind a name with another end; a file that is there is replaced. Each job
+has a line on standard error. The exit code is 1 where any of them was refused. A job that cannot
+be read ends the command at its turn.",
+    },
+    Command {
+        name: "explain",
+        words: "[ANSWER [JOB]]",
+        short: "an answer in words: a table of its bundles, or why the job was refused",
+        long: "\
+The table has a line for each bundle: its id, its role, whether it stands inside the sheet
+(interior) or at the rail, the x of its collector, from which y to which it goes, and how many taps
+it has. Below it are the visits left. An answer does not have the role: it is read off the spine,
+which leads to the right for an input and to the left for an output. With the answer's JOB the role
+is the job's, and the visits granted and paid are said too.",
+    },
+    Command {
+        name: "svg",
+        words: "JOB ANSWER [--title TITLE]",
+        short: "a job and its answer, to a picture on standard output",
+        long: "\
+The picture is an SVG file, a page of at most A4: open it with a browser, print it from there.
+
+Nodes are boxes with their ids, ports are squares, routes are thin lines and bundles heavy ones, each
+with a colour and a mark of its own. A dot is a joint: a tap on its collector. Where lines cross
+without a joint, the one goes over the other in an arch. Routes that lie over each other, or very near,
+are drawn side by side; a route in two bundles changes its colour half way. The legend has each
+bundle's id, role, place, members and width.
+
+Lines and letters have their sizes in millimetres of the page; no letter is smaller than 1.8. Where
+lines would be too near to each other, the sheet is stretched across or down, and the last line of the
+page says how much. An id for which there is no room is left out, and the last line counts those; in a
+browser a line or a box under the pointer says its id.
+
+Without a TITLE the title is the job's name without its end.
+
+For a refusal the picture has the board as it was given, in grey, if the job is whole, and the refusal
+in words.",
+    },
+    Command {
+        name: "help",
+        words: "[COMMAND]",
+        short: "this, or all about one command",
+        long: "",
+    },
+];
+
+const FILES: &str = "\
+Where a file is left out, or named `-`, standard input is read.
+
+Exit codes: 0, done. 1, the job was refused; the answer, its explanation or its picture is written
+all the same. 2, bad usage, or a file that cannot be read or written or is not what it should be.";
+
+/// All commands.
+pub fn all() -> String {
+    let mut text = String::from(
+        "bundles: draws the bundles of a schematic sheet, and shows what was drawn\n\n",
+    );
+    for command in &COMMANDS {
+        let usage = format!("{} {}", command.name, command.words);
+        text.push_str(&format!("  bundles {usage:31}{}\n", command.short));
+    }
+    text.push_str(&format!(
+        "\n{FILES}\n\n\
+         From a text to a picture:\n\n  \
+         bundles pack board.txt > board.job\n  \
+         bundles draw board.job > board.answer\n  \
+         bundles explain board.answer board.job\n  \
+         bundles svg board.job board.answer > board.svg\n"
+    ));
+    text
+}
+
+/// One command, if there is one of that name.
+pub fn one(name: &str) -> Option<String> {
+    let command = COMMANDS.iter().find(|command| command.name == name)?;
+    let Command {
+        name,
+        words,
+        short,
+        long,
+    } = command;
+    let gap = if long.is_empty() { "" } else { "\n\n" };
+    Some(format!(
+        "bundles {name} {words}\n\n{short}\n\n{long}{gap}{FILES}\n"
+    ))
+}
+
+/// How a command is called.
+pub fn usage(name: &str) -> Option<String> {
+    let command = COMMANDS.iter().find(|command| command.name == name)?;
+    Some(format!("bundles {} {}", command.name, command.words))
+}

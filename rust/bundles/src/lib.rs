@@ -1,0 +1,7 @@
+//! What the tool `bundles` does, as functions: boards as text, answers explained, sheets drawn.
+
+#![forbid(unsafe_code)]
+
+pub mod explain;
+pub mod svg;
+pub mod text;

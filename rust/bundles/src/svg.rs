@@ -1,0 +1,152 @@
+//! A sheet as a picture for somebody who follows its wires.
+//!
+//! The picture is an SVG page of at most A4. Lines and letters have their sizes in millimetres of the
+//! page, whatever the sheet's lengths. A joint is a dot; where lines cross without one, the one goes
+//! over the other in an arch. Routes that lie over each other are drawn side by side.
+
+mod crossings;
+mod drawn;
+mod field;
+mod labels;
+mod lanes;
+mod legend;
+mod page;
+mod palette;
+mod paths;
+mod pens;
+mod scene;
+mod shapes;
+mod spans;
+mod stroke;
+mod xml;
+
+use bundle_stage::{Board, Point, Refusal, Sheet};
+
+use crate::explain::counted;
+use crate::text::number;
+use drawn::strokes;
+use labels::{Labels, labels};
+use legend::{Head, Legend};
+use page::{MARGIN, Page};
+use palette::{BLACK, GREY};
+use pens::Pens;
+use scene::Scene;
+use shapes::{lines, nodes, ports};
+use xml::{escaped, mm};
+
+/// Above the limits of a job, so that only a refused one has more: it is then drawn without arches
+/// and ids, whose cost grows with the square.
+const MOST_LINES: usize = 4_096;
+
+/// The finished sheet. `board` is the one that it is the answer to.
+pub fn svg(board: &Board, sheet: &Sheet, title: &str) -> String {
+    let crossings = if board.flags.permit_crossings {
+        "permitted"
+    } else {
+        "forbidden"
+    };
+    let about = format!(
+        "A sheet of {} by {}: {}, {}, {}. Crossings of bundles are {crossings}. Visits left: {} tap, \
+         {} geometry.",
+        number(sheet.width),
+        number(sheet.height),
+        counted(sheet.nodes.len(), "node"),
+        counted(sheet.routes.len(), "route"),
+        counted(sheet.bundles.len(), "bundle"),
+        sheet.visits_left.tap,
+        sheet.visits_left.geometry,
+    );
+    let head = Head {
+        title: title.to_string(),
+        lines: vec![about],
+        refused: false,
+    };
+    picture(Scene::of_sheet(board, sheet), &head)
+}
+
+/// The board alone, in grey, with the words of its refusal.
+pub fn svg_refused(board: &Board, refusal: Refusal, title: &str) -> String {
+    let head = Head {
+        title: title.to_string(),
+        lines: vec![refusal.to_string()],
+        refused: true,
+    };
+    picture(Scene::of_board(board), &head)
+}
+
+fn picture(scene: Scene, head: &Head) -> String {
+    let legend = Legend::of(&scene);
+    let page = Page::of(
+        &scene,
+        |width| head.height(width),
+        |width| legend.height(width),
+    );
+    let mut scene = scene.moved(|point| page.at(point));
+    let busy = scene.lines().len() > MOST_LINES;
+    let mut pens = if busy { Pens::thin() } else { Pens::of(&scene) };
+    let ink = if head.refused { GREY } else { BLACK };
+    let strokes = strokes(&mut scene, &mut pens, busy);
+    let corner = |x: f64, y: f64| Point { x, y };
+    let frame = (
+        corner(MARGIN / 2.0, page.top - 6.0),
+        corner(page.width - MARGIN / 2.0, page.bottom + 1.0),
+    );
+    let labels = if busy {
+        Labels {
+            svg: String::new(),
+            left_out: Vec::new(),
+        }
+    } else {
+        labels(&scene, &strokes, &pens, frame)
+    };
+    let (width, height) = (mm(page.width), mm(page.height));
+    let inner = page.width - 2.0 * MARGIN;
+    let mut svg = format!(
+        "<svg xmlns=\"http://www.w3.org/2000/svg\" width=\"{width}mm\" height=\"{height}mm\" \
+         viewBox=\"0 0 {width} {height}\" font-family=\"Helvetica, Arial, 'Liberation Sans', \
+         'DejaVu Sans', sans-serif\" fill=\"{BLACK}\">\n<title>{}</title>\n\
+         <rect width=\"{width}\" height=\"{height}\" fill=\"white\"/>\n",
+        escaped(&head.title)
+    );
+    svg.push_str(&head.draw(corner(MARGIN, MARGIN), inner));
+    svg.push_str(&nodes(&scene, &pens, ink));
+    svg.push_str(&lines(&scene, &strokes, &pens, ink));
+    svg.push_str(&ports(&scene, &pens, ink));
+    svg.push_str("<g class=\"ids\" text-anchor=\"middle\">\n");
+    svg.push_str(&labels.svg);
+    svg.push_str("</g>\n");
+    let note = note(&scene, &labels.left_out, &page);
+    svg.push_str(&legend.draw(corner(MARGIN, page.bottom), inner, &note));
+    svg + "</svg>\n"
+}
+
+/// The last line of the page.
+fn note(scene: &Scene, left_out: &[String], page: &Page) -> String {
+    let [across, down] = page.scale.map(|scale| number_of(1.0 / scale));
+    let mut note = if across == down {
+        format!("1 mm is {across} of the sheet.")
+    } else {
+        format!("1 mm is {across} of the sheet across, {down} down.")
+    };
+    if !left_out.is_empty() {
+        note.push_str(&format!(" No room for the ids of {}.", left_out.join(", ")));
+    }
+    if scene.left_out > 0 {
+        let count = counted(scene.left_out, "part");
+        note.push_str(&format!(
+            " Not shown: {count} with numbers that are no places."
+        ));
+    }
+    note
+}
+
+/// Three digits are enough for a scale.
+fn number_of(scale: f64) -> String {
+    let digits = (2.0 - scale.abs().log10().floor()).clamp(0.0, 12.0) as usize;
+    let text = format!("{scale:.digits$}");
+    if text.contains('.') {
+        text.trim_end_matches('0').trim_end_matches('.').to_string()
+    } else {
+        text
+    }
+}

@@ -1,0 +1,186 @@
+//! Where there is room for words.
+
+use bundle_stage::Point;
+
+use super::pens::Pens;
+use super::scene::{Scene, corners};
+use super::stroke::Stroke;
+
+#[derive(Clone, Copy)]
+pub struct Rect {
+    pub low: Point,
+    pub high: Point,
+}
+
+impl Rect {
+    pub fn around(middle: Point, width: f64, height: f64) -> Rect {
+        Rect {
+            low: moved(middle, -width / 2.0, -height / 2.0),
+            high: moved(middle, width / 2.0, height / 2.0),
+        }
+    }
+
+    pub fn of(a: Point, b: Point, more: f64) -> Rect {
+        Rect {
+            low: moved(
+                Point {
+                    x: a.x.min(b.x),
+                    y: a.y.min(b.y),
+                },
+                -more,
+                -more,
+            ),
+            high: moved(
+                Point {
+                    x: a.x.max(b.x),
+                    y: a.y.max(b.y),
+                },
+                more,
+                more,
+            ),
+        }
+    }
+
+    pub fn meets(&self, other: &Rect) -> bool {
+        self.low.x < other.high.x
+            && other.low.x < self.high.x
+            && self.low.y < other.high.y
+            && other.low.y < self.high.y
+    }
+
+    pub fn within(&self, other: &Rect) -> bool {
+        self.low.x >= other.low.x
+            && self.high.x <= other.high.x
+            && self.low.y >= other.low.y
+            && self.high.y <= other.high.y
+    }
+
+    pub fn middle(&self) -> Point {
+        Point {
+            x: (self.low.x + self.high.x) / 2.0,
+            y: (self.low.y + self.high.y) / 2.0,
+        }
+    }
+}
+
+pub fn moved(at: Point, x: f64, y: f64) -> Point {
+    Point {
+        x: at.x + x,
+        y: at.y + y,
+    }
+}
+
+/// What is on the page already.
+pub struct Field {
+    /// Lines, with the bundle whose trunk it is, and labels.
+    taken: Vec<(Rect, Option<usize>)>,
+    nodes: Vec<Rect>,
+    page: Rect,
+}
+
+/// A place for a label.
+#[derive(Clone, Copy)]
+pub struct Spot {
+    pub rect: Rect,
+    /// Inside a node.
+    pub inside: bool,
+    /// The bundle on whose trunk it may stand.
+    pub on: Option<usize>,
+    /// From below upwards.
+    pub turned: bool,
+    /// The height of its letters.
+    pub size: f64,
+}
+
+impl Spot {
+    pub fn new(rect: Rect, size: f64) -> Spot {
+        Spot {
+            rect,
+            inside: false,
+            on: None,
+            turned: false,
+            size,
+        }
+    }
+}
+
+impl Field {
+    pub fn free(&self, spot: &Spot) -> bool {
+        let mut taken = self.taken.iter();
+        spot.rect.within(&self.page)
+            && (spot.inside || !self.nodes.iter().any(|node| node.meets(&spot.rect)))
+            && !taken.any(|(rect, of)| (of.is_none() || *of != spot.on) && rect.meets(&spot.rect))
+    }
+}
+
+/// A thing to be labelled: its words and its places, best first.
+pub struct Wish {
+    pub text: String,
+    pub place: usize,
+    pub spots: Box<dyn Fn(f64) -> Vec<Spot>>,
+}
+
+pub struct Label {
+    pub text: String,
+    pub place: usize,
+    pub spot: Spot,
+}
+
+/// Labels for as many wishes as can be, and as many of them inside a node, at the largest size that
+/// allows it. Says how many are left out.
+pub fn placed(field: &mut Field, wishes: &[Wish], sizes: &[f64]) -> (Vec<Label>, usize) {
+    let before = field.taken.len();
+    let worth = |labels: &[Label]| {
+        let inside = labels.iter().filter(|label| label.spot.inside);
+        (labels.len(), inside.count())
+    };
+    let mut best: Vec<Label> = Vec::new();
+    for size in sizes {
+        let mut labels = Vec::new();
+        for Wish { text, place, spots } in wishes {
+            let spot = spots(*size).into_iter().find(|spot| field.free(spot));
+            if let Some(spot) = spot {
+                field.taken.push((spot.rect, None));
+                let (text, place) = (text.clone(), *place);
+                labels.push(Label { text, place, spot });
+            }
+        }
+        field.taken.truncate(before);
+        if worth(&labels) > worth(&best) {
+            best = labels;
+        }
+    }
+    let rects = best.iter().map(|label| (label.spot.rect, None));
+    field.taken.extend(rects);
+    let left_out = wishes.len() - best.len();
+    (best, left_out)
+}
+
+/// All that is drawn, on a page from one corner to the other.
+pub fn field(scene: &Scene, strokes: &[Stroke], pens: &Pens, page: (Point, Point)) -> Field {
+    let mut taken = Vec::new();
+    for stroke in strokes {
+        let half = stroke.width / 2.0 + 0.15;
+        for (piece, arches) in stroke.pieces().zip(&stroke.arches) {
+            taken.push((Rect::of(piece.start, piece.end, half), stroke.bundle));
+            for arch in arches {
+                let (from, top) = (piece.at(arch.from, 0.0), piece.at(arch.to, arch.rise));
+                taken.push((Rect::of(from, top, half), None));
+            }
+        }
+    }
+    let taps = scene.trunks.iter().flat_map(|trunk| &trunk.taps);
+    let dots = taps.map(|tap| Rect::of(tap.at, tap.at, tap.radius + 0.1));
+    let ports = scene.ports.iter();
+    let ports = ports.map(|port| Rect::of(port.low, port.high, pens.port / 2.0 + 0.1));
+    taken.extend(dots.chain(ports).map(|rect| (rect, None)));
+    let nodes = scene.nodes.iter().map(corners);
+    Field {
+        taken,
+        nodes: nodes.map(|[low, high]| Rect::of(low, high, 0.2)).collect(),
+        page: Rect {
+            low: page.0,
+            high: page.1,
+        },
+    }
+}

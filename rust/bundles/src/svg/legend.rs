@@ -1,0 +1,264 @@
+//! Words on the page: the title and what stands below it, the legend and what it explains.
+
+use bundle_stage::{Point, Role};
+
+use super::labels::{pill_at, pill_size};
+use super::palette::{BLACK, colour, mark};
+use super::paths::marked;
+use super::scene::{Scene, Trunk};
+use super::xml::{mm, wide, wide_bold, words};
+
+const TITLE: f64 = 5.0;
+const TEXT: f64 = 2.6;
+/// For the bundles, where there are many.
+const SMALL: f64 = 2.2;
+const MANY: usize = 12;
+const LINE: f64 = 4.2;
+const SAMPLE: f64 = 10.0;
+const GAP: f64 = 2.0;
+
+/// The title, and lines of words below it.
+pub struct Head {
+    pub title: String,
+    /// Each is broken where it is too long.
+    pub lines: Vec<String>,
+    /// They say why there is no sheet.
+    pub refused: bool,
+}
+
+impl Head {
+    pub fn height(&self, width: f64) -> f64 {
+        TITLE + 1.5 + LINE * self.broken(width).len() as f64
+    }
+
+    fn broken(&self, width: f64) -> Vec<String> {
+        let wide = if self.refused { wide_bold } else { wide };
+        let lines = self.lines.iter();
+        lines.flat_map(|line| broken(line, width, wide)).collect()
+    }
+
+    pub fn draw(&self, at: Point, width: f64) -> String {
+        let mut y = at.y + 0.8 * TITLE;
+        let bold = "class=\"title\" font-weight=\"bold\"";
+        let mut svg = words(Point { x: at.x, y }, TITLE, bold, &self.title);
+        y += 1.5;
+        let more = if self.refused {
+            "class=\"refusal\" font-weight=\"bold\" fill=\"#b03a00\""
+        } else {
+            "class=\"about\""
+        };
+        for line in self.broken(width) {
+            y += LINE;
+            svg.push_str(&words(Point { x: at.x, y }, TEXT, more, &line));
+        }
+        svg
+    }
+}
+
+/// A line as several that are not wider.
+fn broken(line: &str, width: f64, wide: fn(&str, f64) -> f64) -> Vec<String> {
+    let mut lines: Vec<String> = Vec::new();
+    for word in line.split(' ') {
+        match lines.last_mut() {
+            Some(last) if wide(&format!("{last} {word}"), TEXT) < width => {
+                last.push(' ');
+                last.push_str(word);
+            }
+            _ => lines.push(word.to_string()),
+        }
+    }
+    lines
+}
+
+/// A sample and what it means.
+struct Sign {
+    /// It is drawn from 0 to 10 mm across, 0 being its middle height.
+    sample: String,
+    /// Where the words start.
+    start: f64,
+    text: String,
+    /// The height of letters.
+    size: f64,
+}
+
+/// The legend: the signs of this sheet, a line for each bundle, and a line for notes.
+pub struct Legend {
+    signs: Vec<Sign>,
+    bundles: Vec<Sign>,
+}
+
+impl Legend {
+    pub fn of(scene: &Scene) -> Legend {
+        let size = if scene.trunks.len() > MANY {
+            SMALL
+        } else {
+            TEXT
+        };
+        let bundles = scene.trunks.iter().enumerate();
+        let bundles = bundles.map(|(place, trunk)| bundle(place, trunk, size));
+        Legend {
+            signs: signs(scene),
+            bundles: bundles.collect(),
+        }
+    }
+
+    pub fn height(&self, width: f64) -> f64 {
+        let rows = flow(&self.signs, width).1 + columns(&self.bundles, width).1;
+        LINE * rows as f64 + LINE + 2.0
+    }
+
+    pub fn draw(&self, at: Point, width: f64, note: &str) -> String {
+        let mut svg = String::from("<g class=\"legend\">\n");
+        let (bundles, rows) = columns(&self.bundles, width);
+        let (signs, more) = flow(&self.signs, width);
+        let all = [(&self.bundles, bundles, 0), (&self.signs, signs, rows)];
+        for (list, places, below) in all {
+            for (sign, (x, row)) in list.iter().zip(places) {
+                let y = at.y + LINE * ((row + below) as f64 + 0.5);
+                svg.push_str(&sign.draw(at.x + x, y));
+            }
+        }
+        if !note.is_empty() {
+            let y = at.y + LINE * ((rows + more) as f64 + 0.5) + 0.35 * TEXT;
+            svg.push_str(&words(
+                Point { x: at.x, y },
+                0.85 * TEXT,
+                "class=\"note\"",
+                note,
+            ));
+        }
+        svg + "</g>\n"
+    }
+}
+
+impl Sign {
+    fn width(&self) -> f64 {
+        self.start + wide(&self.text, self.size) + 2.0 * GAP
+    }
+
+    fn draw(&self, x: f64, y: f64) -> String {
+        let text = Point {
+            x: self.start,
+            y: 0.35 * self.size,
+        };
+        format!(
+            "<g transform=\"translate({} {})\">\n{}{}</g>\n",
+            mm(x),
+            mm(y),
+            self.sample,
+            words(text, self.size, "", &self.text)
+        )
+    }
+}
+
+/// Where each sign of a list stands, one behind the other, and how many rows there are.
+fn flow(signs: &[Sign], width: f64) -> (Vec<(f64, usize)>, usize) {
+    let (mut x, mut row) = (0.0, 0);
+    let mut places = Vec::new();
+    for sign in signs {
+        if x > 0.0 && x + sign.width() > width {
+            (x, row) = (0.0, row + 1);
+        }
+        places.push((x, row));
+        x += sign.width();
+    }
+    (places, if signs.is_empty() { 0 } else { row + 1 })
+}
+
+/// The same in columns, from above downwards.
+fn columns(signs: &[Sign], width: f64) -> (Vec<(f64, usize)>, usize) {
+    let widest = signs.iter().map(Sign::width).fold(1.0, f64::max);
+    let most = ((width + 2.0 * GAP) / widest).floor().max(1.0) as usize;
+    let rows = signs.len().div_ceil(most);
+    let places = 0..signs.len();
+    let places = places.map(|place| ((place / rows.max(1)) as f64 * widest, place % rows.max(1)));
+    (places.collect(), rows)
+}
+
+fn bundle(place: usize, trunk: &Trunk, size: f64) -> Sign {
+    let name = format!("B{}", trunk.id);
+    let role = match trunk.role {
+        Role::Input => "input",
+        Role::Output => "output",
+    };
+    let inside = if trunk.interior { "interior" } else { "rail" };
+    let members = crate::explain::counted(trunk.taps.len(), "member");
+    let line = marked(
+        &format!("M0 0H{}", mm(SAMPLE)),
+        1.1,
+        colour(place),
+        mark(place),
+    );
+    let at = Point {
+        x: SAMPLE + GAP,
+        y: 0.0,
+    };
+    Sign {
+        sample: line + &pill_at(&name, at, place, size),
+        start: at.x + pill_size(&name, size).0 + 1.0,
+        size,
+        text: format!("{role}, {inside}, {members}, width {}", trunk.width),
+    }
+}
+
+fn signs(scene: &Scene) -> Vec<Sign> {
+    let mut signs = Vec::new();
+    let mut sign = |sample: String, text: &str| {
+        signs.push(Sign {
+            sample,
+            start: SAMPLE + GAP,
+            size: TEXT,
+            text: text.to_string(),
+        });
+    };
+    let thin = |d: &str, colour: &str| {
+        format!("<path d=\"{d}\" fill=\"none\" stroke=\"{colour}\" stroke-width=\"0.35\"/>\n")
+    };
+    if !scene.trunks.is_empty() {
+        let first = colour(0);
+        sign(
+            marked("M5 -1.6V1.6", 1.1, first, mark(0))
+                + &thin("M5 0H10", first)
+                + &format!("<circle cx=\"5\" cy=\"0\" r=\"1\" fill=\"{first}\"/>\n"),
+            "joint: a tap on its collector",
+        );
+    }
+    sign(
+        thin("M5 -1.6V-1.2M5 -0.6V1.6", BLACK) + &thin("M0 0H4.1A0.9 0.9 0 0 1 5.9 0H10", BLACK),
+        "crossing: no joint",
+    );
+    if scene
+        .trunks
+        .iter()
+        .any(|trunk| trunk.taps.iter().any(|tap| !tap.held))
+    {
+        sign(
+            "<circle cx=\"5\" cy=\"0\" r=\"0.9\" fill=\"white\" stroke=\"#222222\" \
+             stroke-width=\"0.35\"/>\n"
+                .to_string(),
+            "tap off its collector",
+        );
+    }
+    if !scene.trunks.is_empty() {
+        let plain = |route: &super::scene::Route| route.input.is_none() && route.output.is_none();
+        if scene.routes.iter().any(plain) {
+            sign(thin("M0 0H10", BLACK), "route in no bundle");
+        }
+        let both = |route: &super::scene::Route| route.input.is_some() && route.output.is_some();
+        if scene.routes.iter().any(both) {
+            sign(
+                thin("M0 0H5", colour(0)) + &thin("M5 0H10", colour(1)),
+                "route in two bundles",
+            );
+        }
+    }
+    if !scene.ports.is_empty() {
+        sign(
+            "<rect x=\"4.4\" y=\"-0.6\" width=\"1.2\" height=\"1.2\" fill=\"white\" \
+             stroke=\"#222222\" stroke-width=\"0.3\"/>\n"
+                .to_string(),
+            "port",
+        );
+    }
+    signs
+}

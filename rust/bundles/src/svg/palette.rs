@@ -1,0 +1,37 @@
+//! Colours, and marks that tell bundles apart without them.
+
+/// Of the colours that Okabe and Ito chose for colour-blind readers, those that show as a thin line
+/// on white and are not black.
+const COLOURS: [&str; 6] = [
+    "#0072b2", "#d55e00", "#009e73", "#cc79a7", "#e69f00", "#56b4e9",
+];
+
+/// White lines in the middle of a trunk: dashes in widths of the trunk.
+const MARKS: [Mark; 6] = [
+    Mark::Plain,
+    Mark::Hollow,
+    Mark::Dashed(&[3.0, 1.6]),
+    Mark::Dashed(&[0.4, 1.6]),
+    Mark::Dashed(&[1.2, 1.2]),
+    Mark::Dashed(&[3.0, 1.2, 0.4, 1.2]),
+];
+
+#[derive(Clone, Copy)]
+pub enum Mark {
+    Plain,
+    Hollow,
+    Dashed(&'static [f64]),
+}
+
+pub const BLACK: &str = "#222222";
+pub const GREY: &str = "#8a8a8a";
+
+pub fn colour(place: usize) -> &'static str {
+    COLOURS[place % COLOURS.len()]
+}
+
+/// Neighbours differ in it, and so do the places that have the same colour: 36 of them are all
+/// different.
+pub fn mark(place: usize) -> Mark {
+    MARKS[(place + place / COLOURS.len()) % MARKS.len()]
+}

@@ -1,0 +1,201 @@
+//! The tool as a program: what it writes, and its exit codes.
+
+#![forbid(unsafe_code)]
+
+use std::fs;
+use std::io::Write;
+use std::path::{Path, PathBuf};
+use std::process::{Command, Output, Stdio};
+
+fn example(name: &str) -> String {
+    format!("{}/../../examples/{name}", env!("CARGO_MANIFEST_DIR"))
+}
+
+fn bundles(words: &[&str], input: &[u8]) -> Output {
+    let mut tool = Command::new(env!("CARGO_BIN_EXE_bundles"))
+        .args(words)
+        .stdin(Stdio::piped())
+        .stdout(Stdio::piped())
+        .stderr(Stdio::piped())
+        .spawn()
+        .expect("the tool starts");
+    let mut to = tool.stdin.take().expect("a pipe");
+    // A command that reads no input may have closed it.
+    let _ = to.write_all(input);
+    drop(to);
+    tool.wait_with_output().expect("the tool ends")
+}
+
+/// What is written, the exit code being as said.
+fn out(code: i32, words: &[&str], input: &[u8]) -> Vec<u8> {
+    let output = bundles(words, input);
+    let said = String::from_utf8_lossy(&output.stderr).into_owned();
+    assert_eq!(output.status.code(), Some(code), "{words:?}: {said}");
+    output.stdout
+}
+
+fn text(bytes: Vec<u8>) -> String {
+    String::from_utf8(bytes).expect("text")
+}
+
+/// What is said on standard error by a command that fails with 2 and writes nothing.
+fn failed(words: &[&str]) -> String {
+    let output = bundles(words, b"");
+    assert_eq!(output.status.code(), Some(2), "{words:?}");
+    assert!(output.stdout.is_empty(), "{words:?}");
+    text(output.stderr)
+}
+
+/// An empty folder of this test's own.
+fn folder(name: &str) -> PathBuf {
+    let folder = Path::new(env!("CARGO_TARGET_TMPDIR")).join(name);
+    let _ = fs::remove_dir_all(&folder);
+    fs::create_dir_all(&folder).expect("a folder");
+    folder
+}
+
+const NO_JOB: &[u8] = b"no job";
+/// Refused with 1.
+const NOTICE: &[u8] = &[0, 0, 0, 2, 1, 1];
+
+#[test]
+fn from_text_to_picture() {
+    let (board, job) = (example("clock-board.txt"), example("clock-board.job"));
+    let answer = example("clock-board.answer");
+    let read = |name: &str| fs::read(name).expect("an example");
+    assert_eq!(out(0, &["pack", &board], b""), read(&job));
+    assert_eq!(out(0, &["pack"], &read(&board)), read(&job));
+    assert_eq!(out(0, &["draw", &job], b""), read(&answer));
+    assert_eq!(out(0, &["draw", "-"], &read(&job)), read(&answer));
+    let unpacked = out(0, &["unpack", &job], b"");
+    assert_eq!(out(0, &["pack", "-"], &unpacked), read(&job));
+    let picture = text(out(0, &["svg", &job, &answer], b""));
+    assert!(picture.starts_with("<svg ") && picture.ends_with("</svg>\n"));
+    assert!(picture.contains("<title>clock-board</title>"));
+    let titled = out(
+        0,
+        &["svg", &job, &answer, "--title", "Clocks & pulses"],
+        b"",
+    );
+    assert!(text(titled).contains("<title>Clocks &amp; pulses</title>"));
+    let named = text(out(0, &["svg", "-", &answer], &read(&job)));
+    assert!(named.contains("<title>sheet</title>"));
+    let table = "\
+a sheet of 1000 by 480: 8 nodes, 20 routes, 6 bundles
+
+bundle  role    place     collector x  y           taps
+1       input   interior  380          70 to 130   4
+2       output  interior  580          70 to 130   4
+3       input   interior  380          190 to 330  4
+4       output  interior  580          240 to 350  4
+5       input   rail      120          410 to 430  3
+6       output  rail      880          415 to 425  2
+
+";
+    let left = "tap visits: 1999720 left\ngeometry visits: 19998994 left\n";
+    let paid = "tap visits: 2000000 granted, 280 paid, 1999720 left\n\
+                geometry visits: 20000000 granted, 1006 paid, 19998994 left\n";
+    assert_eq!(
+        text(out(0, &["explain", &answer], b"")),
+        format!("{table}{left}")
+    );
+    assert_eq!(
+        text(out(0, &["explain", "-", &job], &read(&answer))),
+        format!("{table}{paid}")
+    );
+}
+
+#[test]
+fn a_refusal() {
+    assert_eq!(out(1, &["draw"], NO_JOB), NOTICE);
+    let words = text(out(1, &["explain"], NOTICE));
+    assert!(words.starts_with("refused with 1, caused by the calling program: "));
+    // The board as it was given, or nothing where the bytes are no job.
+    for job in [example("clock-board.job"), example("clock-board.txt")] {
+        let picture = text(out(1, &["svg", &job, "-"], NOTICE));
+        assert!(picture.contains("refused with 1"), "{picture}");
+        assert_eq!(text(out(1, &["explain", "-", &job], NOTICE)), words);
+    }
+}
+
+#[test]
+fn only_65536_bytes_of_a_job_are_looked_at() {
+    // As the program sheet: the length counts what is read, and the bytes after it are not there.
+    let mut long = vec![0; 70_000];
+    long[..6].copy_from_slice(&[0, 0, 0xff, 0xfc, 1, 4]);
+    assert_eq!(out(1, &["draw"], &long)[5], 6);
+    long[3] = 0xfd;
+    assert_eq!(out(1, &["draw"], &long)[5], 1);
+}
+
+#[test]
+fn several_jobs() {
+    let folder = folder("several");
+    let name = |name: &str| folder.join(name).to_str().expect("text").to_string();
+    for job in ["a.job", "b"] {
+        fs::copy(example("board.job"), name(job)).expect("a copy");
+    }
+    let output = bundles(&["draw", &name("a.job"), &name("b")], b"");
+    assert_eq!(output.status.code(), Some(0));
+    assert!(output.stdout.is_empty());
+    let lines = text(output.stderr);
+    let due = |turn: &str, job: &str, answer: &str| {
+        format!(
+            "{turn} of 2: {}: 8 bundles drawn; {}\n",
+            name(job),
+            name(answer)
+        )
+    };
+    assert_eq!(
+        lines,
+        due("1", "a.job", "a.answer") + &due("2", "b", "b.answer")
+    );
+    let answer = fs::read(example("board.answer")).expect("an example");
+    for written in ["a.answer", "b.answer"] {
+        assert_eq!(fs::read(name(written)).expect("an answer"), answer);
+    }
+    // One of them is refused.
+    fs::write(name("c.job"), NO_JOB).expect("a file");
+    assert!(out(1, &["draw", &name("c.job"), &name("a.job")], b"").is_empty());
+    assert_eq!(fs::read(name("c.answer")).expect("a notice"), NOTICE);
+    assert!(failed(&["draw", &name("a.job"), "-"]).contains("standard input"));
+}
+
+#[test]
+fn what_fails() {
+    let job = example("clock-board.job");
+    let other = example("board.answer");
+    for (words, said) in [
+        (&[][..], "no command"),
+        (&["print"], "no command `print`"),
+        (&["svg", &job], "bundles svg JOB ANSWER"),
+        (&["pack", "a", "b"], "bundles pack [BOARD]"),
+        (&["help", "print"], "no command `print`"),
+        (&["draw", "not-there.job"], "not-there.job: "),
+        (&["pack", &job], "the bytes are no text"),
+        (&["unpack", &other], "no whole job: byte "),
+        (&["explain", &job], "no answer: byte "),
+        (&["explain", &other, &job], "is not the answer to"),
+        (&["svg", &job, &other], "is not the answer to"),
+        (&["svg", "-", "-"], "cannot both"),
+        (&["svg", "-", "-", "--title", "a"], "cannot both"),
+        (&["svg", &job, &other, "--title"], "[--title TITLE]"),
+        (&["pack"], "standard input: line 1: expected `port_stub`"),
+    ] {
+        let message = failed(words);
+        assert!(message.starts_with("bundles: "), "{message}");
+        assert!(message.contains(said), "{words:?}: {message}");
+    }
+}
+
+#[test]
+fn help() {
+    let all = text(out(0, &["help"], b""));
+    assert_eq!(text(out(0, &["--help"], b"")), all);
+    for command in ["pack", "unpack", "draw", "explain", "svg", "help"] {
+        assert!(all.contains(&format!("\n  bundles {command} ")));
+        let one = text(out(0, &["help", command], b""));
+        assert!(one.starts_with(&format!("bundles {command} ")));
+        assert!(one.contains("Exit codes: "));
+    }
+}
