@@ -4,17 +4,22 @@
 /// The bytes of an answer's buffer: the least that the stage accepts. No answer is longer.
 pub const BUFFER: usize = 65_536;
 
-unsafe extern "C" {
-    // SAFETY: the declaration is the library's `pub extern "C" fn stage(job: &[u8], answer: &mut
-    // [u8]) -> usize` (crates/stage), where a slice is a pointer and a count, and `usize` has 64
-    // bits on x86-64, for which alone the library is made. It exports no other name.
-    #[link_name = "stage"]
-    fn proved_stage(
-        job: *const u8,
-        job_length: usize,
-        answer: *mut u8,
-        answer_length: usize,
-    ) -> usize;
+/// The library's function as C sees it, for callers with memory of their own.
+pub mod c {
+    unsafe extern "C" {
+        // SAFETY: the declaration is the library's `pub extern "C" fn stage(job: &[u8], answer: &mut
+        // [u8]) -> usize` (crates/stage), where a slice is a pointer and a count, and `usize` has 64
+        // bits on x86-64, for which alone the library is made. It exports no other name.
+        /// # Safety
+        ///
+        /// Job and answer have as many bytes as is said, and do not overlap.
+        pub fn stage(
+            job: *const u8,
+            job_length: usize,
+            answer: *mut u8,
+            answer_length: usize,
+        ) -> usize;
+    }
 }
 
 /// Writes the answer to the job, or the notice of its refusal, to the front of the buffer, and gives
@@ -38,5 +43,5 @@ pub fn stage(job: &[u8], answer: &mut [u8; BUFFER]) -> usize {
     // and writes only what it is lent, and keeps no pointer. It has no state, so that threads may
     // call it at the same time. Its machine code touches each page of a frame as it makes it, as
     // Rust's does, so that a stack that is too short ends the process at its guard page.
-    unsafe { proved_stage(job.as_ptr(), job.len(), answer.as_mut_ptr(), answer.len()) }
+    unsafe { c::stage(job.as_ptr(), job.len(), answer.as_mut_ptr(), answer.len()) }
 }

@@ -1,4 +1,4 @@
-//! The only module with unsafe code: the C function of the static library, pages that have an
+//! The only module with unsafe code: calls of the static library's function, pages that have an
 //! unmapped page on either side, processes that share memory, and the thread's clock. x86-64 Linux
 //! alone, as the library is.
 
@@ -8,6 +8,8 @@ use std::panic::{AssertUnwindSafe, catch_unwind};
 use std::ptr::{self, NonNull};
 use std::slice;
 use std::sync::atomic::AtomicU64;
+
+use bundle_stage_sys::c;
 
 const PROT_NONE: c_int = 0;
 const PROT_READ: c_int = 1;
@@ -28,16 +30,6 @@ struct Timespec {
 }
 
 unsafe extern "C" {
-    // `pub extern "C" fn stage(job: &[u8], answer: &mut [u8]) -> usize` of crates/stage: a slice
-    // is a pointer and a count.
-    #[link_name = "stage"]
-    fn proved_stage(
-        job: *const u8,
-        job_length: usize,
-        answer: *mut u8,
-        answer_length: usize,
-    ) -> usize;
-
     fn mmap(
         address: *mut c_void,
         length: usize,
@@ -60,7 +52,7 @@ pub fn stage(job: &[u8], answer: &mut [u8]) -> usize {
     // SAFETY: both slices are valid for their lengths and do not overlap, as `job` is lent shared
     // and `answer` alone. The stage has a contract for every such pair (no `requires`): it reads
     // and writes only what it is lent, keeps no pointer and returns.
-    unsafe { proved_stage(job.as_ptr(), job.len(), answer.as_mut_ptr(), answer.len()) }
+    unsafe { c::stage(job.as_ptr(), job.len(), answer.as_mut_ptr(), answer.len()) }
 }
 
 /// The answer in a buffer of `length` bytes that nobody has written to before, so that memcheck
@@ -71,7 +63,7 @@ pub fn stage_on_heap(job: &[u8], length: usize) -> Vec<u8> {
     // read them, and by its contract the first `count` bytes are written, `count` being at most
     // `length`.
     unsafe {
-        let count = proved_stage(job.as_ptr(), job.len(), answer.as_mut_ptr(), length);
+        let count = c::stage(job.as_ptr(), job.len(), answer.as_mut_ptr(), length);
         assert!(count <= length, "{count} bytes in a buffer of {length}");
         answer.set_len(count);
     }
@@ -92,7 +84,7 @@ pub fn stage_on_stack(stack: &mut Fenced, job: &[u8], answer: &mut [u8]) -> usiz
             "call {stage}",
             "mov rsp, r12",
             top = in(reg) top,
-            stage = sym proved_stage,
+            stage = sym c::stage,
             in("rdi") job.as_ptr(),
             in("rsi") job.len(),
             in("rdx") answer.as_mut_ptr(),
