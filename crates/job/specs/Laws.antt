@@ -5,7 +5,7 @@ use mathlib.Core.Bool.{Bool, true, false, cond, _&&_, _||_}
 use mathlib.Core.List.{List, [], _∷_, _++_, map}
 use native.Mathlib.Omega.{arith}
 use native.Mathlib.Numerals.{add-one}
-use lib.ListN.{length, take, drop, getD, set, drop-of-length-le, length-map}
+use lib.ListN.{length, take, drop, getD, set, replicate, drop-of-length-le, length-map}
 use lib.Seq.{take-suc-set, length-take-le, drop-cons, getD-take}
 use lib.Dec.{leb, eqb}
 use borrow.Author.Tests.{leb-true}
@@ -14,7 +14,7 @@ use Rattle.geometry.specs.declared.Point.{Point}
 use Rattle.job.specs.declared.RawEdge.{RawEdge}
 use Rattle.job.specs.declared.RawBundle.{RawBundle}
 use Rattle.job.specs.declared.RawMember.{RawMember}
-use Rattle.job.specs.Keys.{Key, same, stands-in, twice, Known, unknown, known, known-then, place-from, each}
+use Rattle.job.specs.Keys.{Key, same, stands-in, twice, Known, unknown, known, place-from}
 use Rattle.job.specs.Job.{push, EdgeList, BundleList, next-edge, next-bundle, edge-head, bundle-head, point, member, within-total, counted}
 
 -- ---- repeated records
@@ -55,16 +55,34 @@ keys-append (c ∷ a) (d ∷ b) x y h =
     let k : length a ≡ length b = omega arith in
     rw (keys-append a b x y k)
 
-map-append-one : {A B : Type 0} (f : A → B) (l : List A) (a : A) → map f (l ++ (a ∷ [])) ≡ map f l ++ (f a ∷ [])
+pub map-append-one : {A B : Type 0} (f : A → B) (l : List A) (a : A) → map f (l ++ (a ∷ [])) ≡ map f l ++ (f a ∷ [])
 map-append-one f [] a = refl
 map-append-one f (b ∷ l) a = rw (map-append-one f l a)
 
--- a row and its key having been stored at the same place
-pub keyed : {A : Type 0} (f : A → Key) (a b : List ℕ) (l : List A) (i x y : ℕ) (v : A) → i < length a → i < length b → i < length l → f v ≡ (x, y)
-    → keys (take i a) (take i b) ≡ map f (take i l) → keys (take (i + 1) (set a i x)) (take (i + 1) (set b i y)) ≡ map f (take (i + 1) (set l i v))
-keyed f a b l i x y v ha hb hl e h =
+-- a key having been stored behind the first i
+pub keys-more : (a b : List ℕ) (i x y : ℕ) → i < length a → i < length b → keys (take (i + 1) (set a i x)) (take (i + 1) (set b i y)) ≡ keys (take i a) (take i b) ++ ((x, y) ∷ [])
+keys-more a b i x y ha hb =
     let k : length (take i a) ≡ length (take i b) = rw (length-take-le i a (omega arith), length-take-le i b (omega arith)) in
-    rw (one-more a i x ha, one-more b i y hb, one-more l i v hl, keys-append (take i a) (take i b) x y k, map-append-one f (take i l) v, e, h)
+    rw (one-more a i x ha, one-more b i y hb, keys-append (take i a) (take i b) x y k)
+
+keys-zeros : (a : List ℕ) (m : ℕ) → length a ≤ m → keys a (take (length a) (replicate m 0)) ≡ map {B = Key} (λ x. (x, 0)) a
+unfolding keys
+keys-zeros [] m h = refl
+keys-zeros (x ∷ a) zero h = absurd (omega arith)
+keys-zeros (x ∷ a) (suc m) h =
+    let k : length a ≤ m = omega arith in
+    rw (keys-zeros a m k)
+
+beside-zero : {A : Type 0} (f : A → ℕ) (l : List A) → map {B = Key} (λ x. (x, 0)) (map f l) ≡ map (λ a. (f a, 0)) l
+beside-zero f [] = refl
+beside-zero f (a ∷ l) = rw (beside-zero f l)
+
+-- the keys of ids that stand alone
+pub keys-alone : {A : Type 0} (f : A → ℕ) (ids : List ℕ) (l : List A) (n most : ℕ) → n ≤ most → n ≤ length ids → take n ids ≡ map f l
+    → keys (take n ids) (take n (replicate most 0)) ≡ map (λ a. (f a, 0)) l
+keys-alone f ids l n most h k e =
+    let z : length (take n ids) ≡ n = length-take-le n ids k in
+    ap (λ (m : ℕ). keys (take n ids) (take m (replicate most 0))) (sym z) ∙ keys-zeros (take n ids) most (omega arith) ∙ ap (map {B = Key} (λ x. (x, 0))) e ∙ beside-zero f l
 
 keys-length : (a b : List ℕ) → length a ≡ length b → length (keys a b) ≡ length a
 unfolding keys
@@ -147,27 +165,6 @@ pub unplaced : (i : ℕ) (k : Key) (ks : List Key) → place-from i k ks ≡ unk
 unfolding is-known
 unplaced i k ks e = place-stands i k ks ∙ ap is-known e
 
--- ---- every one of a list known
-module _ {A B : Type 0} (f : A → Known B) (l : List A) (n i : ℕ) (d : A) (fits : n ≤ length l) where
-  rest-next : i < n → drop i (take n l) ≡ getD l i d ∷ drop (i + 1) (take n l)
-  rest-next h =
-      let k : i < length (take n l) = rw (length-take-le n l fits) h in
-      rw (drop-cons (take n l) i d k, getD-take n l i d h, add-one i)
-
-  pub each-next : (out more : List B) (b : B) → i < n → f (getD l i d) ≡ known b → more ≡ out ++ (b ∷ []) → each f (drop (i + 1) (take n l)) more ≡ each f (drop i (take n l)) out
-  unfolding each known-then
-  each-next out more b h e g = rw (rest-next h, e, g)
-
-  pub each-unknown : (out : List B) → i < n → f (getD l i d) ≡ unknown → each f (drop i (take n l)) out ≡ unknown
-  unfolding each known-then
-  each-unknown out h e = rw (rest-next h, e)
-
-pub each-done : {A B : Type 0} (f : A → Known B) (l : List A) (n i : ℕ) (fits : n ≤ length l) (out : List B) → n ≤ i → each f (drop i (take n l)) out ≡ known out
-unfolding each
-each-done f l n i fits out h =
-    let k : length (take n l) ≤ i = rw (length-take-le n l fits) h in
-    rw (drop-of-length-le (take n l) k)
-
 -- ---- edges with their points, bundles with their members
 module _ (es : List RawEdge) (ps : List Point) (total : ℕ) (fits : length ps ≡ total) (s : List ℕ) where
   pub edge-got : (e : RawEdge) (t : List ℕ) (qs : List Point) (u : List ℕ) → edge-head total s ≡ got e t → many (e .count) (push point) ps t ≡ got qs u
@@ -235,20 +232,19 @@ counted-fits most all earlier n s t e =
     (omega arith, omega arith)
 
 -- ---- turns of the loops over edges and bundles
-pub edge-turn : (rows : List RawEdge) (n i total at : ℕ) (ps qs : List Point) (s : List ℕ) (e : RawEdge) → i < n → i < length rows → length ps ≡ total
+pub edge-turn : (raw : List RawEdge) (n i total at : ℕ) (ps qs : List Point) (s : List ℕ) (e : RawEdge) → i < n → length ps ≡ total
     → edge-head total (drop at s) ≡ got e (drop (at + 22) s) → many (e .count) (push point) ps (drop (at + 22) s) ≡ got qs (drop (at + 22 + 16 * e .count) s)
-    → many (n - (i + 1)) next-edge (record { edges = take (i + 1) (set rows i e); points = qs }) (drop (at + (22 + 16 * e .count)) s) ≡ many (n - i) next-edge (record { edges = take i rows; points = ps }) (drop at s)
-edge-turn rows n i total at ps qs s e h k f head points =
+    → many (n - (i + 1)) next-edge (record { edges = raw ++ (e ∷ []); points = qs }) (drop (at + (22 + 16 * e .count)) s) ≡ many (n - i) next-edge (record { edges = raw; points = ps }) (drop at s)
+edge-turn raw n i total at ps qs s e h f head points =
     let place : at + (22 + 16 * e .count) ≡ at + 22 + 16 * e .count = omega arith in
-    rw (one-more rows i e k, place)
-    (many-next next-edge n i (record { edges = take i rows; points = ps }) (drop at s) _ _ h (edge-got (take i rows) ps total f (drop at s) e (drop (at + 22) s) qs (drop (at + 22 + 16 * e .count) s) head points))
+    rw place
+    (many-next next-edge n i (record { edges = raw; points = ps }) (drop at s) _ _ h (edge-got raw ps total f (drop at s) e (drop (at + 22) s) qs (drop (at + 22 + 16 * e .count) s) head points))
 
-pub bundle-turn : (rows : List RawBundle) (n i total at next : ℕ) (ms ns : List RawMember) (s : List ℕ) (b : RawBundle) → i < n → i < length rows → length ms ≡ total
+pub bundle-turn : (raw : List RawBundle) (n i total at next : ℕ) (ms ns : List RawMember) (s : List ℕ) (b : RawBundle) → i < n → length ms ≡ total
     → bundle-head total (drop at s) ≡ got b (drop (at + 19) s) → many (b .count) (push (member (b .role))) ms (drop (at + 19) s) ≡ got ns (drop next s)
-    → many (n - (i + 1)) next-bundle (record { bundles = take (i + 1) (set rows i b); members = ns }) (drop next s) ≡ many (n - i) next-bundle (record { bundles = take i rows; members = ms }) (drop at s)
-bundle-turn rows n i total at next ms ns s b h k f head members =
-    rw (one-more rows i b k)
-    (many-next next-bundle n i (record { bundles = take i rows; members = ms }) (drop at s) _ _ h (bundle-got (take i rows) ms total f (drop at s) b (drop (at + 19) s) ns (drop next s) head members))
+    → many (n - (i + 1)) next-bundle (record { bundles = raw ++ (b ∷ []); members = ns }) (drop next s) ≡ many (n - i) next-bundle (record { bundles = raw; members = ms }) (drop at s)
+bundle-turn raw n i total at next ms ns s b h f head members =
+    many-next next-bundle n i (record { bundles = raw; members = ms }) (drop at s) _ _ h (bundle-got raw ms total f (drop at s) b (drop (at + 19) s) ns (drop next s) head members)
 
 -- an array of structs in a struct's field is as long as its type says: what owning the struct tells is said of the list's image
 pub length-mapped : {A B : Type 0} (f : A → B) (l : List A) (n : ℕ) → length (map f l) ≡ n → length l ≡ n

@@ -5,27 +5,25 @@ use mathlib.Core.Bool.{Bool, true, false, _&&_, _||_, cond}
 use mathlib.Core.List.{List, [], _∷_, map}
 use native.Mathlib.Omega.{arith}
 use lib.Dec.{eqb, leb}
-use lib.ListN.{length, take, drop, getD, length-drop}
+use lib.ListN.{length, take, drop, getD, replicate, length-drop}
 use borrow.Author.Tests.{le-leb, lt-leb, eq-eqb, ne-eqb}
 use Rattle.wire.specs.Bytes.{number, number-one}
 use Rattle.wire.specs.Read.{Read, refused, got, Reader, after, field, field-at, many}
-use Rattle.geometry.specs.declared.Point.{Point}
 use Rattle.board.specs.declared.PlacedNode.{PlacedNode}
 use Rattle.board.specs.declared.Port.{Port}
 use Rattle.board.specs.declared.Edge.{Edge}
 use Rattle.board.specs.declared.Bundle.{Bundle}
 use Rattle.board.specs.declared.Member.{Member}
+use Rattle.board.specs.Board.{Board}
 use Rattle.job.specs.declared.Counts.{Counts}
 use Rattle.job.specs.declared.Header.{Header}
 use Rattle.job.specs.declared.RawPort.{RawPort}
-use Rattle.job.specs.declared.NodesRead.{NodesRead}
-use Rattle.job.specs.declared.PortsRead.{PortsRead}
-use Rattle.job.specs.declared.EdgesRead.{EdgesRead}
-use Rattle.job.specs.declared.BundlesRead.{BundlesRead}
 use Rattle.job.specs.Keys.{Key, twice, Known, unknown, known, known-then, each}
-use Rattle.job.specs.Job.{Tables, EdgeList, BundleList, Outcome, refusal, accepted, push, node, port, next-edge, next-bundle, ended, tables, some-twice, resolved, or-nine, settled, outcome, fields, version, lengths-fit, read-job, header, port-of, edge-of, bundle-of, member-of}
-use Rattle.job.specs.Reads.{first-keys, read-as, known-as}
-use Rattle.job.specs.Whole.{tables-of, Ready}
+use Rattle.job.specs.Job.{Tables, EdgeList, BundleList, Outcome, refusal, accepted, push, node, port, next-edge, next-bundle, ended, tables, some-twice, resolved, or-nine, settled, outcome, fields, version, lengths-fit, read-job, header, port-of, edge-of, bundle-of, member-of, port-key, member-key}
+use Rattle.job.specs.Laws.{keys-alone}
+use Rattle.job.specs.Heads.{Limits}
+use Rattle.job.specs.Reads.{read-as, known-as, first-keys, node-id, edge-id, bundle-id}
+use Rattle.job.specs.Whole.{Keyed}
 
 -- ---- answers with a flag
 pub read-good : {A : Type 0} {x : Read A} (ok : Bool) (r : ℕ) (a : A) (s : List ℕ) → read-as ok r a s ≡ x → ok ≡ true → x ≡ got a s
@@ -35,14 +33,6 @@ read-good ok r a s e h = sym e ∙ ap (λ (b : Bool). cond b (got a s) (refused 
 pub read-bad : {A : Type 0} {x : Read A} (ok : Bool) (r : ℕ) (a : A) (s : List ℕ) → read-as ok r a s ≡ x → ok ≡ false → x ≡ refused r
 unfolding read-as
 read-bad ok r a s e h = sym e ∙ ap (λ (b : Bool). cond b (got a s) (refused r)) h
-
-pub known-good : {A : Type 0} {x : Known A} (ok : Bool) (a : A) → known-as ok a ≡ x → ok ≡ true → x ≡ known a
-unfolding known-as
-known-good ok a e h = sym e ∙ ap (λ (b : Bool). cond b (known a) unknown) h
-
-pub known-bad : {A : Type 0} {x : Known A} (ok : Bool) (a : A) → known-as ok a ≡ x → ok ≡ false → x ≡ unknown
-unfolding known-as
-known-bad ok a e h = sym e ∙ ap (λ (b : Bool). cond b (known a) unknown) h
 
 -- ---- the tables
 module _ (c : Counts) (s : List ℕ) (g : Tables → List ℕ → Outcome) where
@@ -79,73 +69,57 @@ module _ (c : Counts) (s : List ℕ) (g : Tables → List ℕ → Outcome) where
               rw (en, ep, ee, eb, eq-eqb (length (drop at w)) 0 k)
 
 -- ---- 8 and 9
-module _ (h : Header) (n : NodesRead) (p : PortsRead) (e : EdgesRead) (b : BundlesRead) (r : Ready h n p e b) (points : List Point) where
-  abbrev all : Tables
-  all = tables-of h n p e b points
+-- the keys of tables whose columns are whole, ids that stand alone having zeros beside them
+pub keyed-tables : (t : Tables) (c : Counts) (total : ℕ) (nodes port-nodes port-ids edges bundles member-edges member-roles : List ℕ)
+    → Limits c → length nodes ≡ 256 → length edges ≡ 256 → length bundles ≡ 256
+    → take (c .nodes) nodes ≡ map node-id (t .nodes) → first-keys port-nodes port-ids (c .ports) ≡ map port-key (t .ports) → take (c .edges) edges ≡ map edge-id (t .edges .edges)
+    → take (c .bundles) bundles ≡ map bundle-id (t .bundles .bundles) → first-keys member-edges member-roles total ≡ map member-key (t .bundles .members)
+    → Keyed (first-keys nodes (replicate 256 0) (c .nodes)) (first-keys port-nodes port-ids (c .ports)) (first-keys edges (replicate 256 0) (c .edges)) (first-keys bundles (replicate 256 0) (c .bundles))
+    (first-keys member-edges member-roles total) t
+keyed-tables t c total nodes port-nodes port-ids edges bundles member-edges member-roles l ln le lb kn kp ke kb km = record {
+  of-nodes = keys-alone node-id nodes (t .nodes) (c .nodes) 256 (omega (arith, l .nodes)) (omega (arith, l .nodes, ln)) kn;
+  of-ports = kp;
+  of-edges = keys-alone edge-id edges (t .edges .edges) (c .edges) 256 (l .edges) (omega (arith, l .edges, le)) ke;
+  of-bundles = keys-alone bundle-id bundles (t .bundles .bundles) (c .bundles) 256 (omega (arith, l .bundles)) (omega (arith, l .bundles, lb)) kb;
+  of-members = km;
+}
 
-  abbrev node-keys : List Key
-  node-keys = first-keys (n .keys) (h .counts .nodes)
-
-  twice-is : some-twice all ≡ (twice node-keys || (twice (first-keys (p .keys) (h .counts .ports)) || (twice (first-keys (e .keys) (h .counts .edges))
-      || (twice (first-keys (b .keys) (h .counts .bundles)) || twice (first-keys (b .«member_keys») (b .members .count))))))
+module _ (h : Header) (t : Tables) (nk pk ek bk mk : List Key) (r : Keyed nk pk ek bk mk t) (x : Bool) (found : x ≡ (twice nk || (twice pk || (twice ek || (twice bk || twice mk))))) where
+  twice-is : some-twice t ≡ x
   unfolding some-twice
-  twice-is = rw (r .nodes, r .ports, r .edges, r .bundles, r .members)
+  twice-is = rw (found, r .of-nodes, r .of-ports, r .of-edges, r .of-bundles, r .of-members)
 
-  abbrev port-keys : List Key
-  port-keys = first-keys (p .keys) (h .counts .ports)
-
-  abbrev edge-keys : List Key
-  edge-keys = first-keys (e .keys) (h .counts .edges)
-
-  resolved-is : resolved (h .options) all ≡ known-then (each (port-of node-keys) (take (p .ports .count) (p .ports .rows)) []) (λ ports.
-      known-then (each (edge-of node-keys) (take (e .edges .count) (e .edges .rows)) []) (λ edges.
-      known-then (each (bundle-of node-keys port-keys) (take (b .bundles .count) (b .bundles .rows)) []) (λ bundles.
-      known-then (each (member-of edge-keys) (take (b .members .count) (b .members .rows)) []) (λ members.
-      known (record { options = h .options; nodes = take (n .nodes .count) (n .nodes .rows); ports = ports; edges = edges; bundles = bundles; members = members })))))
-  unfolding resolved
-  resolved-is = simp (r .nodes, r .ports, r .edges, r .node-count, r .port-count, r .edge-count, r .bundle-count)
-
-  abbrev Twice : Bool → Type 0
-  Twice x = x ≡ (twice node-keys || (twice port-keys || (twice edge-keys || (twice (first-keys (b .keys) (h .counts .bundles)) || twice (first-keys (b .«member_keys») (b .members .count))))))
-
-  no-eight : (x : Bool) → Twice x → x ≡ false
-      → settled h all ≡ or-nine (known-then (each (port-of node-keys) (take (p .ports .count) (p .ports .rows)) []) (λ ports.
-      known-then (each (edge-of node-keys) (take (e .edges .count) (e .edges .rows)) []) (λ edges.
-      known-then (each (bundle-of node-keys port-keys) (take (b .bundles .count) (b .bundles .rows)) []) (λ bundles.
-      known-then (each (member-of edge-keys) (take (b .members .count) (b .members .rows)) []) (λ members.
-      known (record { options = h .options; nodes = take (n .nodes .count) (n .nodes .rows); ports = ports; edges = edges; bundles = bundles; members = members })))))) h points
+  pub eight : x ≡ true → settled h t ≡ refusal 8
   unfolding settled
-  no-eight x found q = rw (twice-is, ← found, q, resolved-is)
+  eight q = rw (twice-is, q)
 
-  module _ (x : Bool) (found : Twice x) where
-    pub eight : x ≡ true → settled h all ≡ refusal 8
-    unfolding settled
-    eight q = rw (twice-is, ← found, q)
+  module _ (kp ke kb km : Bool) (ps : List Port) (es : List Edge) (bs : List Bundle) (ms : List Member)
+      (dp : known-as kp ps ≡ each (port-of nk) (t .ports) []) (de : known-as ke es ≡ each (edge-of nk) (t .edges .edges) [])
+      (db : known-as kb bs ≡ each (bundle-of nk pk) (t .bundles .bundles) []) (dm : known-as km ms ≡ each (member-of ek) (t .bundles .members) []) where
+    abbrev board : Board
+    board = record { options = h .options; nodes = t .nodes; ports = ps; edges = es; bundles = bs; members = ms }
 
-    module _ (q : x ≡ false) where
-      pub port-nine : each (port-of node-keys) (take (p .ports .count) (p .ports .rows)) [] ≡ unknown → settled h all ≡ refusal 9
-      unfolding known-then or-nine
-      port-nine u = no-eight x found q ∙ rw u
+    all-of : (a b c d : Bool) → known-then (known-as a ps) (λ ports. known-then (known-as b es) (λ edges. known-then (known-as c bs) (λ bundles. known-then (known-as d ms) (λ members.
+        known (record { options = h .options; nodes = t .nodes; ports = ports; edges = edges; bundles = bundles; members = members }))))) ≡ known-as (a && (b && (c && d))) board
+    unfolding known-then known-as
+    all-of true true true true = refl
+    all-of true true true false = refl
+    all-of true true false d = refl
+    all-of true false c d = refl
+    all-of false b c d = refl
 
-      module _ (ps : List Port) (kp : each (port-of node-keys) (take (p .ports .count) (p .ports .rows)) [] ≡ known ps) where
-        pub edge-nine : each (edge-of node-keys) (take (e .edges .count) (e .edges .rows)) [] ≡ unknown → settled h all ≡ refusal 9
-        unfolding known-then or-nine
-        edge-nine u = no-eight x found q ∙ rw (kp, u)
+    resolved-is : resolved (h .options) t ≡ known-as (kp && (ke && (kb && km))) board
+    unfolding resolved
+    resolved-is = rw (← r .of-nodes, ← r .of-ports, ← r .of-edges, ← dp, ← de, ← db, ← dm) (all-of kp ke kb km)
 
-        module _ (es : List Edge) (ke : each (edge-of node-keys) (take (e .edges .count) (e .edges .rows)) [] ≡ known es) where
-          pub bundle-nine : each (bundle-of node-keys port-keys) (take (b .bundles .count) (b .bundles .rows)) [] ≡ unknown → settled h all ≡ refusal 9
-          unfolding known-then or-nine
-          bundle-nine u = no-eight x found q ∙ rw (kp, ke, u)
+    module _ (q : x ≡ false) (k : Bool) (all : k ≡ (kp && (ke && (kb && km)))) where
+      pub nine : k ≡ false → settled h t ≡ refusal 9
+      unfolding settled or-nine known-as
+      nine u = rw (twice-is, q, resolved-is, ← all, u)
 
-          module _ (bs : List Bundle) (kb : each (bundle-of node-keys port-keys) (take (b .bundles .count) (b .bundles .rows)) [] ≡ known bs) where
-            pub member-nine : each (member-of edge-keys) (take (b .members .count) (b .members .rows)) [] ≡ unknown → settled h all ≡ refusal 9
-            unfolding known-then or-nine
-            member-nine u = no-eight x found q ∙ rw (kp, ke, kb, u)
-
-            pub all-known : (ms : List Member) → each (member-of edge-keys) (take (b .members .count) (b .members .rows)) [] ≡ known ms
-                → settled h all ≡ accepted (record { flags = h .flags; grants = h .grants; board = record { options = h .options; nodes = take (n .nodes .count) (n .nodes .rows); ports = ps; edges = es; bundles = bs; members = ms }; points = points })
-            unfolding known-then or-nine
-            all-known ms u = no-eight x found q ∙ rw (kp, ke, kb, u)
+      pub all-known : k ≡ true → settled h t ≡ accepted (record { flags = h .flags; grants = h .grants; board = board; points = t .edges .points })
+      unfolding settled or-nine known-as
+      all-known u = rw (twice-is, q, resolved-is, ← all, u)
 
 -- ---- from the first byte on
 module _ (s : List ℕ) where

@@ -8,42 +8,18 @@ use lib.Ieee.{Float}
 use lib.ListN.{take}
 use Rattle.geometry.specs.declared.Point.{Point}
 use Rattle.geometry.specs.Points.{points-from}
-use Rattle.job.specs.declared.Header.{Header}
-use Rattle.job.specs.declared.NodesRead.{NodesRead}
-use Rattle.job.specs.declared.PortsRead.{PortsRead}
-use Rattle.job.specs.declared.EdgesRead.{EdgesRead}
-use Rattle.job.specs.declared.BundlesRead.{BundlesRead}
 use Rattle.job.specs.declared.Job as code
 use Rattle.job.specs.declared.JobRead.{JobRead}
 use Rattle.job.specs.Job.{Tables, Job, Outcome, refusal, accepted, node-key, port-key, edge-key, bundle-key, member-key}
-use Rattle.job.specs.Reads.{first-keys}
+use Rattle.job.specs.Keys.{Key}
 
--- the tables that were read, as lists
-abbrev pub tables-of : Header → NodesRead → PortsRead → EdgesRead → BundlesRead → List Point → Tables
-tables-of h n p e b points = record {
-  nodes = take (h .counts .nodes) (n .nodes .rows);
-  ports = take (h .counts .ports) (p .ports .rows);
-  edges = record { edges = take (h .counts .edges) (e .edges .rows); points = points };
-  bundles = record { bundles = take (h .counts .bundles) (b .bundles .rows); members = take (b .members .count) (b .members .rows) };
-}
-
--- tables that are whole, with their keys beside them
-pub record Ready (h : Header) (n : NodesRead) (p : PortsRead) (e : EdgesRead) (b : BundlesRead) : Type 0 where
-  pub nodes : first-keys (n .keys) (h .counts .nodes) ≡ map node-key (take (h .counts .nodes) (n .nodes .rows))
-  pub ports : first-keys (p .keys) (h .counts .ports) ≡ map port-key (take (h .counts .ports) (p .ports .rows))
-  pub edges : first-keys (e .keys) (h .counts .edges) ≡ map edge-key (take (h .counts .edges) (e .edges .rows))
-  pub bundles : first-keys (b .keys) (h .counts .bundles) ≡ map bundle-key (take (h .counts .bundles) (b .bundles .rows))
-  pub members : first-keys (b .«member_keys») (b .members .count) ≡ map member-key (take (b .members .count) (b .members .rows))
-  pub node-count : n .nodes .count ≡ h .counts .nodes
-  pub port-count : p .ports .count ≡ h .counts .ports
-  pub edge-count : e .edges .count ≡ h .counts .edges
-  pub bundle-count : b .bundles .count ≡ h .counts .bundles
-  pub node-limit : h .counts .nodes ≤ 128
-  pub port-limit : h .counts .ports ≤ 256
-  pub edge-limit : h .counts .edges ≤ 256
-  pub bundle-limit : h .counts .bundles ≤ 32
-  pub member-limit : b .members .count ≤ 256
-  pub point-limit : e .total ≤ 2048
+-- the keys of tables that are whole
+pub record Keyed (nodes ports edges bundles members : List Key) (t : Tables) : Type 0 where
+  pub of-nodes : nodes ≡ map node-key (t .nodes)
+  pub of-ports : ports ≡ map port-key (t .ports)
+  pub of-edges : edges ≡ map edge-key (t .edges .edges)
+  pub of-bundles : bundles ≡ map bundle-key (t .bundles .bundles)
+  pub of-members : members ≡ map member-key (t .bundles .members)
 
 -- a job that was read, its tables as lists, given its points
 abbrev pub job-of : code.Job → List Point → Job

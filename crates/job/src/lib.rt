@@ -2,8 +2,8 @@
 // specs/Job.antt, written from document 01 alone.
 //
 // A cursor is a place in the lent bytes, passed on by value. Every record kind has one function
-// that reads it, every table one loop over that function. Ids stay as they are read until all
-// tables are there; then 8 is looked for, and then each id is looked up.
+// that reads it, every table one loop over that function, which also looks each id up. An id that is
+// not known only clears a mark: when all tables are there 8 is looked for, and then the marks.
 ghost use mathlib.Core.Path.{_≡_};
 ghost use mathlib.Core.Bool.{true, _||_};
 ghost use mathlib.Core.List.{List, []};
@@ -13,12 +13,11 @@ ghost use lib.ListN.{length, take, drop};
 ghost use Rattle.wire.specs.Read.{after, field, many, told};
 ghost use Rattle.geometry.specs.Points.{put-point, points-from};
 ghost use Rattle.geometry.specs.Port.{role-number};
-ghost use Rattle.job.specs.Keys.{twice, place-from, each};
-ghost use Rattle.job.specs.Job.{flags-of, side-of, role-of, options, grants, counts, header, node, port, point, member, push, within-total, edge-head, bundle-head, port-of, edge-of, bundle-of, member-of, settled, tables, outcome, read-job};
-ghost use Rattle.job.specs.Whole.{tables-of, Ready, JobTold, Refused};
+ghost use Rattle.job.specs.Keys.{twice, place-from};
+ghost use Rattle.job.specs.Job.{flags-of, side-of, role-of, options, grants, counts, header, node, port, point, member, push, within-total, edge-head, bundle-head, settled, tables, outcome, read-job};
+ghost use Rattle.job.specs.Whole.{JobTold, Refused};
 ghost use Rattle.job.specs.Heads.{Limits};
-ghost use Rattle.job.specs.Laws.{keys};
-ghost use Rattle.job.specs.Reads.{found-as, known-as, first-keys, ended-as, NodesTold, PortsTold, EdgesTold, BundlesTold};
+ghost use Rattle.job.specs.Reads.{known-as, first-keys, ended-as, NodesTold, PortsTold, EdgesTold, BundlesTold};
 ghost use Rattle.job.specs.Told.{told-flags, told-options, told-grants, told-counts, told-header, told-side, told-role, told-node, told-port, told-point, told-edge, told-bundle, told-member};
 use board::Bundle;
 use board::Bundles;
@@ -66,7 +65,7 @@ pub struct Header {
     pub counts: Counts,
 }
 
-// Records whose ids are not looked up yet. An edge's route is count points from first on, a
+// Records as they are read, their ids not looked up. An edge's route is count points from first on, a
 // bundle's members are count rows from first on.
 pub struct RawPort {
     pub node: u64,
@@ -98,32 +97,6 @@ pub struct RawMember {
     pub role: Role,
     pub edge: u64,
     pub tap_lane: u32,
-}
-
-pub struct RawPorts {
-    pub rows: [RawPort; 256],
-    pub count: usize,
-}
-
-pub struct RawEdges {
-    pub rows: [RawEdge; 256],
-    pub count: usize,
-}
-
-pub struct RawBundles {
-    pub rows: [RawBundle; 32],
-    pub count: usize,
-}
-
-pub struct RawMembers {
-    pub rows: [RawMember; 256],
-    pub count: usize,
-}
-
-// The keys of a table's rows, each of two numbers.
-pub struct Keys {
-    pub first: [u64; 256],
-    pub second: [u64; 256],
 }
 
 // What reading one thing gives: it, or the number of a refusal.
@@ -192,40 +165,40 @@ pub enum MemberRead {
     Good(RawMember),
 }
 
-// Tables as they are read: where it is not ok, the refusal counts and nothing else.
+// Tables as they are read: where it is not ok, the refusal counts and nothing else. Where an id is
+// not known, the rows that name it say nothing.
 pub struct NodesRead {
     pub ok: bool,
     pub refusal: u8,
     pub at: usize,
     pub nodes: Nodes,
-    pub keys: Keys,
 }
 
 pub struct PortsRead {
     pub ok: bool,
     pub refusal: u8,
     pub at: usize,
-    pub ports: RawPorts,
-    pub keys: Keys,
+    pub known: bool,
+    pub ports: Ports,
 }
 
 pub struct EdgesRead {
     pub ok: bool,
     pub refusal: u8,
     pub at: usize,
-    pub edges: RawEdges,
+    pub known: bool,
+    pub edges: Edges,
     pub total: usize,
-    pub keys: Keys,
 }
 
 pub struct BundlesRead {
     pub ok: bool,
     pub refusal: u8,
     pub at: usize,
-    pub bundles: RawBundles,
-    pub keys: Keys,
-    pub members: RawMembers,
-    pub member_keys: Keys,
+    pub known: bool,
+    pub bundles: Bundles,
+    pub members_known: bool,
+    pub members: Members,
 }
 
 // Whether all points of a route were read.
@@ -234,10 +207,10 @@ pub enum Ended {
     Stopped(u8),
 }
 
-// The place of a key in a table, if it has one.
-pub enum Found {
-    Nothing,
-    At(usize),
+// The place of a key in a table, if it is known.
+pub struct Found {
+    pub known: bool,
+    pub at: usize,
 }
 
 // ---- fields whose values are listed
@@ -784,11 +757,50 @@ pub fn bundle_head_at(s: &[u8], at: usize, total: usize) -> BundleRead
     })
 }
 
-// ---- tables
+// ---- keys
 
-pub fn read_nodes(s: &[u8], from: usize, count: usize) -> NodesRead
-    requires { ⌜ (from < 1024) × (count ≤ 128) ⌝ }
-    ensures { λ r. ⌜ NodesTold (now (s .entry)) from count r ⌝ }
+// The first place from `from` on, below n, of the key of x and y.
+fn find(first: &[u64; 256], second: &[u64; 256], from: usize, n: usize, x: u64, y: u64) -> Found
+    requires { ⌜ (from ≤ n) × (n ≤ 256) × (length (now first) ≡ 256) × (length (now second) ≡ 256) ⌝ }
+    ensures { λ r. ⌜ known-as (r .known) (r .at) ≡ place-from from (x, y) (drop from (first-keys (now (first .entry)) (now (second .entry)) n)) ⌝ }
+{
+    let mut i = from;
+    while i < n {
+        if (first[i] == x) & (second[i] == y) {
+            return Found { known: true, at: i };
+        }
+        i += 1;
+    }
+    Found {
+        known: false,
+        at: 0,
+    }
+}
+
+// Whether one of n keys stands there twice.
+fn has_twice(first: &[u64; 256], second: &[u64; 256], n: usize) -> bool
+    requires { ⌜ (n ≤ 256) × (length (now first) ≡ 256) × (length (now second) ≡ 256) ⌝ }
+    ensures { λ r. ⌜ r ≡ twice (first-keys (now (first .entry)) (now (second .entry)) n) ⌝ }
+{
+    let mut i: usize = 0;
+    while i < n {
+        let f = find(first, second, i + 1, n, first[i], second[i]);
+        if f.known {
+            return true;
+        }
+        i += 1;
+    }
+    false
+}
+
+// ---- tables
+//
+// The keys of a table's rows go to lent columns, one number to a row. Where an id stands alone the
+// second column is one of zeros. An id is looked up in the columns of the tables before.
+
+pub fn read_nodes(s: &[u8], from: usize, count: usize, ids: &mut [u64]) -> NodesRead
+    requires { ⌜ (from < 1024) × (count ≤ 128) × (length (now ids) ≡ 256) ⌝ }
+    ensures { λ r. ⌜ NodesTold (now (s .entry)) from count (now (ids .exit)) r ⌝ }
 {
     let corner = Point { x: 0.0, y: 0.0 };
     let body = Node {
@@ -801,10 +813,6 @@ pub fn read_nodes(s: &[u8], from: usize, count: usize) -> NodesRead
         rows: [none; 128],
         count: count,
     };
-    let mut k = Keys {
-        first: [0; 256],
-        second: [0; 256],
-    };
     let mut at = from;
     let mut i: usize = 0;
     while i < count {
@@ -816,14 +824,12 @@ pub fn read_nodes(s: &[u8], from: usize, count: usize) -> NodesRead
                     refusal: r,
                     at: at,
                     nodes: t,
-                    keys: k,
                 };
             }
             NodeRead::Good(v) => v,
         };
         t.rows[i] = n;
-        k.first[i] = n.id;
-        k.second[i] = 0;
+        ids[i] = n.id;
         at += 36;
         i += 1;
     }
@@ -832,28 +838,34 @@ pub fn read_nodes(s: &[u8], from: usize, count: usize) -> NodesRead
         refusal: 0,
         at: at,
         nodes: t,
-        keys: k,
     }
 }
 
-pub fn read_ports(s: &[u8], from: usize, count: usize) -> PortsRead
-    requires { ⌜ (from < 8192) × (count ≤ 256) ⌝ }
-    ensures { λ r. ⌜ PortsTold (now (s .entry)) from count r ⌝ }
+pub fn read_ports(
+    s: &[u8],
+    from: usize,
+    count: usize,
+    node_ids: &[u64; 256],
+    zeros: &[u64; 256],
+    n: usize,
+    nodes: &mut [u64],
+    ids: &mut [u64],
+) -> PortsRead
+    requires { ⌜ (from < 8192) × (count ≤ 256) × (n ≤ 256) ⌝ }
+    requires { ⌜ (length (now «node_ids») ≡ 256) × (length (now zeros) ≡ 256) × (length (now nodes) ≡ 256) × (length (now ids) ≡ 256) ⌝ }
+    ensures { λ r. ⌜ PortsTold (now (s .entry)) from count (first-keys (now («node_ids» .entry)) (now (zeros .entry)) n) (now (nodes .exit)) (now (ids .exit)) r ⌝ }
 {
-    let none = RawPort {
+    let none = Port {
         node: 0,
         id: 0,
         side: Side::North,
         offset: 0.0,
     };
-    let mut t = RawPorts {
+    let mut t = Ports {
         rows: [none; 256],
         count: count,
     };
-    let mut k = Keys {
-        first: [0; 256],
-        second: [0; 256],
-    };
+    let mut known = true;
     let mut at = from;
     let mut i: usize = 0;
     while i < count {
@@ -864,15 +876,23 @@ pub fn read_ports(s: &[u8], from: usize, count: usize) -> PortsRead
                     ok: false,
                     refusal: r,
                     at: at,
+                    known: known,
                     ports: t,
-                    keys: k,
                 };
             }
             PortRead::Good(v) => v,
         };
-        t.rows[i] = p;
-        k.first[i] = p.node;
-        k.second[i] = p.id;
+        let f = find(node_ids, zeros, 0, n, p.node, 0);
+        known = known & f.known;
+        let side = p.side;
+        t.rows[i] = Port {
+            node: f.at,
+            id: p.id,
+            side: side,
+            offset: p.offset,
+        };
+        nodes[i] = p.node;
+        ids[i] = p.id;
         at += 17;
         i += 1;
     }
@@ -880,8 +900,8 @@ pub fn read_ports(s: &[u8], from: usize, count: usize) -> PortsRead
         ok: true,
         refusal: 0,
         at: at,
+        known: known,
         ports: t,
-        keys: k,
     }
 }
 
@@ -907,25 +927,32 @@ fn read_points(s: &[u8], from: usize, count: usize, total: usize, points: &mut [
     Ended::Well
 }
 
-pub fn read_edges(s: &[u8], from: usize, count: usize, points: &mut [f64]) -> EdgesRead
-    requires { ⌜ (from < 16384) × (count ≤ 256) × (length (now points) ≡ 4096) ⌝ }
-    ensures { λ r. ⌜ EdgesTold (now (s .entry)) from count (now (points .exit)) r ⌝ }
+pub fn read_edges(
+    s: &[u8],
+    from: usize,
+    count: usize,
+    node_ids: &[u64; 256],
+    zeros: &[u64; 256],
+    n: usize,
+    points: &mut [f64],
+    ids: &mut [u64],
+) -> EdgesRead
+    requires { ⌜ (from < 16384) × (count ≤ 256) × (n ≤ 256) × (length (now points) ≡ 4096) ⌝ }
+    requires { ⌜ (length (now «node_ids») ≡ 256) × (length (now zeros) ≡ 256) × (length (now ids) ≡ 256) ⌝ }
+    ensures { λ r. ⌜ EdgesTold (now (s .entry)) from count (first-keys (now («node_ids» .entry)) (now (zeros .entry)) n) (now (points .exit)) (now (ids .exit)) r ⌝ }
 {
-    let none = RawEdge {
+    let none = Edge {
         id: 0,
         source: 0,
         target: 0,
         first: 0,
         count: 0,
     };
-    let mut t = RawEdges {
+    let mut t = Edges {
         rows: [none; 256],
         count: count,
     };
-    let mut k = Keys {
-        first: [0; 256],
-        second: [0; 256],
-    };
+    let mut known = true;
     let mut at = from;
     let mut total: usize = 0;
     let mut i: usize = 0;
@@ -937,9 +964,9 @@ pub fn read_edges(s: &[u8], from: usize, count: usize, points: &mut [f64]) -> Ed
                     ok: false,
                     refusal: r,
                     at: at,
+                    known: known,
                     edges: t,
                     total: total,
-                    keys: k,
                 };
             }
             EdgeRead::Good(v) => v,
@@ -950,14 +977,22 @@ pub fn read_edges(s: &[u8], from: usize, count: usize, points: &mut [f64]) -> Ed
                 ok: false,
                 refusal: r,
                 at: at,
+                known: known,
                 edges: t,
                 total: total,
-                keys: k,
             };
         }
-        t.rows[i] = e;
-        k.first[i] = e.id;
-        k.second[i] = 0;
+        let f = find(node_ids, zeros, 0, n, e.source, 0);
+        let g = find(node_ids, zeros, 0, n, e.target, 0);
+        known = known & (f.known & g.known);
+        t.rows[i] = Edge {
+            id: e.id,
+            source: f.at,
+            target: g.at,
+            first: e.first,
+            count: e.count,
+        };
+        ids[i] = e.id;
         at += 22 + 16 * e.count;
         total += e.count;
         i += 1;
@@ -966,46 +1001,55 @@ pub fn read_edges(s: &[u8], from: usize, count: usize, points: &mut [f64]) -> Ed
         ok: true,
         refusal: 0,
         at: at,
+        known: known,
         edges: t,
         total: total,
-        keys: k,
     }
 }
 
-pub fn read_bundles(s: &[u8], from: usize, count: usize) -> BundlesRead
-    requires { ⌜ (from < 60000) × (count ≤ 32) ⌝ }
-    ensures { λ r. ⌜ BundlesTold (now (s .entry)) from count r ⌝ }
+pub fn read_bundles(
+    s: &[u8],
+    from: usize,
+    count: usize,
+    node_ids: &[u64; 256],
+    n: usize,
+    port_nodes: &[u64; 256],
+    port_ids: &[u64; 256],
+    p: usize,
+    edge_ids: &[u64; 256],
+    e: usize,
+    zeros: &[u64; 256],
+    ids: &mut [u64],
+    edges: &mut [u64],
+    roles: &mut [u64],
+) -> BundlesRead
+    requires { ⌜ (from < 60000) × (count ≤ 32) × (n ≤ 256) × (p ≤ 256) × (e ≤ 256) ⌝ }
+    requires { ⌜ (length (now «node_ids») ≡ 256) × (length (now «port_nodes») ≡ 256) × (length (now «port_ids») ≡ 256) × (length (now «edge_ids») ≡ 256) × (length (now zeros) ≡ 256) ⌝ }
+    requires { ⌜ (length (now ids) ≡ 256) × (length (now edges) ≡ 256) × (length (now roles) ≡ 256) ⌝ }
+    ensures { λ r. ⌜ BundlesTold (now (s .entry)) from count (first-keys (now («node_ids» .entry)) (now (zeros .entry)) n) (first-keys (now («port_nodes» .entry)) (now («port_ids» .entry)) p) (first-keys (now («edge_ids» .entry)) (now (zeros .entry)) e) (now (ids .exit)) (now (edges .exit)) (now (roles .exit)) r ⌝ }
 {
-    let none = RawBundle {
+    let none = Bundle {
         id: 0,
-        node: 0,
         port: 0,
         role: Role::Input,
         width: 0,
         first: 0,
         count: 0,
     };
-    let nobody = RawMember {
-        role: Role::Input,
+    let nobody = Member {
         edge: 0,
         tap_lane: 0,
     };
-    let mut t = RawBundles {
+    let mut t = Bundles {
         rows: [none; 32],
         count: count,
     };
-    let mut k = Keys {
-        first: [0; 256],
-        second: [0; 256],
-    };
-    let mut m = RawMembers {
+    let mut m = Members {
         rows: [nobody; 256],
         count: 0,
     };
-    let mut mk = Keys {
-        first: [0; 256],
-        second: [0; 256],
-    };
+    let mut known = true;
+    let mut members_known = true;
     let mut at = from;
     let mut total: usize = 0;
     let mut i: usize = 0;
@@ -1017,44 +1061,59 @@ pub fn read_bundles(s: &[u8], from: usize, count: usize) -> BundlesRead
                     ok: false,
                     refusal: r,
                     at: at,
+                    known: known,
                     bundles: t,
-                    keys: k,
+                    members_known: members_known,
                     members: m,
-                    member_keys: mk,
                 };
             }
             BundleRead::Good(v) => v,
         };
         let role = b.role;
         let role_key = number_of_role(role);
-        at += 19;
+        let mut place = at + 19;
         let mut j: usize = 0;
         while j < b.count {
-            let next = member_at(s, at, role);
+            let next = member_at(s, place, role);
             let x = match next {
                 MemberRead::Bad(r) => {
                     return BundlesRead {
                         ok: false,
                         refusal: r,
                         at: at,
+                        known: known,
                         bundles: t,
-                        keys: k,
+                        members_known: members_known,
                         members: m,
-                        member_keys: mk,
                     };
                 }
                 MemberRead::Good(v) => v,
             };
-            m.rows[total] = x;
-            mk.first[total] = x.edge;
-            mk.second[total] = role_key;
+            let f = find(edge_ids, zeros, 0, e, x.edge, 0);
+            members_known = members_known & f.known;
+            m.rows[total] = Member {
+                edge: f.at,
+                tap_lane: x.tap_lane,
+            };
+            edges[total] = x.edge;
+            roles[total] = role_key;
             total += 1;
-            at += 6;
+            place += 6;
             j += 1;
         }
-        t.rows[i] = b;
-        k.first[i] = b.id;
-        k.second[i] = 0;
+        let f = find(node_ids, zeros, 0, n, b.node, 0);
+        let g = find(port_nodes, port_ids, 0, p, b.node, b.port);
+        known = known & (f.known & g.known);
+        t.rows[i] = Bundle {
+            id: b.id,
+            port: g.at,
+            role: role,
+            width: b.width,
+            first: b.first,
+            count: b.count,
+        };
+        ids[i] = b.id;
+        at = place;
         i += 1;
     }
     m.count = total;
@@ -1062,239 +1121,10 @@ pub fn read_bundles(s: &[u8], from: usize, count: usize) -> BundlesRead
         ok: true,
         refusal: 0,
         at: at,
+        known: known,
         bundles: t,
-        keys: k,
+        members_known: members_known,
         members: m,
-        member_keys: mk,
-    }
-}
-
-// ---- keys
-
-// The first place from `from` on, below n, of the key of x and y.
-fn find<'a>(first: &'a [u64], second: &'a [u64], from: usize, n: usize, x: u64, y: u64) -> Found
-    requires { ⌜ (from ≤ n) × (n ≤ length (now first)) × (n ≤ length (now second)) ⌝ }
-    ensures { λ r. ⌜ found-as r ≡ place-from from (x, y) (drop from (keys (take n (now (first .entry))) (take n (now (second .entry))))) ⌝ }
-{
-    let mut i = from;
-    while i < n {
-        if (first[i] == x) & (second[i] == y) {
-            return Found::At(i);
-        }
-        i += 1;
-    }
-    Found::Nothing
-}
-
-// Whether one of n keys stands there twice.
-fn has_twice<'a>(first: &'a [u64], second: &'a [u64], n: usize) -> bool
-    requires { ⌜ (n ≤ length (now first)) × (n ≤ length (now second)) ⌝ }
-    ensures { λ r. ⌜ r ≡ twice (keys (take n (now (first .entry))) (take n (now (second .entry)))) ⌝ }
-{
-    let mut i: usize = 0;
-    while i < n {
-        let f = find(first, second, i + 1, n, first[i], second[i]);
-        if let Found::At(_) = f {
-            return true;
-        }
-        i += 1;
-    }
-    false
-}
-
-// ---- each id looked up
-
-pub struct PortsKnown {
-    pub ok: bool,
-    pub ports: Ports,
-}
-
-pub struct EdgesKnown {
-    pub ok: bool,
-    pub edges: Edges,
-}
-
-pub struct BundlesKnown {
-    pub ok: bool,
-    pub bundles: Bundles,
-}
-
-pub struct MembersKnown {
-    pub ok: bool,
-    pub members: Members,
-}
-
-fn resolve_ports(t: RawPorts, nodes: Keys, n: usize) -> PortsKnown
-    requires { ⌜ (t .count ≤ 256) × (n ≤ 256) ⌝ }
-    ensures { λ r. ⌜ (known-as (r .ok) (take (t .count) (r .ports .rows)) ≡ each (port-of (first-keys nodes n)) (take (t .count) (t .rows)) []) × (r .ports .count ≡ t .count) ⌝ }
-{
-    let count = t.count;
-    let none = Port {
-        node: 0,
-        id: 0,
-        side: Side::North,
-        offset: 0.0,
-    };
-    let mut out = Ports {
-        rows: [none; 256],
-        count: count,
-    };
-    let mut i: usize = 0;
-    while i < count {
-        let row = t.rows[i];
-        let f = find(&nodes.first, &nodes.second, 0, n, row.node, 0);
-        let Found::At(node) = f else {
-            return PortsKnown {
-                ok: false,
-                ports: out,
-            };
-        };
-        let side = row.side;
-        out.rows[i] = Port {
-            node: node,
-            id: row.id,
-            side: side,
-            offset: row.offset,
-        };
-        i += 1;
-    }
-    PortsKnown {
-        ok: true,
-        ports: out,
-    }
-}
-
-fn resolve_edges(t: RawEdges, nodes: Keys, n: usize) -> EdgesKnown
-    requires { ⌜ (t .count ≤ 256) × (n ≤ 256) ⌝ }
-    ensures { λ r. ⌜ (known-as (r .ok) (take (t .count) (r .edges .rows)) ≡ each (edge-of (first-keys nodes n)) (take (t .count) (t .rows)) []) × (r .edges .count ≡ t .count) ⌝ }
-{
-    let count = t.count;
-    let none = Edge {
-        id: 0,
-        source: 0,
-        target: 0,
-        first: 0,
-        count: 0,
-    };
-    let mut out = Edges {
-        rows: [none; 256],
-        count: count,
-    };
-    let mut i: usize = 0;
-    while i < count {
-        let row = t.rows[i];
-        let f = find(&nodes.first, &nodes.second, 0, n, row.source, 0);
-        let Found::At(source) = f else {
-            return EdgesKnown {
-                ok: false,
-                edges: out,
-            };
-        };
-        let g = find(&nodes.first, &nodes.second, 0, n, row.target, 0);
-        let Found::At(target) = g else {
-            return EdgesKnown {
-                ok: false,
-                edges: out,
-            };
-        };
-        out.rows[i] = Edge {
-            id: row.id,
-            source: source,
-            target: target,
-            first: row.first,
-            count: row.count,
-        };
-        i += 1;
-    }
-    EdgesKnown {
-        ok: true,
-        edges: out,
-    }
-}
-
-fn resolve_bundles(t: RawBundles, nodes: Keys, n: usize, ports: Keys, p: usize) -> BundlesKnown
-    requires { ⌜ (t .count ≤ 32) × (n ≤ 256) × (p ≤ 256) ⌝ }
-    ensures { λ r. ⌜ (known-as (r .ok) (take (t .count) (r .bundles .rows)) ≡ each (bundle-of (first-keys nodes n) (first-keys ports p)) (take (t .count) (t .rows)) []) × (r .bundles .count ≡ t .count) ⌝ }
-{
-    let count = t.count;
-    let none = Bundle {
-        id: 0,
-        port: 0,
-        role: Role::Input,
-        width: 0,
-        first: 0,
-        count: 0,
-    };
-    let mut out = Bundles {
-        rows: [none; 32],
-        count: count,
-    };
-    let mut i: usize = 0;
-    while i < count {
-        let row = t.rows[i];
-        let f = find(&nodes.first, &nodes.second, 0, n, row.node, 0);
-        let Found::At(_) = f else {
-            return BundlesKnown {
-                ok: false,
-                bundles: out,
-            };
-        };
-        let g = find(&ports.first, &ports.second, 0, p, row.node, row.port);
-        let Found::At(port) = g else {
-            return BundlesKnown {
-                ok: false,
-                bundles: out,
-            };
-        };
-        let role = row.role;
-        out.rows[i] = Bundle {
-            id: row.id,
-            port: port,
-            role: role,
-            width: row.width,
-            first: row.first,
-            count: row.count,
-        };
-        i += 1;
-    }
-    BundlesKnown {
-        ok: true,
-        bundles: out,
-    }
-}
-
-fn resolve_members(t: RawMembers, edges: Keys, n: usize) -> MembersKnown
-    requires { ⌜ (t .count ≤ 256) × (n ≤ 256) ⌝ }
-    ensures { λ r. ⌜ (known-as (r .ok) (take (t .count) (r .members .rows)) ≡ each (member-of (first-keys edges n)) (take (t .count) (t .rows)) []) × (r .members .count ≡ t .count) ⌝ }
-{
-    let count = t.count;
-    let none = Member {
-        edge: 0,
-        tap_lane: 0,
-    };
-    let mut out = Members {
-        rows: [none; 256],
-        count: count,
-    };
-    let mut i: usize = 0;
-    while i < count {
-        let row = t.rows[i];
-        let f = find(&edges.first, &edges.second, 0, n, row.edge, 0);
-        let Found::At(edge) = f else {
-            return MembersKnown {
-                ok: false,
-                members: out,
-            };
-        };
-        out.rows[i] = Member {
-            edge: edge,
-            tap_lane: row.tap_lane,
-        };
-        i += 1;
-    }
-    MembersKnown {
-        ok: true,
-        members: out,
     }
 }
 
@@ -1439,76 +1269,140 @@ fn refused(r: u8) -> JobRead
 }
 
 // Number 8, over the keys of all tables.
-fn any_twice(n: Keys, p: Keys, e: Keys, b: Keys, m: Keys, c: Counts, members: usize) -> bool
-    requires { ⌜ (c .nodes ≤ 256) × (c .ports ≤ 256) × (c .edges ≤ 256) × (c .bundles ≤ 256) × (members ≤ 256) ⌝ }
-    ensures { λ r. ⌜ r ≡ (twice (first-keys n (c .nodes)) || (twice (first-keys p (c .ports)) || (twice (first-keys e (c .edges)) || (twice (first-keys b (c .bundles)) || twice (first-keys m members))))) ⌝ }
+fn any_twice(
+    nodes: &[u64; 256],
+    port_nodes: &[u64; 256],
+    port_ids: &[u64; 256],
+    edges: &[u64; 256],
+    bundles: &[u64; 256],
+    member_edges: &[u64; 256],
+    member_roles: &[u64; 256],
+    zeros: &[u64; 256],
+    c: Counts,
+    members: usize,
+) -> bool
+    requires { ⌜ Limits c × (members ≤ 256) ⌝ }
+    requires { ⌜ (length (now nodes) ≡ 256) × (length (now «port_nodes») ≡ 256) × (length (now «port_ids») ≡ 256) × (length (now edges) ≡ 256) ⌝ }
+    requires { ⌜ (length (now bundles) ≡ 256) × (length (now «member_edges») ≡ 256) × (length (now «member_roles») ≡ 256) × (length (now zeros) ≡ 256) ⌝ }
+    ensures { λ r. ⌜ r ≡ (twice (first-keys (now (nodes .entry)) (now (zeros .entry)) (c .nodes)) || (twice (first-keys (now («port_nodes» .entry)) (now («port_ids» .entry)) (c .ports)) || (twice (first-keys (now (edges .entry)) (now (zeros .entry)) (c .edges)) || (twice (first-keys (now (bundles .entry)) (now (zeros .entry)) (c .bundles)) || twice (first-keys (now («member_edges» .entry)) (now («member_roles» .entry)) members))))) ⌝ }
 {
-    if has_twice(&n.first, &n.second, c.nodes) {
+    if has_twice(nodes, zeros, c.nodes) {
         return true;
     }
-    if has_twice(&p.first, &p.second, c.ports) {
+    if has_twice(port_nodes, port_ids, c.ports) {
         return true;
     }
-    if has_twice(&e.first, &e.second, c.edges) {
+    if has_twice(edges, zeros, c.edges) {
         return true;
     }
-    if has_twice(&b.first, &b.second, c.bundles) {
+    if has_twice(bundles, zeros, c.bundles) {
         return true;
     }
-    has_twice(&m.first, &m.second, members)
+    has_twice(member_edges, member_roles, members)
 }
 
-// All of 8, then all of 9.
-fn settle(h: Header, n: NodesRead, p: PortsRead, e: EdgesRead, b: BundlesRead) -> JobRead
-    requires { ⌜ Ready h n p e b ⌝ }
-    ensures { λ r. ⌜ ((buffer : List Float) → JobTold r buffer (settled h (tables-of h n p e b (points-from buffer 0 (e .total))))) ⌝ }
+// The tables, by place, then nothing after them; then all of 8, then all of 9.
+fn read_tables(s: &[u8], h: Header, points: &mut [f64]) -> JobRead
+    requires { ⌜ Limits (h .counts) × (length (now points) ≡ 4096) ⌝ }
+    ensures { λ r. ⌜ JobTold r (now (points .exit)) (outcome (tables (h .counts) (drop 62 (now (s .entry)))) (λ t rest. settled h t)) ⌝ }
 {
     let c = h.counts;
-    let nk = n.keys;
-    let pk = p.keys;
-    let ek = e.keys;
-    let bk = b.keys;
-    let mk = b.member_keys;
-    let m = b.members;
-    if any_twice(nk, pk, ek, bk, mk, c, m.count) {
+    let zeros = [0u64; 256];
+    let mut node_ids = [0u64; 256];
+    let mut port_nodes = [0u64; 256];
+    let mut port_ids = [0u64; 256];
+    let mut edge_ids = [0u64; 256];
+    let mut bundle_ids = [0u64; 256];
+    let mut member_edges = [0u64; 256];
+    let mut member_roles = [0u64; 256];
+    let n = read_nodes(s, 62, c.nodes, &mut node_ids[..]);
+    if !n.ok {
+        return refused(n.refusal);
+    }
+    let p = read_ports(
+        s,
+        n.at,
+        c.ports,
+        &node_ids,
+        &zeros,
+        c.nodes,
+        &mut port_nodes[..],
+        &mut port_ids[..],
+    );
+    if !p.ok {
+        return refused(p.refusal);
+    }
+    let e = read_edges(
+        s,
+        p.at,
+        c.edges,
+        &node_ids,
+        &zeros,
+        c.nodes,
+        &mut points[..],
+        &mut edge_ids[..],
+    );
+    if !e.ok {
+        return refused(e.refusal);
+    }
+    let b = read_bundles(
+        s,
+        e.at,
+        c.bundles,
+        &node_ids,
+        c.nodes,
+        &port_nodes,
+        &port_ids,
+        c.ports,
+        &edge_ids,
+        c.edges,
+        &zeros,
+        &mut bundle_ids[..],
+        &mut member_edges[..],
+        &mut member_roles[..],
+    );
+    if !b.ok {
+        return refused(b.refusal);
+    }
+    if b.at < s.len() {
+        return refused(4);
+    }
+    let members = b.members;
+    let is_twice = any_twice(
+        &node_ids,
+        &port_nodes,
+        &port_ids,
+        &edge_ids,
+        &bundle_ids,
+        &member_edges,
+        &member_roles,
+        &zeros,
+        c,
+        members.count,
+    );
+    if is_twice {
         return refused(8);
     }
-    let raw_ports = p.ports;
-    let ports = resolve_ports(raw_ports, nk, c.nodes);
-    if !ports.ok {
-        return refused(9);
-    }
-    let raw_edges = e.edges;
-    let edges = resolve_edges(raw_edges, nk, c.nodes);
-    if !edges.ok {
-        return refused(9);
-    }
-    let raw_bundles = b.bundles;
-    let bundles = resolve_bundles(raw_bundles, nk, c.nodes, pk, c.ports);
-    if !bundles.ok {
-        return refused(9);
-    }
-    let members = resolve_members(m, ek, c.edges);
-    if !members.ok {
+    let known = p.known & (e.known & (b.known & b.members_known));
+    if !known {
         return refused(9);
     }
     let flags = h.flags;
     let grants = h.grants;
     let options = h.options;
-    let node_table = n.nodes;
-    let port_table = ports.ports;
-    let edge_table = edges.edges;
-    let bundle_table = bundles.bundles;
-    let member_table = members.members;
+    let nodes = n.nodes;
+    let ports = p.ports;
+    let edges = e.edges;
+    let bundles = b.bundles;
     let job = Job {
         flags: flags,
         grants: grants,
         options: options,
-        nodes: node_table,
-        ports: port_table,
-        edges: edge_table,
-        bundles: bundle_table,
-        members: member_table,
+        nodes: nodes,
+        ports: ports,
+        edges: edges,
+        bundles: bundles,
+        members: members,
         points: e.total,
     };
     JobRead {
@@ -1516,34 +1410,6 @@ fn settle(h: Header, n: NodesRead, p: PortsRead, e: EdgesRead, b: BundlesRead) -
         refusal: 0,
         job: job,
     }
-}
-
-// The tables, by place, then nothing after them.
-fn read_tables(s: &[u8], h: Header, points: &mut [f64]) -> JobRead
-    requires { ⌜ Limits (h .counts) × (length (now points) ≡ 4096) ⌝ }
-    ensures { λ r. ⌜ JobTold r (now (points .exit)) (outcome (tables (h .counts) (drop 62 (now (s .entry)))) (λ t rest. settled h t)) ⌝ }
-{
-    let c = h.counts;
-    let n = read_nodes(s, 62, c.nodes);
-    if !n.ok {
-        return refused(n.refusal);
-    }
-    let p = read_ports(s, n.at, c.ports);
-    if !p.ok {
-        return refused(p.refusal);
-    }
-    let e = read_edges(s, p.at, c.edges, &mut points[..]);
-    if !e.ok {
-        return refused(e.refusal);
-    }
-    let b = read_bundles(s, e.at, c.bundles);
-    if !b.ok {
-        return refused(b.refusal);
-    }
-    if b.at < s.len() {
-        return refused(4);
-    }
-    settle(h, n, p, e, b)
 }
 
 // A job's bytes to what it says, its points into a lent slice of 4,096 numbers. After a refusal the

@@ -5,11 +5,13 @@ use mathlib.Core.List.{[], map}
 use denote.Ref.{now}
 use lib.ListN.{length, take, drop, length-set}
 use Rattle.wire.specs.Read.{got, refused, many, many-refused}
-use Rattle.job.specs.Job.{edge-head, edge-key, next-edge, point}
+use Rattle.job.specs.Job.{edge-head, edge-of, next-edge, point}
+use Rattle.job.specs.Keys.{each}
 use Rattle.job.specs.Told.{told-edge}
-use Rattle.job.specs.Laws.{keys, keyed, begun, done, edge-turn, edge-head-refused, edge-points-refused}
+use Rattle.job.specs.Laws.{one-more, begun, done, edge-turn, edge-head-refused, edge-points-refused}
 use Rattle.job.specs.Heads.{edge-window}
-use Rattle.job.specs.Reads.{read-as, stopped-as, well-as}
+use Rattle.job.specs.Lookups.{edge-row, none-yet, one-more-read}
+use Rattle.job.specs.Reads.{read-as, known-as, first-keys, edge-id, SoFar, stopped-as, well-as}
 use Rattle.geometry.specs.Points.{points-from}
 use Rattle.route.specs.Window.{points-length}
 use borrow.Author.Needs.{needs}
@@ -17,19 +19,20 @@ use Rattle.job.proofs.read_edges.Statement.{statement}
 use Rattle.job.proofs.read_edges.Tie as tie
 
 abbrev Inv-loop : tie.InvT-loop
-Inv-loop s from count points₀ t₀ k₀ at₀ total₀ i₀ points t k at total i =
-    (i ≤ count) × (t .count ≡ count) × (length (t .rows) ≡ 256) × (length (k .first) ≡ 256) × (length (k .second) ≡ 256) × (total ≤ 2048) × (at ≡ from + 22 * i + 16 * total)
-    × (length points ≡ length points₀) × (keys (take i (k .first)) (take i (k .second)) ≡ map edge-key (take i (t .rows)))
-    × (many (count - i) next-edge (record { edges = take i (t .rows); points = points-from points 0 total }) (drop at s) ≡ many count next-edge (record { edges = []; points = [] }) (drop from s))
+Inv-loop s from count node-ids zeros n points₀ ids₀ t₀ known₀ at₀ total₀ i₀ points ids t known at total i =
+    (i ≤ count) × (t .count ≡ count) × (length (t .rows) ≡ 256) × (length ids ≡ length ids₀) × (total ≤ 2048) × (at ≡ from + 22 * i + 16 * total) × (length points ≡ length points₀)
+    × SoFar edge-id (edge-of (first-keys node-ids zeros n))
+    (λ raw. many (count - i) next-edge (record { edges = raw; points = points-from points 0 total }) (drop at s) ≡ many count next-edge (record { edges = []; points = [] }) (drop from s))
+    i (take i ids) known (take i (t .rows))
 
 abbrev μ-loop : tie.MeasureT-loop
-μ-loop s from count points₀ t₀ k₀ at₀ total₀ i₀ points t k at total i = count - i
+μ-loop s from count node-ids zeros n points₀ ids₀ t₀ known₀ at₀ total₀ i₀ points ids t known at total i = count - i
 
 loop-holds : tie.Need-loop-holds Inv-loop μ-loop
-unfolding keys points-from
+unfolding points-from
 loop-holds c =
-    let a = c .before .before .args in
-    (omega arith, refl, refl, refl, refl, omega arith, omega arith, refl, refl, begun next-edge (a .count) (record { edges = []; points = [] }) (drop (a .from) (now (a .s))))
+    let a = c .before .before .before .args in
+    (omega arith, refl, refl, refl, omega arith, omega arith, refl, none-yet edge-id _ _ (begun next-edge (a .count) (record { edges = []; points = [] }) (drop (a .from) (now (a .s)))))
 
 edge-head-at-requires : tie.Need-edge-head-at-requires Inv-loop μ-loop
 edge-head-at-requires c κs = search needs
@@ -40,22 +43,28 @@ enum-known-one c = search needs
 same-length : tie.Need-same-length Inv-loop μ-loop
 same-length c = search needs
 
+same-length-2 : tie.Need-same-length-2 Inv-loop μ-loop
+same-length-2 c = search needs
+
 returns : tie.Need-returns Inv-loop μ-loop
 unfolding read-as told-edge
 returns c =
-    let a = c .before .before .before .before .before .before .before .before .args in
+    let a = c .before .before .before .before .before .before .before .before .before .args in
     let l = c .before .before .before .before .before .loop in
-    let p = c .before .before .before .before .before .before .before .before .pre in
+    let p = c .before .before .before .before .before .before .before .before .before .pre in
     let s = now (a .s) in
+    let r = l .inv .7 in
     let f = c .before .before .before .edge-head-at in
     let e : edge-head (l .total) (drop (l .at) s) ≡ told-edge (f .result) (drop (l .at + 22) s) = sym (f .ensures) in
     let head = e ∙ ap (λ z. told-edge z (drop (l .at + 22) s)) (c .before .one .given .1) in
     record {
-      is = sym (many-refused next-edge (a .count) (l .i) (record { edges = take (l .i) (l .t .rows); points = points-from (l .points) 0 (l .total) }) (drop (l .at) s) _ (omega arith)
-          (edge-head-refused (take (l .i) (l .t .rows)) (points-from (l .points) 0 (l .total)) (l .total) (points-length (l .points) 0 (l .total)) (drop (l .at) s) _ head)) ∙ l .inv .9;
+      raw = [];
+      is = sym (many-refused next-edge (a .count) (l .i) (record { edges = r .raw; points = points-from (l .points) 0 (l .total) }) (drop (l .at) s) _ (omega arith)
+          (edge-head-refused (r .raw) (points-from (l .points) 0 (l .total)) (l .total) (points-length (l .points) 0 (l .total)) (drop (l .at) s) _ head)) ∙ r .left;
       keyed = λ q. let z : _≡_ {A = ℕ} 0 1 = cc in absurd (omega arith);
+      known = λ q. let z : _≡_ {A = ℕ} 0 1 = cc in absurd (omega arith);
       rows = l .inv .1;
-      total = l .inv .5;
+      total = l .inv .4;
       place = omega arith;
     }
 
@@ -68,9 +77,9 @@ add-read-points c = search needs
 read-points-requires : tie.Need-read-points-requires Inv-loop μ-loop
 unfolding told-edge
 read-points-requires c κs =
-    let a = c .before .before .before .before .before .before .before .before .before .args in
+    let a = c .before .before .before .before .before .before .before .before .before .before .args in
     let l = c .before .before .before .before .before .before .loop in
-    let p = c .before .before .before .before .before .before .before .before .before .pre in
+    let p = c .before .before .before .before .before .before .before .before .before .before .pre in
     let s = now (a .s) in
     let f = c .before .before .before .before .edge-head-at in
     let e : edge-head (l .total) (drop (l .at) s) ≡ told-edge (f .result) (drop (l .at + 22) s) = sym (f .ensures) in
@@ -81,150 +90,189 @@ read-points-requires c κs =
 enum-known-route : tie.Need-enum-known-route Inv-loop μ-loop
 enum-known-route c = search needs
 
-same-length-2 : tie.Need-same-length-2 Inv-loop μ-loop
-same-length-2 c = search needs
+same-length-3 : tie.Need-same-length-3 Inv-loop μ-loop
+same-length-3 c = search needs
+
+same-length-4 : tie.Need-same-length-4 Inv-loop μ-loop
+same-length-4 c = search needs
 
 returns-2 : tie.Need-returns-2 Inv-loop μ-loop
 unfolding read-as told-edge
 returns-2 c =
-    let a = c .before .before .before .before .before .before .before .before .before .before .before .before .before .before .before .args in
+    let a = c .before .before .before .before .before .before .before .before .before .before .before .before .before .before .before .before .args in
     let l = c .before .before .before .before .before .before .before .before .before .before .before .before .loop in
-    let p = c .before .before .before .before .before .before .before .before .before .before .before .before .before .before .before .pre in
+    let p = c .before .before .before .before .before .before .before .before .before .before .before .before .before .before .before .before .pre in
     let s = now (a .s) in
+    let r = l .inv .7 in
     let f = c .before .before .before .before .before .before .before .before .before .before .edge-head-at in
     let e : edge-head (l .total) (drop (l .at) s) ≡ told-edge (f .result) (drop (l .at + 22) s) = sym (f .ensures) in
     let head = e ∙ ap (λ z. told-edge z (drop (l .at + 22) s)) (c .before .before .before .before .before .before .before .before .one2 .given .1) in
     let g = c .before .before .before .before .before .read-points in
     record {
-      is = sym (many-refused next-edge (a .count) (l .i) (record { edges = take (l .i) (l .t .rows); points = points-from (l .points) 0 (l .total) }) (drop (l .at) s) _ (omega arith)
-          (edge-points-refused (take (l .i) (l .t .rows)) (points-from (l .points) 0 (l .total)) (l .total) (points-length (l .points) 0 (l .total)) (drop (l .at) s) _ (drop (l .at + 22) s) _ head (stopped-as (g .result) _ _ _ (sym (g .ensures)) (c .before .route .given .1)))) ∙ l .inv .9;
+      raw = [];
+      is = sym (many-refused next-edge (a .count) (l .i) (record { edges = r .raw; points = points-from (l .points) 0 (l .total) }) (drop (l .at) s) _ (omega arith)
+          (edge-points-refused (r .raw) (points-from (l .points) 0 (l .total)) (l .total) (points-length (l .points) 0 (l .total)) (drop (l .at) s) _ (drop (l .at + 22) s) _ head (stopped-as (g .result) _ _ _ (sym (g .ensures)) (c .before .route .given .1)))) ∙ r .left;
       keyed = λ q. let z : _≡_ {A = ℕ} 0 1 = cc in absurd (omega arith);
+      known = λ q. let z : _≡_ {A = ℕ} 0 1 = cc in absurd (omega arith);
       rows = l .inv .1;
-      total = l .inv .5;
+      total = l .inv .4;
       place = omega arith;
     }
 
 enum-told : tie.Need-enum-told Inv-loop μ-loop
 enum-told c = search needs
 
-mul-e : tie.Need-mul-e Inv-loop μ-loop
-mul-e c = search needs
+find-requires : tie.Need-find-requires Inv-loop μ-loop
+find-requires c κs = search needs
 
-element-set-from-e : tie.Need-element-set-from-e Inv-loop μ-loop
-element-set-from-e c = search needs
+find-requires-2 : tie.Need-find-requires-2 Inv-loop μ-loop
+find-requires-2 c κs = search needs
 
-mul-k : tie.Need-mul-k Inv-loop μ-loop
-mul-k c = search needs
+mul-t27 : tie.Need-mul-t27 Inv-loop μ-loop
+mul-t27 c =
+    let u = c .before .before .before .before .before .before .before .before .before .before .before .before .before .before .loop-test .taken in
+    let p = c .before .before .before .before .before .before .before .before .before .before .before .before .before .before .before .before .before .before .before .pre in
+    let v = c .before .before .before .before .before .before .before .before .before .before .before .before .before .before .before .loop .inv in
+    search needs
 
-element-write-k : tie.Need-element-write-k Inv-loop μ-loop
-element-write-k c = search needs
+element-set-from-t : tie.Need-element-set-from-t Inv-loop μ-loop
+element-set-from-t c =
+    let u = c .before .before .before .before .before .before .before .before .before .before .before .before .before .before .loop-test .taken in
+    let p = c .before .before .before .before .before .before .before .before .before .before .before .before .before .before .before .before .before .before .before .pre in
+    let v = c .before .before .before .before .before .before .before .before .before .before .before .before .before .before .before .loop .inv in
+    search needs
 
-mul-k-2 : tie.Need-mul-k-2 Inv-loop μ-loop
-mul-k-2 c = search needs
+mul-ids : tie.Need-mul-ids Inv-loop μ-loop
+mul-ids c =
+    let u = c .before .before .before .before .before .before .before .before .before .before .before .before .before .before .loop-test .taken in
+    let p = c .before .before .before .before .before .before .before .before .before .before .before .before .before .before .before .before .before .before .before .pre in
+    let v = c .before .before .before .before .before .before .before .before .before .before .before .before .before .before .before .loop .inv in
+    search needs
 
-element-write-k-2 : tie.Need-element-write-k-2 Inv-loop μ-loop
-element-write-k-2 c = search needs
+slice-write-ids : tie.Need-slice-write-ids Inv-loop μ-loop
+slice-write-ids c =
+    let u = c .before .before .before .before .before .before .before .before .before .before .before .before .before .before .loop-test .taken in
+    let p = c .before .before .before .before .before .before .before .before .before .before .before .before .before .before .before .before .before .before .before .pre in
+    let v = c .before .before .before .before .before .before .before .before .before .before .before .before .before .before .before .loop .inv in
+    search needs
 
 mul-at : tie.Need-mul-at Inv-loop μ-loop
 unfolding told-edge
 mul-at c =
-    let a = c .before .before .before .before .before .before .before .before .before .before .before .before .before .before .before .args in
-    let l = c .before .before .before .before .before .before .before .before .before .before .before .before .loop in
-    let p = c .before .before .before .before .before .before .before .before .before .before .before .before .before .before .before .pre in
+    let a = c .before .before .before .before .before .before .before .before .before .before .before .before .before .before .before .before .before .before .before .before .args in
+    let l = c .before .before .before .before .before .before .before .before .before .before .before .before .before .before .before .before .loop in
+    let p = c .before .before .before .before .before .before .before .before .before .before .before .before .before .before .before .before .before .before .before .before .pre in
     let s = now (a .s) in
-    let f = c .before .before .before .before .before .before .before .before .before .before .edge-head-at in
+    let f = c .before .before .before .before .before .before .before .before .before .before .before .before .before .before .edge-head-at in
     let e : edge-head (l .total) (drop (l .at) s) ≡ told-edge (f .result) (drop (l .at + 22) s) = sym (f .ensures) in
-    let head = e ∙ ap (λ z. told-edge z (drop (l .at + 22) s)) (c .before .before .before .before .before .before .before .before .one2 .given .1) in
+    let head = e ∙ ap (λ z. told-edge z (drop (l .at + 22) s)) (c .before .before .before .before .before .before .before .before .before .before .before .before .one2 .given .1) in
     let w = edge-window (l .total) (drop (l .at) s) _ (drop (l .at + 22) s) head in
     search needs
 
 add-at : tie.Need-add-at Inv-loop μ-loop
 unfolding told-edge
 add-at c =
-    let a = c .before .before .before .before .before .before .before .before .before .before .before .before .before .before .before .args in
-    let l = c .before .before .before .before .before .before .before .before .before .before .before .before .loop in
-    let p = c .before .before .before .before .before .before .before .before .before .before .before .before .before .before .before .pre in
+    let a = c .before .before .before .before .before .before .before .before .before .before .before .before .before .before .before .before .before .before .before .before .args in
+    let l = c .before .before .before .before .before .before .before .before .before .before .before .before .before .before .before .before .loop in
+    let p = c .before .before .before .before .before .before .before .before .before .before .before .before .before .before .before .before .before .before .before .before .pre in
     let s = now (a .s) in
-    let f = c .before .before .before .before .before .before .before .before .before .before .edge-head-at in
+    let f = c .before .before .before .before .before .before .before .before .before .before .before .before .before .before .edge-head-at in
     let e : edge-head (l .total) (drop (l .at) s) ≡ told-edge (f .result) (drop (l .at + 22) s) = sym (f .ensures) in
-    let head = e ∙ ap (λ z. told-edge z (drop (l .at + 22) s)) (c .before .before .before .before .before .before .before .before .one2 .given .1) in
+    let head = e ∙ ap (λ z. told-edge z (drop (l .at + 22) s)) (c .before .before .before .before .before .before .before .before .before .before .before .before .one2 .given .1) in
     let w = edge-window (l .total) (drop (l .at) s) _ (drop (l .at + 22) s) head in
     search needs
 
 add-at-2 : tie.Need-add-at-2 Inv-loop μ-loop
 unfolding told-edge
 add-at-2 c =
-    let a = c .before .before .before .before .before .before .before .before .before .before .before .before .before .before .before .args in
-    let l = c .before .before .before .before .before .before .before .before .before .before .before .before .loop in
-    let p = c .before .before .before .before .before .before .before .before .before .before .before .before .before .before .before .pre in
+    let a = c .before .before .before .before .before .before .before .before .before .before .before .before .before .before .before .before .before .before .before .before .args in
+    let l = c .before .before .before .before .before .before .before .before .before .before .before .before .before .before .before .before .loop in
+    let p = c .before .before .before .before .before .before .before .before .before .before .before .before .before .before .before .before .before .before .before .before .pre in
     let s = now (a .s) in
-    let f = c .before .before .before .before .before .before .before .before .before .before .edge-head-at in
+    let f = c .before .before .before .before .before .before .before .before .before .before .before .before .before .before .edge-head-at in
     let e : edge-head (l .total) (drop (l .at) s) ≡ told-edge (f .result) (drop (l .at + 22) s) = sym (f .ensures) in
-    let head = e ∙ ap (λ z. told-edge z (drop (l .at + 22) s)) (c .before .before .before .before .before .before .before .before .one2 .given .1) in
+    let head = e ∙ ap (λ z. told-edge z (drop (l .at + 22) s)) (c .before .before .before .before .before .before .before .before .before .before .before .before .one2 .given .1) in
     let w = edge-window (l .total) (drop (l .at) s) _ (drop (l .at + 22) s) head in
     search needs
 
 add-total : tie.Need-add-total Inv-loop μ-loop
 unfolding told-edge
 add-total c =
-    let a = c .before .before .before .before .before .before .before .before .before .before .before .before .before .before .before .before .args in
-    let l = c .before .before .before .before .before .before .before .before .before .before .before .before .before .loop in
-    let p = c .before .before .before .before .before .before .before .before .before .before .before .before .before .before .before .before .pre in
+    let a = c .before .before .before .before .before .before .before .before .before .before .before .before .before .before .before .before .before .before .before .before .before .args in
+    let l = c .before .before .before .before .before .before .before .before .before .before .before .before .before .before .before .before .before .loop in
+    let p = c .before .before .before .before .before .before .before .before .before .before .before .before .before .before .before .before .before .before .before .before .before .pre in
     let s = now (a .s) in
-    let f = c .before .before .before .before .before .before .before .before .before .before .before .edge-head-at in
+    let f = c .before .before .before .before .before .before .before .before .before .before .before .before .before .before .before .edge-head-at in
     let e : edge-head (l .total) (drop (l .at) s) ≡ told-edge (f .result) (drop (l .at + 22) s) = sym (f .ensures) in
-    let head = e ∙ ap (λ z. told-edge z (drop (l .at + 22) s)) (c .before .before .before .before .before .before .before .before .before .one2 .given .1) in
+    let head = e ∙ ap (λ z. told-edge z (drop (l .at + 22) s)) (c .before .before .before .before .before .before .before .before .before .before .before .before .before .one2 .given .1) in
     let w = edge-window (l .total) (drop (l .at) s) _ (drop (l .at + 22) s) head in
     search needs
 
 add-i : tie.Need-add-i Inv-loop μ-loop
-add-i c = search needs
+add-i c =
+    let u = c .before .before .before .before .before .before .before .before .before .before .before .before .before .before .before .before .loop-test .taken in
+    let p = c .before .before .before .before .before .before .before .before .before .before .before .before .before .before .before .before .before .before .before .before .before .pre in
+    let v = c .before .before .before .before .before .before .before .before .before .before .before .before .before .before .before .before .before .loop .inv in
+    search needs
 
 loop-less : tie.Need-loop-less Inv-loop μ-loop
-loop-less c = search needs
+loop-less c =
+    let u = c .before .before .before .before .before .before .before .before .before .before .before .before .before .before .before .before .loop-test .taken in
+    let p = c .before .before .before .before .before .before .before .before .before .before .before .before .before .before .before .before .before .before .before .before .before .pre in
+    let v = c .before .before .before .before .before .before .before .before .before .before .before .before .before .before .before .before .before .loop .inv in
+    search needs
 
 loop-again : tie.Need-loop-again Inv-loop μ-loop
 unfolding told-edge
 loop-again c =
-    let a = c .before .before .before .before .before .before .before .before .before .before .before .before .before .before .before .before .args in
-    let l = c .before .before .before .before .before .before .before .before .before .before .before .before .before .loop in
-    let p = c .before .before .before .before .before .before .before .before .before .before .before .before .before .before .before .before .pre in
+    let a = c .before .before .before .before .before .before .before .before .before .before .before .before .before .before .before .before .before .before .before .before .before .args in
+    let u = c .before .before .before .before .before .before .before .before .before .before .before .before .before .before .before .before .loop-test .taken in
+    let l = c .before .before .before .before .before .before .before .before .before .before .before .before .before .before .before .before .before .loop in
+    let p = c .before .before .before .before .before .before .before .before .before .before .before .before .before .before .before .before .before .before .before .before .before .pre in
     let s = now (a .s) in
-    let f = c .before .before .before .before .before .before .before .before .before .before .before .edge-head-at in
+    let r = l .inv .7 in
+    let f = c .before .before .before .before .before .before .before .before .before .before .before .before .before .before .before .edge-head-at in
     let e : edge-head (l .total) (drop (l .at) s) ≡ told-edge (f .result) (drop (l .at + 22) s) = sym (f .ensures) in
-    let head = e ∙ ap (λ z. told-edge z (drop (l .at + 22) s)) (c .before .before .before .before .before .before .before .before .before .one2 .given .1) in
+    let head = e ∙ ap (λ z. told-edge z (drop (l .at + 22) s)) (c .before .before .before .before .before .before .before .before .before .before .before .before .before .one2 .given .1) in
     let w = edge-window (l .total) (drop (l .at) s) _ (drop (l .at + 22) s) head in
-    let g = c .before .before .before .before .before .before .read-points in
+    let g = c .before .before .before .before .before .before .before .before .before .before .read-points in
     let k = g .kept .0 in (
       omega arith,
       l .inv .1,
       simp length-set (l .inv .2),
       simp length-set (l .inv .3),
-      simp length-set (l .inv .4),
       omega arith,
       omega arith,
       omega arith,
-      keyed edge-key (l .k .first) (l .k .second) (l .t .rows) (l .i) _ _ _ (omega arith) (omega arith) (omega arith) refl (l .inv .8),
-      edge-turn (l .t .rows) (a .count) (l .i) (l .total) (l .at) (points-from (l .points) 0 (l .total)) _ s _ (omega arith) (omega arith) (points-length (l .points) 0 (l .total)) head
-          (well-as (g .result) _ _ (sym (g .ensures)) (c .before .before .enum-told .given .1)) ∙ l .inv .9,
+      one-more-read edge-id _ _ _ (l .i) (take (l .i) (l .ids)) _ (l .known) _ (take (l .i) (l .t .rows)) _ r _ _
+          (one-more (l .ids) (l .i) _ (omega arith))
+          (edge-row (first-keys (now (a .node-ids)) (now (a .zeros)) (a .n)) _ _ _ _ _ (c .before .before .before .before .before .find .ensures) (c .before .before .before .before .find2 .ensures))
+          (one-more (l .t .rows) (l .i) _ (omega arith))
+          (edge-turn (r .raw) (a .count) (l .i) (l .total) (l .at) (points-from (l .points) 0 (l .total)) _ s _ (omega arith) (points-length (l .points) 0 (l .total)) head
+          (well-as (g .result) _ _ (sym (g .ensures)) (c .before .before .before .before .before .before .enum-told .given .1)) ∙ r .left),
     )
 
-same-length-3 : tie.Need-same-length-3 Inv-loop μ-loop
-same-length-3 c = search needs
+same-length-5 : tie.Need-same-length-5 Inv-loop μ-loop
+same-length-5 c = search needs
+
+same-length-6 : tie.Need-same-length-6 Inv-loop μ-loop
+same-length-6 c = search needs
 
 returns-3 : tie.Need-returns-3 Inv-loop μ-loop
 unfolding read-as
 returns-3 c =
-    let a = c .before .before .before .before .args in
+    let a = c .before .before .before .before .before .args in
     let l = c .before .loop in
     let s = now (a .s) in
+    let r = l .inv .7 in
     let q : l .i ≡ a .count = omega arith in
     record {
-      is = ap (λ (z : ℕ). got (record { edges = take z (l .t .rows); points = points-from (l .points) 0 (l .total) }) (drop (l .at) s)) (sym q)
-          ∙ sym (done next-edge (a .count) (l .i) (record { edges = take (l .i) (l .t .rows); points = points-from (l .points) 0 (l .total) }) (drop (l .at) s) (omega arith)) ∙ l .inv .9;
-      keyed = λ _. subst (λ (z : ℕ). keys (take z (l .k .first)) (take z (l .k .second)) ≡ map edge-key (take z (l .t .rows))) q (l .inv .8);
+      raw = r .raw;
+      is = sym (done next-edge (a .count) (l .i) (record { edges = r .raw; points = points-from (l .points) 0 (l .total) }) (drop (l .at) s) (omega arith)) ∙ r .left;
+      keyed = λ _. subst (λ (z : ℕ). take z (l .ids) ≡ map edge-id (r .raw)) q (r .keyed);
+      known = λ _. subst (λ (z : ℕ). known-as (l .known) (take z (l .t .rows)) ≡ each (edge-of (first-keys (now (a .node-ids)) (now (a .zeros)) (a .n))) (r .raw) []) q (r .known);
       rows = l .inv .1;
-      total = l .inv .5;
+      total = l .inv .4;
       place = omega arith;
     }
 
@@ -238,20 +286,22 @@ read-edges-spec =
     edge-head-at-requires
     enum-known-one
     same-length
+    same-length-2
     returns
     enum-known-one-2
     add-read-points
     read-points-requires
     enum-known-route
-    same-length-2
+    same-length-3
+    same-length-4
     returns-2
     enum-told
-    mul-e
-    element-set-from-e
-    mul-k
-    element-write-k
-    mul-k-2
-    element-write-k-2
+    find-requires
+    find-requires-2
+    mul-t27
+    element-set-from-t
+    mul-ids
+    slice-write-ids
     mul-at
     add-at
     add-at-2
@@ -259,5 +309,6 @@ read-edges-spec =
     add-i
     loop-less
     loop-again
-    same-length-3
+    same-length-5
+    same-length-6
     returns-3)
