@@ -25,8 +25,6 @@ ghost use Rattle.building.specs.Rows.{members-from, depth-at, rewrite-wi
 use board::Bundle;
 use board::DrawnBundle;
 use board::DrawnBundles;
-use board::Edges;
-use board::Nodes;
 use board::Options;
 use drawing::GeometryVisits;
 use drawing::Verdict;
@@ -550,8 +548,8 @@ pub fn mark_members(edges: &[usize], first: usize, count: usize, mask: &mut [boo
 pub fn verify_bundle(
     o: Options,
     allow: bool,
-    nodes: Nodes,
-    table: Edges,
+    boxes: &[f64],
+    ends: &[usize],
     new: DrawnBundle,
     priors: DrawnBundles,
     edges: &[usize],
@@ -561,11 +559,11 @@ pub fn verify_bundle(
     mask: &mut [bool],
     visits: GeometryVisits,
 ) -> Verdict
-    requires { ⌜ (nodes .count ≤ 128) × (table .count ≤ 256) × (length (now counts) ≤ table .count) × (priors .count ≤ 32) × AllTabled (take (priors .count) (priors .rows)) (now edges) (now taps) × Tabled (new .first) (new .count) (now edges) (now taps) × Slotted (now points) (now counts) (now mask) × Known (now edges) (new .first) (new .count) (length (now mask)) ⌝ }
-    ensures { λ r. ⌜ r ≡ then-walk (walk 12 (over-routes (inside-route (take (nodes .count) (nodes .rows)) (take (table .count) (table .rows))) (among (members-from (now (edges .entry)) [] (new .first) (new .count))) (routes-of (now (points .entry)) (now (counts .entry))) 0) (visits .0)) (λ k. walk 11 (contact-tests o allow (drawn-of (now (edges .entry)) (now (taps .entry)) new) (among (members-from (now (edges .entry)) [] (new .first) (new .count))) (map (drawn-of (now (edges .entry)) (now (taps .entry))) (take (priors .count) (priors .rows))) (routes-of (now (points .entry)) (now (counts .entry)))) k) ⌝ }
+    requires { ⌜ (2 * length (now counts) ≤ length (now ends)) × (priors .count ≤ 32) × AllTabled (take (priors .count) (priors .rows)) (now edges) (now taps) × Tabled (new .first) (new .count) (now edges) (now taps) × Slotted (now points) (now counts) (now mask) × Known (now edges) (new .first) (new .count) (length (now mask)) ⌝ }
+    ensures { λ r. ⌜ r ≡ then-walk (walk 12 (over-routes (inside-route (now (boxes .entry)) (now (ends .entry))) (among (members-from (now (edges .entry)) [] (new .first) (new .count))) (routes-of (now (points .entry)) (now (counts .entry))) 0) (visits .0)) (λ k. walk 11 (contact-tests o allow (drawn-of (now (edges .entry)) (now (taps .entry)) new) (among (members-from (now (edges .entry)) [] (new .first) (new .count))) (map (drawn-of (now (edges .entry)) (now (taps .entry))) (take (priors .count) (priors .rows))) (routes-of (now (points .entry)) (now (counts .entry)))) k) ⌝ }
 {
     mark_members(edges, new.first, new.count, &mut mask[..]);
-    let v = checks::interiors_paid(visits, nodes, table, &mask[..], points, counts);
+    let v = checks::interiors_paid(visits, boxes, ends, &mask[..], points, counts);
     match v {
         Verdict::Refused(r, p) => Verdict::Refused(r, p),
         Verdict::Clean(q) => checks::contacts_paid(

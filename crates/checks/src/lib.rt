@@ -3,7 +3,8 @@
 // Ported from cachanova/schemweave, commit c4a1a2c60a, crates/schemweave/src/boundary_bundles.rs
 // (Apache-2.0, see NOTICE). The present routes are in slots (crate route). A bundle's members are
 // count places from first on of the table of members: edges has each one's edge, taps its tap as x
-// and y. A mask has a place for each route; all chooses every route whatever the mask says.
+// and y. A mask has a place for each route; all chooses every route whatever the mask says. Of the nodes
+// and the edges there are slices of numbers, which cost nothing to pass on: boxes and ends.
 //
 // The geometry visits that pay for the looks are lent: to the two checks as a purse, and below them
 // as its counter, left. The prover covers no function that has a reference to a struct, so the two
@@ -21,16 +22,15 @@ ghost use Rattle.drawing.specs.Build.{tap-of};
 ghost use Rattle.drawing.specs.Check.{due, walk, own, clash, run-tests, over-routes, route-tests, drawn-tests, pair-tests, prior-tests, inside-tests};
 ghost use Rattle.checks.specs.Looks.{InteriorTables, interior-looks, ContactTables, contact-looks};
 ghost use Rattle.checks.specs.Purse.{told, charged};
-ghost use Rattle.checks.specs.Rows.{taps-from, drawn-of, chosen-by, Tabled, AllTabled, Slotted};
+ghost use Rattle.checks.specs.Rows.{taps-from, drawn-of, chosen-by, box-at, nodes-in, edge-at, Tabled, AllTabled, Slotted};
 use board::DrawnBundle;
 use board::DrawnBundles;
 use board::Edge;
-use board::Edges;
-use board::Nodes;
 use board::Options;
 use drawing::Finding;
 use drawing::GeometryVisits;
 use drawing::Verdict;
+use geometry::Node;
 use geometry::Segment;
 use geometry::Tap;
 use geometry::Trunk;
@@ -488,20 +488,47 @@ fn is_own(e: Edge, j: usize) -> bool
     (j == e.source) | (j == e.target)
 }
 
+// Node i of boxes, which has four numbers a node: corner x, corner y, width, height.
+pub fn box_at(boxes: &[f64], i: usize) -> Node
+    requires { ⌜ 4 * i + 3 < length (now boxes) ⌝ }
+    ensures { λ r. ⌜ r ≡ box-at (now (boxes .entry)) i .body ⌝ }
+{
+    let size = geometry::point_at(boxes, 2 * i + 1);
+    Node {
+        corner: geometry::point_at(boxes, 2 * i),
+        width: size.x,
+        height: size.y,
+    }
+}
+
+// Edge i of ends, which has two numbers an edge: the places of its source and of its target.
+fn edge_at(ends: &[usize], i: usize) -> Edge
+    requires { ⌜ 2 * i + 1 < length (now ends) ⌝ }
+    ensures { λ r. ⌜ r ≡ edge-at (now (ends .entry)) i ⌝ }
+{
+    Edge {
+        id: 0,
+        source: ends[2 * i],
+        target: ends[2 * i + 1],
+        first: 0,
+        count: 0,
+    }
+}
+
 // The runs of a route of count points from point start on, each against every node but the edge's
 // own.
 fn route_inside(
-    nodes: Nodes,
+    boxes: &[f64],
     e: Edge,
     points: &[f64],
     start: usize,
     count: usize,
     left: &mut u32,
 ) -> Finding
-    requires { ⌜ (nodes .count ≤ 128) × (2 * (start + count) ≤ length (now points)) ⌝ }
-    ensures { λ r. ⌜ told r (now (left .exit)) ≡ walk 12 (inside-tests (take (nodes .count) (nodes .rows)) e (runs (points-from (now (points .entry)) start count))) (now (left .entry)) ⌝ }
+    requires { ⌜ 2 * (start + count) ≤ length (now points) ⌝ }
+    ensures { λ r. ⌜ told r (now (left .exit)) ≡ walk 12 (inside-tests (nodes-in (now (boxes .entry))) e (runs (points-from (now (points .entry)) start count))) (now (left .entry)) ⌝ }
 {
-    let n = nodes.count;
+    let n = boxes.len() / 4;
     let mut i: usize = 0;
     while i + 1 < count {
         let run = geometry::route_run(points, start, count, i);
@@ -518,8 +545,7 @@ fn route_inside(
             if !charge(&mut *left) {
                 return Finding::Refused(14);
             }
-            let row = nodes.rows[k];
-            if geometry::run_passes_inside(run.start, run.end, row.body) {
+            if geometry::run_passes_inside(run.start, run.end, box_at(boxes, k)) {
                 return Finding::Refused(12);
             }
         }
@@ -531,21 +557,22 @@ fn route_inside(
 // The routes that the mask chooses, in the order of the routes.
 fn node_interiors(
     left: &mut u32,
-    nodes: Nodes,
-    edges: Edges,
+    boxes: &[f64],
+    ends: &[usize],
     mask: &[bool],
     points: &[f64],
     counts: &[usize],
 ) -> Finding
-    requires { ⌜ InteriorTables nodes edges (now mask) (now points) (now counts) ⌝ }
-    ensures { λ r. ⌜ told r (now (left .exit)) ≡ walk 12 (interior-looks nodes edges (now (mask .entry)) (now (points .entry)) (now (counts .entry))) (now (left .entry)) ⌝ }
+    requires { ⌜ InteriorTables (now boxes) (now ends) (now mask) (now points) (now counts) ⌝ }
+    ensures { λ r. ⌜ told r (now (left .exit)) ≡ walk 12 (interior-looks (now (boxes .entry)) (now (ends .entry)) (now (mask .entry)) (now (points .entry)) (now (counts .entry))) (now (left .entry)) ⌝ }
 {
     let mut e: usize = 0;
     while e < counts.len() {
         let k = e;
         e += 1;
         if mask[k] {
-            let f = route_inside(nodes, edges.rows[k], points, 68 * k, counts[k], &mut *left);
+            let edge = edge_at(ends, k);
+            let f = route_inside(boxes, edge, points, 68 * k, counts[k], &mut *left);
             if let Finding::Refused(r) = f {
                 return Finding::Refused(r);
             }
@@ -557,31 +584,31 @@ fn node_interiors(
 // The same, paid from a purse that is lent.
 pub fn verify_one_bundle_route_node_interiors(
     purse: &mut GeometryVisits,
-    nodes: Nodes,
-    edges: Edges,
+    boxes: &[f64],
+    ends: &[usize],
     mask: &[bool],
     points: &[f64],
     counts: &[usize],
 ) -> Finding
-    requires { ⌜ InteriorTables nodes edges (now mask) (now points) (now counts) ⌝ }
-    ensures { λ r. ⌜ told r (now (purse .exit) .0) ≡ walk 12 (interior-looks nodes edges (now (mask .entry)) (now (points .entry)) (now (counts .entry))) (now (purse .entry) .0) ⌝ }
+    requires { ⌜ InteriorTables (now boxes) (now ends) (now mask) (now points) (now counts) ⌝ }
+    ensures { λ r. ⌜ told r (now (purse .exit) .0) ≡ walk 12 (interior-looks (now (boxes .entry)) (now (ends .entry)) (now (mask .entry)) (now (points .entry)) (now (counts .entry))) (now (purse .entry) .0) ⌝ }
 {
-    node_interiors(&mut purse.0, nodes, edges, mask, points, counts)
+    node_interiors(&mut purse.0, boxes, ends, mask, points, counts)
 }
 
 // The same, for a caller that has the visits: it makes the purse.
 pub fn interiors_paid(
     visits: GeometryVisits,
-    nodes: Nodes,
-    edges: Edges,
+    boxes: &[f64],
+    ends: &[usize],
     mask: &[bool],
     points: &[f64],
     counts: &[usize],
 ) -> Verdict
-    requires { ⌜ InteriorTables nodes edges (now mask) (now points) (now counts) ⌝ }
-    ensures { λ r. ⌜ r ≡ walk 12 (interior-looks nodes edges (now (mask .entry)) (now (points .entry)) (now (counts .entry))) (visits .0) ⌝ }
+    requires { ⌜ InteriorTables (now boxes) (now ends) (now mask) (now points) (now counts) ⌝ }
+    ensures { λ r. ⌜ r ≡ walk 12 (interior-looks (now (boxes .entry)) (now (ends .entry)) (now (mask .entry)) (now (points .entry)) (now (counts .entry))) (visits .0) ⌝ }
 {
     let mut purse = visits;
-    let f = verify_one_bundle_route_node_interiors(&mut purse, nodes, edges, mask, points, counts);
+    let f = verify_one_bundle_route_node_interiors(&mut purse, boxes, ends, mask, points, counts);
     with_left(f, purse)
 }

@@ -15,11 +15,9 @@ use Rattle.geometry.specs.Points.{Route}
 use Rattle.route.specs.Slots.{Held}
 use Rattle.sorting.specs.Sorted.{every-map, every-last}
 use Rattle.board.specs.declared.Options.{Options}
-use Rattle.board.specs.declared.Nodes.{Nodes}
-use Rattle.board.specs.declared.Ports.{Ports}
-use Rattle.board.specs.declared.Edges.{Edges}
 use Rattle.board.specs.declared.Member.{Member}
 use Rattle.board.specs.declared.Bundle.{Bundle}
+use Rattle.board.specs.declared.Bundles.{Bundles}
 use Rattle.board.specs.declared.DrawnBundle.{DrawnBundle}
 use Rattle.board.specs.declared.DrawnBundles.{DrawnBundles}
 use Rattle.board.specs.Board.{Board, members-of}
@@ -137,12 +135,11 @@ module _ (u : Bundle) (us : List Bundle) (ds : List DrawnBundle) (edges lanes co
             omega arith;
       }
 
-  pub faces : (b : Board) (o : Options) (ns : Nodes) (ps : Ports) (es : Edges) (end : Point) → Shows b o ns ps es (members-all edges lanes) → endpoint-of b u ≡ end → Faced b o ns es u end those
-  faces b o ns ps es end s e =
+  pub faces : (b : Board) (o : Options) (boxes : List Float) (ends : List ℕ) (spots : List Float) (bundles : Bundles) (end : Point) → Shows b o boxes ends spots bundles (members-all edges lanes) → endpoint-of b u ≡ end → Faced b o boxes ends u end those
+  faces b o boxes ends spots bundles end s e =
       record {
         seen = record { options = s .options; endpoint = e; members = ap (λ (ms : List Member). members-of ms u) (s .members) ∙ those-are };
-        nodes = s .nodes;
-        edges = s .edges;
+        sliced = s .sliced;
       }
 
 pub longer-clean : (v : Verdict) (q : GeometryVisits) (old new : List ℕ) (ms : List Member) → v ≡ Clean q → Longer v old new ms → (k : ℕ) → getD new k 0 ≤ getD old k 0 + 2 * times ms k

@@ -16,10 +16,6 @@ use Rattle.route.specs.Window.{points-length}
 use Rattle.route.specs.Slots.{routes-from, routes-of}
 use Rattle.sorting.specs.Sorted.{Every}
 use Rattle.board.specs.declared.Options.{Options}
-use Rattle.board.specs.declared.PlacedNode.{PlacedNode}
-use Rattle.board.specs.declared.Edge.{Edge}
-use Rattle.board.specs.declared.Nodes.{Nodes}
-use Rattle.board.specs.declared.Edges.{Edges}
 use Rattle.board.specs.declared.Member.{Member}
 use Rattle.board.specs.declared.Bundle.{Bundle}
 use Rattle.board.specs.declared.DrawnBundle.{DrawnBundle}
@@ -31,10 +27,11 @@ use Rattle.drawing.specs.declared.Verdict.{Verdict}
 use Rattle.drawing.specs.declared.Verdict.the-variants.{Clean, Refused}
 use Rattle.drawing.specs.Build.{TapOn, Drawn, build}
 use Rattle.drawing.specs.Rewrite.{rewrite-all}
-use Rattle.drawing.specs.Check.{walk, among, over-routes, contact-tests, interior-tests}
+use Rattle.drawing.specs.Check.{Test, walk, among, over-routes, contact-tests, member-tests, interior-tests}
 use Rattle.drawing.specs.Sheet.{Turn, Outcome, after-check, after-rewrite, rewritten-by, checked, turn, planned-x}
 use Rattle.drawing.specs.Grow.{times, all-length}
 use Rattle.checks.specs.Rows.{taps-from, drawn-of, inside-route, AllTabled}
+use Rattle.checks.proofs.Laws.{sliced-tests}
 use Rattle.building.specs.Rows.{members-from, routes-in, Untouched, Known, Row, then-walk}
 use Rattle.building.proofs.Taps.{taps-same}
 use Rattle.turns.specs.Rows.{turn-of, standing, ends-as, Faced, Longer}
@@ -78,20 +75,20 @@ unfolding ends-as then-walk after-check
 ends-then (Clean p) k rs ds = refl
 ends-then (Refused e p) k rs ds = refl
 
--- both checks of the bundle d on the routes rs, with the parts of a board that they read
-abbrev both : Bool → Drawn → List Drawn → List Route → ℕ → Options → List PlacedNode → List Edge → (ℕ → Bool) → Verdict
-both allow d ds rs n o ns es chosen =
-    then-walk (walk 12 (over-routes (inside-route ns es) chosen rs 0) n) (λ k. walk 11 (contact-tests o allow d chosen ds rs) k)
+-- both checks of the bundle d on the routes rs, with what they read of a board; f has the tests of a route against the nodes
+abbrev both : Bool → Drawn → List Drawn → List Route → ℕ → Options → (ℕ → Route → List Test) → (ℕ → Bool) → Verdict
+both allow d ds rs n o f chosen =
+    then-walk (walk 12 (over-routes f chosen rs 0) n) (λ k. walk 11 (contact-tests o allow d chosen ds rs) k)
 
-checked-both : (b : Board) (allow : Bool) (t : Turn) (d : Drawn) (ds : List Drawn) (rs : List Route) (n : ℕ) → checked b allow t d ds rs n ≡ ends-as (both allow d ds rs n (b .options) (b .nodes) (b .edges) (among (members-in b (t .bundle)))) rs (ds ++ (d ∷ []))
+checked-both : (b : Board) (allow : Bool) (t : Turn) (d : Drawn) (ds : List Drawn) (rs : List Route) (n : ℕ) → checked b allow t d ds rs n ≡ ends-as (both allow d ds rs n (b .options) (member-tests b) (among (members-in b (t .bundle)))) rs (ds ++ (d ∷ []))
 unfolding checked ends-as interior-tests
 checked-both b allow t d ds rs n =
-    sym (ends-then (walk 12 (over-routes (inside-route (b .nodes) (b .edges)) (among (members-in b (t .bundle))) rs 0) n) (λ k. walk 11 (contact-tests (b .options) allow d (among (members-in b (t .bundle))) ds rs) k) rs (ds ++ (d ∷ [])))
+    sym (ends-then (walk 12 (over-routes (member-tests b) (among (members-in b (t .bundle))) rs 0) n) (λ k. walk 11 (contact-tests (b .options) allow d (among (members-in b (t .bundle))) ds rs) k) rs (ds ++ (d ∷ [])))
 
 -- ---- one turn
 
-module _ (b : Board) (allow : Bool) (o : Options) (ns : Nodes) (es : Edges) (u : Bundle) (end : Point) (x : Bound) (offset : Float) (edges lanes : List ℕ) (d : DrawnBundle) (t : List Float) (rs : List Route)
-    (faced : Faced b o ns es u end (members-from edges lanes (u .first) (u .count))) (row : Row u d) (built : drawn-of edges t d ≡ build b u (planned-x x) rs) where
+module _ (b : Board) (allow : Bool) (o : Options) (boxes : List Float) (ends : List ℕ) (u : Bundle) (end : Point) (x : Bound) (offset : Float) (edges lanes : List ℕ) (d : DrawnBundle) (t : List Float) (rs : List Route)
+    (faced : Faced b o boxes ends u end (members-from edges lanes (u .first) (u .count))) (row : Row u d) (built : drawn-of edges t d ≡ build b u (planned-x x) rs) where
   abbrev those : List Member
   those = members-from edges lanes (u .first) (u .count)
 
@@ -116,8 +113,8 @@ module _ (b : Board) (allow : Bool) (o : Options) (ns : Nodes) (es : Edges) (u :
     abbrev now-drawn : List Drawn
     now-drawn = map (drawn-of edges t) priors
 
-    abbrev verdict-of : Options → List PlacedNode → List Edge → (ℕ → Bool) → Outcome
-    verdict-of q ns es chosen = ends-as (both allow (drawn-of edges t d) now-drawn (routes-of p c) n q ns es chosen) (routes-of p c) (now-drawn ++ (drawn-of edges t d ∷ []))
+    abbrev verdict-of : Options → (ℕ → Route → List Test) → (ℕ → Bool) → Outcome
+    verdict-of q f chosen = ends-as (both allow (drawn-of edges t d) now-drawn (routes-of p c) n q f chosen) (routes-of p c) (now-drawn ++ (drawn-of edges t d ∷ []))
 
     abbrev of-row : List Member
     of-row = members-from edges [] (d .first) (d .count)
@@ -128,17 +125,16 @@ module _ (b : Board) (allow : Bool) (o : Options) (ns : Nodes) (es : Edges) (u :
         ∙ sym (among-any edges lanes (u .first) (u .count))
         ∙ sym (ap (λ (q : ℕ). among (members-from edges [] q (d .count))) (row .first) ∙ ap (λ (q : ℕ). among (members-from edges [] (u .first) q)) (row .count))
 
-    checked-as : checked b allow (turn-of u x offset) (build b u (planned-x x) rs) (map (drawn-of edges s) priors) (routes-of p c) n ≡ verdict-of o (take (ns .count) (ns .rows)) (take (es .count) (es .rows)) (among of-row)
+    checked-as : checked b allow (turn-of u x offset) (build b u (planned-x x) rs) (map (drawn-of edges s) priors) (routes-of p c) n ≡ verdict-of o (inside-route boxes ends) (among of-row)
     checked-as =
         ap (λ (q : Drawn). checked b allow (turn-of u x offset) q (map (drawn-of edges s) priors) (routes-of p c) n) (sym built)
         ∙ ap (λ (q : List Drawn). checked b allow (turn-of u x offset) (drawn-of edges t d) q (routes-of p c) n) (sym (drawn-same edges s t (u .first) (u .count) priors kept earlier))
         ∙ checked-both b allow (turn-of u x offset) (drawn-of edges t d) now-drawn (routes-of p c) n
-        ∙ ap (λ (q : Options). verdict-of q (b .nodes) (b .edges) (among (members-in b u))) (faced .seen .options)
-        ∙ ap (λ (q : List PlacedNode). verdict-of o q (b .edges) (among (members-in b u))) (faced .nodes)
-        ∙ ap (λ (q : List Edge). verdict-of o (take (ns .count) (ns .rows)) q (among (members-in b u))) (faced .edges)
-        ∙ ap (λ (q : ℕ → Bool). verdict-of o (take (ns .count) (ns .rows)) (take (es .count) (es .rows)) q) chosen-same
+        ∙ ap (λ (q : Options). verdict-of q (member-tests b) (among (members-in b u))) (faced .seen .options)
+        ∙ ap (λ (q : ℕ → Route → List Test). verdict-of o q (among (members-in b u))) (sliced-tests b boxes ends (faced .sliced))
+        ∙ ap (λ (q : ℕ → Bool). verdict-of o (inside-route boxes ends) q) chosen-same
 
-    pub turn-on : (v : Verdict) (done : Bool) → done ≡ true → routes-in done p c ≡ remade → v ≡ both allow (drawn-of edges t d) now-drawn (routes-of p c) n o (take (ns .count) (ns .rows)) (take (es .count) (es .rows)) (among of-row) → ends-as v (routes-of p c) (now-drawn ++ (drawn-of edges t d ∷ [])) ≡ turn b allow (turn-of u x offset) (standing rs (map (drawn-of edges s) priors) n)
+    pub turn-on : (v : Verdict) (done : Bool) → done ≡ true → routes-in done p c ≡ remade → v ≡ both allow (drawn-of edges t d) now-drawn (routes-of p c) n o (inside-route boxes ends) (among of-row) → ends-as v (routes-of p c) (now-drawn ++ (drawn-of edges t d ∷ [])) ≡ turn b allow (turn-of u x offset) (standing rs (map (drawn-of edges s) priors) n)
     unfolding turn after-rewrite routes-in
     turn-on v done f e w =
         ap (λ (q : Verdict). ends-as q (routes-of p c) (now-drawn ++ (drawn-of edges t d ∷ []))) w

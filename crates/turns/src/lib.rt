@@ -4,20 +4,20 @@
 // Ported from cachanova/schemweave, commit c4a1a2c60a, crates/schemweave/src/boundary_bundles.rs
 // (Apache-2.0, see NOTICE). The present routes are in slots (crate route). Member k of the table of
 // members has its edge at place k of edges, its tap lane at place k of lanes and its tap as x and y
-// at point k of taps.
+// at point k of taps. The turns read nodes, edges and ports from slices of numbers, filled before the
+// first: boxes and ends (crate checks), and spots, whose point i is where the port of bundle i stands.
 ghost use mathlib.Core.Path.{_≡_};
 ghost use mathlib.Core.List.{[], _∷_, _++_, map};
 ghost use Prim.Native.Nat.{_+_, _*_, _-_, _<_, _≤_};
 ghost use lib.ListN.{length, getD, take};
 ghost use Rattle.route.specs.Slots.{routes-of, Held};
 ghost use Rattle.board.specs.Board.{Board};
-ghost use Rattle.plan.specs.Depths.{no-port, endpoint-of};
 ghost use Rattle.plan.specs.Tables.{board-of, given-routes, Sound, RoutesIn};
 ghost use Rattle.plan.specs.Prepared.{no-planned, x-of};
 ghost use Rattle.drawing.specs.Sheet.{turn, turns-from, sheet-of, blank};
 ghost use Rattle.checks.specs.Rows.{drawn-of};
 ghost use Rattle.building.specs.Rows.{members-from, Row};
-ghost use Rattle.turns.specs.Rows.{turn-of, standing, ends-as, drawn-in, Faced, Ready, Longer, Shows, Named, Lists, Room, Short, Rows, Full, members-all, GivenIn, Listed, Follow, Once};
+ghost use Rattle.turns.specs.Rows.{turn-of, standing, ends-as, drawn-in, spot-of, Faced, Ready, Longer, Shows, Named, Lists, Room, Short, Rows, Full, members-all, GivenIn, Listed, Boxed, Ended, Spotted, Follow, Once};
 use board::Bundle;
 use board::Bundles;
 use board::DrawnBundle;
@@ -26,6 +26,7 @@ use board::Edges;
 use board::Members;
 use board::Nodes;
 use board::Options;
+use board::Port;
 use board::Ports;
 use drawing::GeometryVisits;
 use drawing::Verdict;
@@ -54,8 +55,8 @@ pub struct Drawing {
 fn draw_bundle(
     o: Options,
     allow: bool,
-    nodes: Nodes,
-    table: Edges,
+    boxes: &[f64],
+    ends: &[usize],
     end: Point,
     u: Bundle,
     planned: Bound,
@@ -70,8 +71,8 @@ fn draw_bundle(
     scratch: &mut [f64],
     visits: GeometryVisits,
 ) -> Turned
-    requires { ⌜ (nodes .count ≤ 128) × (table .count ≤ 256) × (length (now counts) ≤ table .count) × Ready u priors (now edges) (now lanes) (now taps) (now points) (now counts) (now mask) × (136 ≤ length (now scratch)) ⌝ }
-    ensures told { λ r. ⌜ ((b : Board) → Faced b o nodes table u end (members-from (now (edges .entry)) (now (lanes .entry)) (u .first) (u .count)) → ends-as (r .verdict) (routes-of (now (points .exit)) (now (counts .exit))) (drawn-in (now (edges .entry)) (now (taps .exit)) priors ++ (drawn-of (now (edges .entry)) (now (taps .exit)) (r .row) ∷ [])) ≡ turn b allow (turn-of u planned offset) (standing (routes-of (now (points .entry)) (now (counts .entry))) (drawn-in (now (edges .entry)) (now (taps .entry)) priors) (visits .0))) ⌝ }
+    requires { ⌜ (2 * length (now counts) ≤ length (now ends)) × Ready u priors (now edges) (now lanes) (now taps) (now points) (now counts) (now mask) × (136 ≤ length (now scratch)) ⌝ }
+    ensures told { λ r. ⌜ ((b : Board) → Faced b o (now (boxes .entry)) (now (ends .entry)) u end (members-from (now (edges .entry)) (now (lanes .entry)) (u .first) (u .count)) → ends-as (r .verdict) (routes-of (now (points .exit)) (now (counts .exit))) (drawn-in (now (edges .entry)) (now (taps .exit)) priors ++ (drawn-of (now (edges .entry)) (now (taps .exit)) (r .row) ∷ [])) ≡ turn b allow (turn-of u planned offset) (standing (routes-of (now (points .entry)) (now (counts .entry))) (drawn-in (now (edges .entry)) (now (taps .entry)) priors) (visits .0))) ⌝ }
     ensures row { λ r. ⌜ Row u (r .row) ⌝ }
     ensures hold { λ r. ⌜ Held (now (counts .exit)) ⌝ }
     ensures longer { λ r. ⌜ Longer (r .verdict) (now (counts .entry)) (now (counts .exit)) (members-from (now (edges .entry)) (now (lanes .entry)) (u .first) (u .count)) ⌝ }
@@ -111,8 +112,8 @@ fn draw_bundle(
     let v = building::verify_bundle(
         o,
         allow,
-        nodes,
-        table,
+        boxes,
+        ends,
         d,
         priors,
         edges,
@@ -125,11 +126,63 @@ fn draw_bundle(
     Turned { verdict: v, row: d }
 }
 
-// ---- the given routes, and the members' edges and lanes
+// ---- what is filled before the first turn
 
-// The given routes, each in its slot.
-fn store_routes(table: Edges, given: &[f64], points: &mut [f64], counts: &mut [usize])
-    requires { ⌜ GivenIn (now given) table × (length (now counts) ≡ table .count) × (136 * length (now counts) ≤ length (now points)) ⌝ }
+// The four numbers of each node: corner x, corner y, width, height.
+fn node_boxes(nodes: Nodes, boxes: &mut [f64])
+    requires { ⌜ (nodes .count ≤ 128) × (4 * nodes .count ≤ length (now boxes)) ⌝ }
+    ensures { λ _. ⌜ Boxed (now (boxes .exit)) (nodes .rows) (nodes .count) ⌝ }
+{
+    let n = nodes.count;
+    let mut i: usize = 0;
+    while i < n {
+        let row = nodes.rows[i];
+        let body = row.body;
+        let size = Point {
+            x: body.width,
+            y: body.height,
+        };
+        geometry::put_point(&mut boxes[..], 2 * i, body.corner);
+        geometry::put_point(&mut boxes[..], 2 * i + 1, size);
+        i += 1;
+    }
+}
+
+// Where a port stands.
+fn spot(boxes: &[f64], p: Port) -> Point
+    requires { ⌜ 4 * p .node + 3 < length (now boxes) ⌝ }
+    ensures { λ r. ⌜ r ≡ spot-of (now (boxes .entry)) p ⌝ }
+{
+    let side = p.side;
+    geometry::port_point(checks::box_at(boxes, p.node), side, p.offset)
+}
+
+// Where each bundle's port stands.
+fn port_spots(boxes: &[f64], ports: Ports, bundles: Bundles, spots: &mut [f64])
+    requires { ⌜ Named (now boxes) ports bundles × (2 * bundles .count ≤ length (now spots)) ⌝ }
+    ensures { λ _. ⌜ Spotted (now (spots .exit)) (now (boxes .entry)) ports bundles (bundles .count) ⌝ }
+{
+    let n = bundles.count;
+    let mut i: usize = 0;
+    while i < n {
+        let u = bundles.rows[i];
+        let at = u.port;
+        let end = spot(boxes, ports.rows[at]);
+        geometry::put_point(&mut spots[..], i, end);
+        i += 1;
+    }
+}
+
+// The ends of each edge, and its given route in its slot.
+fn store_edges(
+    table: Edges,
+    given: &[f64],
+    ends: &mut [usize],
+    points: &mut [f64],
+    counts: &mut [usize],
+)
+    requires { ⌜ GivenIn (now given) table × (2 * table .count ≤ length (now ends)) × (length (now counts) ≡ table .count) × (136 * length (now counts) ≤ length (now points)) ⌝ }
+    ensures ends { λ _. ⌜ Ended (now (ends .exit)) (table .rows) (table .count) ⌝ }
     ensures routes { λ _. ⌜ routes-of (now (points .exit)) (now (counts .exit)) ≡ given-routes (now (given .entry)) table ⌝ }
     ensures short { λ _. ⌜ Short (now (counts .exit)) ⌝ }
 {
@@ -138,6 +191,8 @@ fn store_routes(table: Edges, given: &[f64], points: &mut [f64], counts: &mut [u
     while i < n {
         let e = table.rows[i];
         route::store_route(given, e.first, e.count, &mut points[..], &mut counts[..], i);
+        ends[2 * i] = e.source;
+        ends[2 * i + 1] = e.target;
         i += 1;
     }
 }
@@ -193,18 +248,6 @@ fn none_drawn() -> DrawnBundles
     }
 }
 
-// Where a bundle's port stands.
-fn endpoint(nodes: Nodes, ports: Ports, u: Bundle) -> Point
-    requires { ⌜ (nodes .count ≤ 128) × (ports .count ≤ 256) × (u .port < ports .count) × (getD (ports .rows) (u .port) no-port .node < nodes .count) ⌝ }
-    ensures { λ r. ⌜ ((b : Board) → b .nodes ≡ take (nodes .count) (nodes .rows) → b .ports ≡ take (ports .count) (ports .rows) → endpoint-of b u ≡ r) ⌝ }
-{
-    let at = u.port;
-    let p = ports.rows[at];
-    let on = p.node;
-    let node = nodes.rows[on];
-    board::endpoint_of(node, p)
-}
-
 // What the plan says of bundle i.
 fn planned_of(plan: [Planned; 32], i: usize) -> Bound
     requires { ⌜ i < 32 ⌝ }
@@ -218,9 +261,9 @@ fn planned_of(plan: [Planned; 32], i: usize) -> Bound
 fn draw_bundles(
     o: Options,
     allow: bool,
-    nodes: Nodes,
-    ports: Ports,
-    table: Edges,
+    boxes: &[f64],
+    ends: &[usize],
+    spots: &[f64],
     bundles: Bundles,
     plan: [Planned; 32],
     offsets: Offsets,
@@ -233,10 +276,10 @@ fn draw_bundles(
     scratch: &mut [f64],
     granted: GeometryVisits,
 ) -> Drawing
-    requires tables { ⌜ Named nodes ports bundles × (table .count ≤ 256) × (length (now counts) ≤ table .count) ⌝ }
+    requires tables { ⌜ (bundles .count ≤ 32) × (2 * bundles .count ≤ length (now spots)) × (2 * length (now counts) ≤ length (now ends)) ⌝ }
     requires lists { ⌜ Lists (take (bundles .count) (bundles .rows)) (now edges) (now lanes) (length (now counts)) ⌝ }
     requires room { ⌜ Room (length (now edges)) (now taps) (now points) (now counts) (now mask) (now scratch) × Short (now counts) ⌝ }
-    ensures told { λ r. ⌜ ((b : Board) → Shows b o nodes ports table (members-all (now (edges .entry)) (now (lanes .entry))) → ends-as (r .verdict) (routes-of (now (points .exit)) (now (counts .exit))) (drawn-in (now (edges .entry)) (now (taps .exit)) (r .drawn)) ≡ sheet-of b allow (turns-from (take (bundles .count) (bundles .rows)) (map x-of (take (bundles .count) plan)) (take (bundles .count) (offsets .rows))) (blank (routes-of (now (points .entry)) (now (counts .entry))) (granted .0))) ⌝ }
+    ensures told { λ r. ⌜ ((b : Board) → Shows b o (now (boxes .entry)) (now (ends .entry)) (now (spots .entry)) bundles (members-all (now (edges .entry)) (now (lanes .entry))) → ends-as (r .verdict) (routes-of (now (points .exit)) (now (counts .exit))) (drawn-in (now (edges .entry)) (now (taps .exit)) (r .drawn)) ≡ sheet-of b allow (turns-from (take (bundles .count) (bundles .rows)) (map x-of (take (bundles .count) plan)) (take (bundles .count) (offsets .rows))) (blank (routes-of (now (points .entry)) (now (counts .entry))) (granted .0))) ⌝ }
     ensures rows { λ r. ⌜ Rows (take (r .drawn .count) (bundles .rows)) (take (r .drawn .count) (r .drawn .rows)) ⌝ }
     ensures full { λ r. ⌜ Full (r .verdict) (r .drawn .count) (bundles .count) ⌝ }
     ensures hold { λ r. ⌜ Held (now (counts .exit)) ⌝ }
@@ -247,15 +290,15 @@ fn draw_bundles(
     let mut i: usize = 0;
     while i < n {
         let u = bundles.rows[i];
-        let end = endpoint(nodes, ports, u);
+        let end = geometry::point_at(spots, i);
         let x = planned_of(plan, i);
         let offset = offsets.rows[i];
         i += 1;
         let t = draw_bundle(
             o,
             allow,
-            nodes,
-            table,
+            boxes,
+            ends,
             end,
             u,
             x,
@@ -324,14 +367,27 @@ pub fn draw_sheet(
     ensures full { λ r. ⌜ Full (r .verdict) (r .drawn .count) (bundles .count) ⌝ }
     ensures hold { λ r. ⌜ Held (now (counts .exit)) ⌝ }
 {
+    let mut boxes = [0.0; 512];
+    let mut ends = [0; 512];
+    let mut spots = [0.0; 64];
+    let n = 4 * nodes.count;
+    let m = 2 * table.count;
     member_rows(members, &mut edges[..], &mut lanes[..]);
-    store_routes(table, given, &mut points[..], &mut counts[..]);
+    store_edges(
+        table,
+        given,
+        &mut ends[..],
+        &mut points[..],
+        &mut counts[..],
+    );
+    node_boxes(nodes, &mut boxes[..]);
+    port_spots(&boxes[..], ports, bundles, &mut spots[..]);
     draw_bundles(
         o,
         allow,
-        nodes,
-        ports,
-        table,
+        &boxes[..n],
+        &ends[..m],
+        &spots[..],
         bundles,
         plan,
         offsets,

@@ -23,14 +23,14 @@ mark-members-requires c κs = search needs
 
 interiors-paid-requires : tie.Need-interiors-paid-requires
 interiors-paid-requires c κs =
-    let t = c .before .before .before .before .before .before .before .before .before .before in
+    let t = c .before .before .before .before .before .before .before .before .before .before .before .before in
     let a = t .args in
     let f = c .before .before .before .mark-members in
     let k = f .kept .1 .1 .1 .0 in
-    let s = t .pre .6 in
+    let s = t .pre .4 in
     let w = s .slots in
     let x = s .masked in
-    (t .pre .0, t .pre .1, t .pre .2, record { slots = w; masked = omega (arith, k, x); hold = s .hold })
+    (t .pre .0, record { slots = w; masked = omega (arith, k, x); hold = s .hold })
 
 enum-known-v : tie.Need-enum-known-v
 enum-known-v c = search needs
@@ -40,45 +40,45 @@ enum-known-v-2 c = search needs
 
 contacts-paid-requires : tie.Need-contacts-paid-requires
 contacts-paid-requires c κs =
-    let t = c .before .before .before .before .before .before .before .before .before .before .before .before .before .before .before in
+    let t = c .before .before .before .before .before .before .before .before .before .before .before .before .before .before .before .before .before in
     let a = t .args in
     let f = c .before .before .before .before .before .before .before .before .mark-members in
     let k = f .kept .1 .1 .1 .0 in
-    let s = t .pre .6 in
+    let s = t .pre .4 in
     let w = s .slots in
     let x = s .masked in
-    (t .pre .3, t .pre .4, t .pre .5, record { slots = w; masked = omega (arith, k, x); hold = s .hold })
+    (t .pre .1, t .pre .2, t .pre .3, record { slots = w; masked = omega (arith, k, x); hold = s .hold })
 
 same-length : tie.Need-same-length
 same-length c = search needs
 
 returns : tie.Need-returns
 returns c =
-    let t = c .before .before .before .before .before .before .before .before .before .before .before .before .before .before in
+    let t = c .before .before .before .before .before .before .before .before .before .before .before .before .before .before .before .before in
     let a = t .args in
     let f = c .before .before .before .before .before .before .before .mark-members in
     let k = f .kept .1 .1 .1 .0 in
-    let s = t .pre .6 in
+    let s = t .pre .4 in
     let w = s .slots in
     let x = s .masked in
     let y = routes-length (now (a .points)) 0 (now (a .counts)) in
-    both-off _ _ (contact-tests (a .o) (a .allow) (drawn-of (now (a .edges)) (now (a .taps)) (a .new)) (among (members-from (now (a .edges)) [] (a .new .first) (a .new .count))) (map (drawn-of (now (a .edges)) (now (a .taps))) (take (a .priors .count) (a .priors .rows))) (routes-of (now (a .points)) (now (a .counts)))) (a .visits .0) _ _ (sym (c .before .before .before .interiors-paid .ensures) ∙ c .before .v .given .1) (inside-masked (members-from (now (a .edges)) [] (a .new .first) (a .new .count)) (f .last .1 .1 .1 .0) (routes-of (now (a .points)) (now (a .counts))) (f .ensures) (omega (arith, k, x, y)) (take (a .nodes .count) (a .nodes .rows)) (take (a .table .count) (a .table .rows)))
+    both-off _ _ (contact-tests (a .o) (a .allow) (drawn-of (now (a .edges)) (now (a .taps)) (a .new)) (among (members-from (now (a .edges)) [] (a .new .first) (a .new .count))) (map (drawn-of (now (a .edges)) (now (a .taps))) (take (a .priors .count) (a .priors .rows))) (routes-of (now (a .points)) (now (a .counts)))) (a .visits .0) _ _ (sym (c .before .before .before .interiors-paid .ensures) ∙ c .before .v .given .1) (inside-masked (members-from (now (a .edges)) [] (a .new .first) (a .new .count)) (f .last .1 .1 .1 .0) (routes-of (now (a .points)) (now (a .counts))) (f .ensures) (omega (arith, k, x, y)) (now (a .boxes)) (now (a .ends)))
 
 same-length-2 : tie.Need-same-length-2
 same-length-2 c = search needs
 
 returns-2 : tie.Need-returns-2
 returns-2 c =
-    let t = c .before .before .before .before .before .before .before .before .before .before .before .before .before .before .before .before in
+    let t = c .before .before .before .before .before .before .before .before .before .before .before .before .before .before .before .before .before .before in
     let a = t .args in
     let f = c .before .before .before .before .before .before .before .before .before .mark-members in
     let k = f .kept .1 .1 .1 .0 in
-    let s = t .pre .6 in
+    let s = t .pre .4 in
     let w = s .slots in
     let x = s .masked in
     let y = routes-length (now (a .points)) 0 (now (a .counts)) in
     c .contacts-paid .ensures
-    ∙ both-on _ _ _ _ (a .visits .0) _ (sym (c .before .before .before .before .before .interiors-paid .ensures) ∙ c .before .before .before .v2 .given .1) (inside-masked (members-from (now (a .edges)) [] (a .new .first) (a .new .count)) (f .last .1 .1 .1 .0) (routes-of (now (a .points)) (now (a .counts))) (f .ensures) (omega (arith, k, x, y)) (take (a .nodes .count) (a .nodes .rows)) (take (a .table .count) (a .table .rows))) (contact-masked (members-from (now (a .edges)) [] (a .new .first) (a .new .count)) (f .last .1 .1 .1 .0) (routes-of (now (a .points)) (now (a .counts))) (f .ensures) (omega (arith, k, x, y)) (a .o) (a .allow) (drawn-of (now (a .edges)) (now (a .taps)) (a .new)) (map (drawn-of (now (a .edges)) (now (a .taps))) (take (a .priors .count) (a .priors .rows))))
+    ∙ both-on _ _ _ _ (a .visits .0) _ (sym (c .before .before .before .before .before .interiors-paid .ensures) ∙ c .before .before .before .v2 .given .1) (inside-masked (members-from (now (a .edges)) [] (a .new .first) (a .new .count)) (f .last .1 .1 .1 .0) (routes-of (now (a .points)) (now (a .counts))) (f .ensures) (omega (arith, k, x, y)) (now (a .boxes)) (now (a .ends))) (contact-masked (members-from (now (a .edges)) [] (a .new .first) (a .new .count)) (f .last .1 .1 .1 .0) (routes-of (now (a .points)) (now (a .counts))) (f .ensures) (omega (arith, k, x, y)) (a .o) (a .allow) (drawn-of (now (a .edges)) (now (a .taps)) (a .new)) (map (drawn-of (now (a .edges)) (now (a .taps))) (take (a .priors .count) (a .priors .rows))))
 
 pub verify-bundle-spec : {M : Type 1} → statement M
 verify-bundle-spec =

@@ -25,21 +25,21 @@ use Rattle.turns.proofs.draw_bundles.Reads as reads
 use Rattle.turns.proofs.draw_bundles.Lts as lts
 use Rattle.turns.proofs.draw_bundle.Reads as draw-bundle-reads
 use Rattle.turns.proofs.drawn_with.Reads as drawn-with-reads
-use Rattle.turns.proofs.endpoint.Reads as endpoint-reads
+use Rattle.geometry.proofs.point_at.Reads as point-at-reads
 use Rattle.turns.proofs.none_drawn.Reads as none-drawn-reads
 use Rattle.turns.proofs.planned_of.Reads as planned-of-reads
 
 abbrev Inv-loop : tie.InvT-loop
-Inv-loop o allow nodes ports table plan edges lanes taps₀ points₀ counts₀ mask₀ scratch₀ bundles offsets drawn₀ left₀ n i₀ taps points counts mask scratch drawn left i =
+Inv-loop o allow boxes ends spots plan edges lanes taps₀ points₀ counts₀ mask₀ scratch₀ bundles offsets drawn₀ left₀ n i₀ taps points counts mask scratch drawn left i =
     (i ≤ n) × (drawn .count ≡ i) × (length taps ≡ length taps₀) × (length points ≡ length points₀) × (length counts ≡ length counts₀) × (length mask ≡ length mask₀) × (length scratch ≡ length scratch₀)
     × Rest (drop i (take n (bundles .rows))) (take (drawn .count) (drawn .rows)) edges lanes counts
     × Rows (take (drawn .count) (bundles .rows)) (take (drawn .count) (drawn .rows))
-    × ((b : Board) → Shows b o nodes ports table (members-all edges lanes)
+    × ((b : Board) → Shows b o boxes ends spots bundles (members-all edges lanes)
     → sheet-of b allow (turns-at (bundles .rows) plan (offsets .rows) n i) (standing (routes-of points counts) (map (drawn-of edges taps) (take (drawn .count) (drawn .rows))) (left .0))
     ≡ sheet-of b allow (turns-at (bundles .rows) plan (offsets .rows) n 0) (standing (routes-of points₀ counts₀) [] (left₀ .0)))
 
 abbrev μ-loop : tie.MeasureT-loop
-μ-loop o allow nodes ports table plan edges lanes taps₀ points₀ counts₀ mask₀ scratch₀ bundles offsets drawn₀ left₀ n i₀ taps points counts mask scratch drawn left i = n - i
+μ-loop o allow boxes ends spots plan edges lanes taps₀ points₀ counts₀ mask₀ scratch₀ bundles offsets drawn₀ left₀ n i₀ taps points counts mask scratch drawn left i = n - i
 
 bundles-length : (s : tie.Start Inv-loop μ-loop) → length (s .args .t6 .rows) ≡ 32
 bundles-length s = search (needs, length-mapped)
@@ -59,7 +59,7 @@ module _ (s : tie.Start Inv-loop μ-loop) (i : ℕ) (h : i < s .args .t6 .count)
   later = drop (i + 1) (take (s .args .t6 .count) (s .args .t6 .rows))
 
   room : s .args .t6 .count ≤ length (s .args .t6 .rows)
-  room = let k = bundles-length s in omega (arith, s .pre .0 .0 .bundles-few)
+  room = let k = bundles-length s in omega (arith, s .pre .0 .0)
 
   split : (ds : List DrawnBundle) (edges lanes counts : List ℕ) → Rest (drop i (take (s .args .t6 .count) (s .args .t6 .rows))) ds edges lanes counts → Rest (this ∷ later) ds edges lanes counts
   split ds edges lanes counts r = subst (λ (us : List Bundle). Rest us ds edges lanes counts) (part-cons (s .args .t6 .rows) (s .args .t6 .count) i no-bundle h room) r
@@ -72,7 +72,7 @@ module _ (s : tie.Start Inv-loop μ-loop) (i : ℕ) (h : i < s .args .t6 .count)
 
   turns-are : turns-at (s .args .t6 .rows) (s .args .plan) (s .args .t8 .rows) (s .args .t6 .count) i ≡ turn-here ∷ turns-later
   turns-are =
-      let k = s .pre .0 .0 .bundles-few in
+      let k = s .pre .0 .0 in
       let p = plan-length s in
       let q = offsets-length s in
       turns-next (s .args .t6 .rows) (s .args .plan) (s .args .t8 .rows) (s .args .t6 .count) i no-bundle no-planned nan h room (omega arith) (omega arith)
@@ -82,7 +82,7 @@ none-drawn-requires c κs = search needs
 
 loop-holds : tie.Need-loop-holds Inv-loop μ-loop
 loop-holds c =
-    let t = c .before .before .before .before .before .before .before .before in
+    let t = c .before .before .before .before .before .before .before .before .before .before .before in
     let a = t .args in
     let z = c .none-drawn .ensures in
     let e : take (c .none-drawn .result .count) (c .none-drawn .result .rows) ≡ [] = ap (λ (n : ℕ). take n (c .none-drawn .result .rows)) z in (
@@ -99,42 +99,40 @@ loop-holds c =
     )
 
 mul-u : tie.Need-mul-u Inv-loop μ-loop
-mul-u c = let k = c .before .before .before .before .before .before .before .before .before .before .pre .0 .0 .bundles-few in search needs
+mul-u c = let k = c .before .before .before .before .before .before .before .before .before .before .before .before .before .pre .0 .0 in search needs
 
 element-copy-out-u : tie.Need-element-copy-out-u Inv-loop μ-loop
-element-copy-out-u c = let k = c .before .before .before .before .before .before .before .before .before .before .pre .0 .0 .bundles-few in search needs
+element-copy-out-u c = let k = c .before .before .before .before .before .before .before .before .before .before .before .before .before .pre .0 .0 in search needs
 
-endpoint-requires : tie.Need-endpoint-requires Inv-loop μ-loop
-endpoint-requires c κs =
-    let s = c .before .before .before .before .before .before .before .before .before .before .before in
-    let n = s .pre .0 .0 in
-    let l = c .before .before .loop in
-    let p = n .bundles-on (l .i) (c .before .loop-test .taken) in
-    (n .nodes-few, n .ports-few, p, n .ports-on (getD (s .args .t6 .rows) (l .i) no-bundle .port) p)
+point-at-requires : tie.Need-point-at-requires Inv-loop μ-loop
+point-at-requires c κs =
+    let room = c .before .before .before .before .before .before .before .before .before .before .before .before .before .before .pre .0 .1 in
+    let h = c .before .loop-test .taken in
+    omega (arith, room, h)
 
 planned-of-requires : tie.Need-planned-of-requires Inv-loop μ-loop
 planned-of-requires c κs =
-    let few = c .before .before .before .before .before .before .before .before .before .before .before .before .pre .0 .0 .bundles-few in
+    let few = c .before .before .before .before .before .before .before .before .before .before .before .before .before .before .before .pre .0 .0 in
     let h = c .before .before .loop-test .taken in
     omega (arith, few, h)
 
 mul-offset : tie.Need-mul-offset Inv-loop μ-loop
-mul-offset c = let k = c .before .before .before .before .before .before .before .before .before .before .before .before .before .pre .0 .0 .bundles-few in search needs
+mul-offset c = let k = c .before .before .before .before .before .before .before .before .before .before .before .before .before .before .before .before .pre .0 .0 in search needs
 
 element-copy-out-offset : tie.Need-element-copy-out-offset Inv-loop μ-loop
-element-copy-out-offset c = let k = c .before .before .before .before .before .before .before .before .before .before .before .before .before .pre .0 .0 .bundles-few in search needs
+element-copy-out-offset c = let k = c .before .before .before .before .before .before .before .before .before .before .before .before .before .before .before .before .pre .0 .0 in search needs
 
 add-i : tie.Need-add-i Inv-loop μ-loop
 add-i c = search needs
 
 draw-bundle-requires : tie.Need-draw-bundle-requires Inv-loop μ-loop
 draw-bundle-requires c κs =
-    let t = c .before .before .before .before .before .before .before .before .before .before .before .before .before .before .before .before .before .before .before in
+    let t = c .before .before .before .before .before .before .before .before .before .before .before .before .before .before .before .before .before .before .before .before .before .before in
     let a = t .args in
     let l = c .before .before .before .before .before .before .before .before .before .before .loop in
     let h = c .before .before .before .before .before .before .before .before .before .loop-test .taken in
     let n = t .pre .0 in
-    let few = n .0 .bundles-few in
+    let few = n .0 in
     let most = n .2 in
     let m = t .pre .1 .1 .0 in
     let places = m .places in
@@ -147,8 +145,6 @@ draw-bundle-requires c κs =
     let lc = l .inv .4 in
     let lm = l .inv .5 in
     let ls = l .inv .6 in (
-      n .0 .nodes-few,
-      n .1,
       omega (arith, most, lc),
       rest-ready (this t (l .i) h) (later t (l .i) h) (take (l .drawn .count) (l .drawn .rows)) (now (a .edges)) (now (a .lanes)) (l .counts) (split t (l .i) h (take (l .drawn .count) (l .drawn .rows)) (now (a .edges)) (now (a .lanes)) (l .counts) (l .inv .7)) (l .drawn) _ _ _ (take (a .t6 .count) (a .t6 .rows)) _ refl (omega (arith, count, few, h)) lc (t .pre .1 .0) (omega (arith, lt, places)) (omega (arith, lp, lc, slots)) (omega (arith, lc, lm, masked)),
       omega (arith, ls, spare),
@@ -189,18 +185,18 @@ same-length-5 c =
 
 returns : tie.Need-returns Inv-loop μ-loop
 returns c =
-    let t = c .before .before .before .before .before .before .before .before .before .before .before .before .before .before .before .before .before .before .before .before .before .before .before .before .before .before .before .before .before .before .before .before .before in
+    let t = c .before .before .before .before .before .before .before .before .before .before .before .before .before .before .before .before .before .before .before .before .before .before .before .before .before .before .before .before .before .before .before .before .before .before .before .before in
     let a = t .args in
     let l = c .before .before .before .before .before .before .before .before .before .before .before .before .before .before .before .before .before .before .before .before .before .before .before .before .loop in
     let h = c .before .before .before .before .before .before .before .before .before .before .before .before .before .before .before .before .before .before .before .before .before .before .before .loop-test .taken in
     let f = c .before .before .before .before .before .before .before .before .before .before .before .before .before .draw-bundle in
-    let end = c .before .before .before .before .before .before .before .before .before .before .before .before .before .before .before .before .before .before .before .before .before .endpoint in
+    let end = c .before .before .before .before .before .before .before .before .before .before .before .before .before .before .before .before .before .before .before .before .before .point-at in
     let p = c .before .before .before .before .before .before .before .before .before .before .before .before .before .before .before .before .before .before .before .before .planned-of in
     let r = split t (l .i) h (take (l .drawn .count) (l .drawn .rows)) (now (a .edges)) (now (a .lanes)) (l .counts) (l .inv .7) in
     let count = l .inv .1 in (
       (λ b s.
           sheet-off b (a .allow) (turn-here t (l .i) h) (turns-later t (l .i) h) (standing (routes-of (l .points) (l .counts)) (map (drawn-of (now (a .edges)) (l .taps)) (take (l .drawn .count) (l .drawn .rows))) (l .left .0)) (f .result .verdict) _ _
-          (f .ensures .0 b (faces (this t (l .i) h) (later t (l .i) h) (take (l .drawn .count) (l .drawn .rows)) (now (a .edges)) (now (a .lanes)) (l .counts) r b (a .o) (a .nodes) (a .ports) (a .table) (end .result) s (end .ensures b (s .nodes) (s .ports))) ∙ ap (λ (x : Bound). turn b (a .allow) (turn-of (this t (l .i) h) x (getD (a .t8 .rows) (l .i) nan)) (standing (routes-of (l .points) (l .counts)) (map (drawn-of (now (a .edges)) (l .taps)) (take (l .drawn .count) (l .drawn .rows))) (l .left .0))) (p .ensures)) _ _ _ _ (c .before .v .given .1)
+          (f .ensures .0 b (faces (this t (l .i) h) (later t (l .i) h) (take (l .drawn .count) (l .drawn .rows)) (now (a .edges)) (now (a .lanes)) (l .counts) r b (a .o) (now (a .boxes)) (now (a .ends)) (now (a .spots)) (a .t6) (end .result) s (s .stand (l .i) h ∙ sym (end .ensures))) ∙ ap (λ (x : Bound). turn b (a .allow) (turn-of (this t (l .i) h) x (getD (a .t8 .rows) (l .i) nan)) (standing (routes-of (l .points) (l .counts)) (map (drawn-of (now (a .edges)) (l .taps)) (take (l .drawn .count) (l .drawn .rows))) (l .left .0))) (p .ensures)) _ _ _ _ (c .before .v .given .1)
           ∙ ap (λ (ts : List Turn). sheet-of b (a .allow) ts (standing (routes-of (l .points) (l .counts)) (map (drawn-of (now (a .edges)) (l .taps)) (take (l .drawn .count) (l .drawn .rows))) (l .left .0))) (sym (turns-are t (l .i) h))
           ∙ l .inv .9 b s),
       (l .inv .8, (full-off _ _ (l .drawn .count) (a .t6 .count) (omega (arith, count, h)), f .ensures .1 .1 .0)),
@@ -211,8 +207,8 @@ enum-known-v-2 c = search needs
 
 drawn-with-requires : tie.Need-drawn-with-requires Inv-loop μ-loop
 drawn-with-requires c κs =
-    let s = c .before .before .before .before .before .before .before .before .before .before .before .before .before .before .before .before .before .before .before .before .before .before .before .before .before .before .before .before .before .before .before .before .before in
-    let k = s .pre .0 .0 .bundles-few in
+    let s = c .before .before .before .before .before .before .before .before .before .before .before .before .before .before .before .before .before .before .before .before .before .before .before .before .before .before .before .before .before .before .before .before .before .before .before .before in
+    let k = s .pre .0 .0 in
     let l = c .before .before .before .before .before .before .before .before .before .before .before .before .before .before .before .before .before .before .before .before .before .before .before .before .loop in
     let h = c .before .before .before .before .before .before .before .before .before .before .before .before .before .before .before .before .before .before .before .before .before .before .before .loop-test .taken in
     let e = l .inv .1 in
@@ -223,12 +219,12 @@ loop-less c = let h = c .before .before .before .before .before .before .before 
 
 loop-again : tie.Need-loop-again Inv-loop μ-loop
 loop-again c =
-    let t = c .before .before .before .before .before .before .before .before .before .before .before .before .before .before .before .before .before .before .before .before .before .before .before .before .before .before .before .before .before .before .before .before .before .before in
+    let t = c .before .before .before .before .before .before .before .before .before .before .before .before .before .before .before .before .before .before .before .before .before .before .before .before .before .before .before .before .before .before .before .before .before .before .before .before .before in
     let a = t .args in
     let l = c .before .before .before .before .before .before .before .before .before .before .before .before .before .before .before .before .before .before .before .before .before .before .before .before .before .loop in
     let h = c .before .before .before .before .before .before .before .before .before .before .before .before .before .before .before .before .before .before .before .before .before .before .before .before .loop-test .taken in
     let f = c .before .before .before .before .before .before .before .before .before .before .before .before .before .before .draw-bundle in
-    let end = c .before .before .before .before .before .before .before .before .before .before .before .before .before .before .before .before .before .before .before .before .before .before .endpoint in
+    let end = c .before .before .before .before .before .before .before .before .before .before .before .before .before .before .before .before .before .before .before .before .before .before .point-at in
     let p = c .before .before .before .before .before .before .before .before .before .before .before .before .before .before .before .before .before .before .before .before .before .planned-of in
     let w = c .drawn-with in
     let ds = take (l .drawn .count) (l .drawn .rows) in
@@ -246,7 +242,7 @@ loop-again c =
     let lc = l .inv .4 in
     let lm = l .inv .5 in
     let ls = l .inv .6 in
-    let few = t .pre .0 .0 .bundles-few in
+    let few = t .pre .0 .0 in
     let long = bundles-length t in (
       omega (arith, h),
       omega (arith, count, more),
@@ -259,7 +255,7 @@ loop-again c =
       rows-next (l .drawn) (w .result) (f .result .row) (w .ensures .0) (a .t6 .rows) no-bundle (omega (arith, count, h, few, long)) more (subst (λ (i : ℕ). Row (getD (a .t6 .rows) i no-bundle) (f .result .row)) (sym count) (f .ensures .1 .0)) (l .inv .8),
       λ b s.
           sheet-on b (a .allow) (turn-here t (l .i) h) (turns-later t (l .i) h) (standing (routes-of (l .points) (l .counts)) (map (drawn-of (now (a .edges)) (l .taps)) ds) (l .left .0)) (f .result .verdict) _ _
-          (f .ensures .0 b (faces (this t (l .i) h) (later t (l .i) h) ds (now (a .edges)) (now (a .lanes)) (l .counts) r b (a .o) (a .nodes) (a .ports) (a .table) (end .result) s (end .ensures b (s .nodes) (s .ports))) ∙ ap (λ (x : Bound). turn b (a .allow) (turn-of (this t (l .i) h) x (getD (a .t8 .rows) (l .i) nan)) (standing (routes-of (l .points) (l .counts)) (map (drawn-of (now (a .edges)) (l .taps)) ds) (l .left .0))) (p .ensures)) _ _ (drawn-more (l .drawn) (w .result) (f .result .row) (w .ensures .0) (now (a .edges)) _) v
+          (f .ensures .0 b (faces (this t (l .i) h) (later t (l .i) h) ds (now (a .edges)) (now (a .lanes)) (l .counts) r b (a .o) (now (a .boxes)) (now (a .ends)) (now (a .spots)) (a .t6) (end .result) s (s .stand (l .i) h ∙ sym (end .ensures))) ∙ ap (λ (x : Bound). turn b (a .allow) (turn-of (this t (l .i) h) x (getD (a .t8 .rows) (l .i) nan)) (standing (routes-of (l .points) (l .counts)) (map (drawn-of (now (a .edges)) (l .taps)) ds) (l .left .0))) (p .ensures)) _ _ (drawn-more (l .drawn) (w .result) (f .result .row) (w .ensures .0) (now (a .edges)) _) v
           ∙ ap (λ (ts : List Turn). sheet-of b (a .allow) ts (standing (routes-of (l .points) (l .counts)) (map (drawn-of (now (a .edges)) (l .taps)) ds) (l .left .0))) (sym (turns-are t (l .i) h))
           ∙ l .inv .9 b s,
     )
@@ -281,14 +277,14 @@ same-length-10 c = search needs
 
 returns-2 : tie.Need-returns-2 Inv-loop μ-loop
 returns-2 c =
-    let t = c .before .before .before .before .before .before .before .before .before .before in
+    let t = c .before .before .before .before .before .before .before .before .before .before .before .before .before in
     let a = t .args in
     let l = c .before .loop in
     let h = c .loop-test .left in
     let count = l .inv .1 in
     let least = l .inv .0 in
     let long = bundles-length t in
-    let few = t .pre .0 .0 .bundles-few in (
+    let few = t .pre .0 .0 in (
       (λ b s.
           sheet-end b (a .allow) (l .left) _ _ (turns-at (a .t6 .rows) (a .plan) (a .t8 .rows) (a .t6 .count) (l .i)) (turns-end (a .t6 .rows) (a .plan) (a .t8 .rows) (a .t6 .count) (l .i) (omega (arith, h)) (omega (arith, long, few)))
           ∙ l .inv .9 b s),
@@ -305,7 +301,7 @@ draw-bundles-spec =
     loop-holds
     mul-u
     element-copy-out-u
-    endpoint-requires
+    point-at-requires
     planned-of-requires
     mul-offset
     element-copy-out-offset
