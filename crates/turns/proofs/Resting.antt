@@ -6,8 +6,8 @@ use mathlib.Core.List.{List, [], _∷_, _++_, map, map-append}
 use mathlib.Core.Bool.{Bool}
 use native.Mathlib.Omega.{arith}
 use native.Mathlib.Numerals.{add-one}
-use lib.ListN.{getD, length, take, drop}
-use lib.Seq.{take-suc}
+use lib.ListN.{getD, length, set, take, drop}
+use lib.Seq.{take-suc, take-suc-set}
 use lib.Ieee.{Float}
 use Rattle.geometry.specs.declared.Point.{Point}
 use Rattle.geometry.specs.declared.Role.the-variants.{Input, Output}
@@ -183,6 +183,13 @@ rows-last [] [] u d h r = (r, tt)
 rows-last [] (e ∷ ds) u d h r = absurd h
 rows-last (w ∷ us) [] u d h r = absurd h
 rows-last (w ∷ us) (e ∷ ds) u d h r = (h .0, rows-last us ds u d (h .1) r)
+
+-- a drawn bundle more
+pub drawn-next : (t : DrawnBundles) (i : ℕ) (d : DrawnBundle) → t .count ≡ i → i < length (t .rows) → take (i + 1) (set (t .rows) i d) ≡ take (t .count) (t .rows) ++ (d ∷ [])
+drawn-next t i d e h =
+    ap (λ (n : ℕ). take n (set (t .rows) i d)) (add-one i)
+    ∙ take-suc-set (t .rows) i d h
+    ∙ ap (λ (n : ℕ). take n (t .rows) ++ (d ∷ [])) (sym e)
 
 module _ (t r : DrawnBundles) (d : DrawnBundle) (more : take (r .count) (r .rows) ≡ take (t .count) (t .rows) ++ (d ∷ [])) where
   pub drawn-more : (edges : List ℕ) (taps : List Float) → map (drawn-of edges taps) (take (t .count) (t .rows)) ++ (drawn-of edges taps d ∷ []) ≡ map (drawn-of edges taps) (take (r .count) (r .rows))

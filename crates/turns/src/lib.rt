@@ -214,21 +214,6 @@ fn member_rows(members: Members, edges: &mut [usize], lanes: &mut [u32])
 
 // ---- bundle after bundle
 
-// A drawn bundle more.
-fn drawn_with(t: DrawnBundles, d: DrawnBundle) -> DrawnBundles
-    requires { ⌜ t .count < 32 ⌝ }
-    ensures rows { λ r. ⌜ take (r .count) (r .rows) ≡ take (t .count) (t .rows) ++ (d ∷ []) ⌝ }
-    ensures count { λ r. ⌜ r .count ≡ t .count + 1 ⌝ }
-{
-    let mut rows = t.rows;
-    let n = t.count;
-    rows[n] = d;
-    DrawnBundles {
-        rows: rows,
-        count: n + 1,
-    }
-}
-
 fn none_drawn() -> DrawnBundles
     ensures { λ r. ⌜ r .count ≡ 0 ⌝ }
 {
@@ -293,6 +278,7 @@ fn draw_bundles(
         let end = geometry::point_at(spots, i);
         let x = planned_of(plan, i);
         let offset = offsets.rows[i];
+        let k = i;
         i += 1;
         let t = draw_bundle(
             o,
@@ -323,7 +309,9 @@ fn draw_bundles(
             }
             Verdict::Clean(q) => {
                 left = q;
-                drawn = drawn_with(drawn, t.row);
+                let row = t.row;
+                drawn.rows[k] = row;
+                drawn.count = i;
             }
         }
     }

@@ -4,11 +4,12 @@ use mathlib.Core.Path.{_≡_, refl, sym, ap, _∙_, subst}
 use mathlib.Core.List.{List, [], _∷_, map}
 use Prim.Native.Nat.{ℕ, _≤_, _<_, _+_, _-_}
 use lib.Ieee.{nan}
-use lib.ListN.{length, getD, take, drop}
+use lib.ListN.{length, getD, take, drop, set, length-set}
 use denote.Ref.{now}
 use Rattle.route.specs.Slots.{routes-of}
 use Rattle.board.specs.declared.Bundle.{Bundle}
 use Rattle.board.specs.declared.DrawnBundle.{DrawnBundle}
+use Rattle.board.specs.declared.DrawnBundles.{DrawnBundles}
 use Rattle.board.specs.Board.{Board}
 use Rattle.plan.specs.declared.Bound.{Bound}
 use Rattle.plan.specs.Tables.{no-bundle}
@@ -18,13 +19,12 @@ use Rattle.drawing.specs.Sheet.{Turn, turn, sheet-of}
 use Rattle.checks.specs.Rows.{drawn-of}
 use Rattle.building.specs.Rows.{Row}
 use Rattle.turns.specs.Rows.{turn-of, standing, Shows, Rows, members-all}
-use Rattle.turns.proofs.Resting.{Rest, rest-start, rest-ready, rest-next, faces, longer-clean, turns-at, turns-next, turns-end, sheet-on, sheet-off, sheet-end, drawn-more, rows-next, rows-none, full-off, full-on}
+use Rattle.turns.proofs.Resting.{Rest, rest-start, rest-ready, rest-next, faces, longer-clean, turns-at, turns-next, turns-end, sheet-on, sheet-off, sheet-end, drawn-more, rows-next, rows-none, full-off, full-on, drawn-next}
 use Rattle.turns.proofs.draw_bundles.Statement.{statement}
 use Rattle.turns.proofs.draw_bundles.Tie as tie
 use Rattle.turns.proofs.draw_bundles.Reads as reads
 use Rattle.turns.proofs.draw_bundles.Lts as lts
 use Rattle.turns.proofs.draw_bundle.Reads as draw-bundle-reads
-use Rattle.turns.proofs.drawn_with.Reads as drawn-with-reads
 use Rattle.geometry.proofs.point_at.Reads as point-at-reads
 use Rattle.turns.proofs.none_drawn.Reads as none-drawn-reads
 use Rattle.turns.proofs.planned_of.Reads as planned-of-reads
@@ -37,6 +37,7 @@ Inv-loop o allow boxes ends spots plan edges lanes taps₀ points₀ counts₀ m
     × ((b : Board) → Shows b o boxes ends spots bundles (members-all edges lanes)
     → sheet-of b allow (turns-at (bundles .rows) plan (offsets .rows) n i) (standing (routes-of points counts) (map (drawn-of edges taps) (take (drawn .count) (drawn .rows))) (left .0))
     ≡ sheet-of b allow (turns-at (bundles .rows) plan (offsets .rows) n 0) (standing (routes-of points₀ counts₀) [] (left₀ .0)))
+    × (length (drawn .rows) ≡ 32)
 
 abbrev μ-loop : tie.MeasureT-loop
 μ-loop o allow boxes ends spots plan edges lanes taps₀ points₀ counts₀ mask₀ scratch₀ bundles offsets drawn₀ left₀ n i₀ taps points counts mask scratch drawn left i = n - i
@@ -95,7 +96,8 @@ loop-holds c =
       refl,
       subst (λ (ds : List DrawnBundle). Rest (take (a .t6 .count) (a .t6 .rows)) ds (now (a .edges)) (now (a .lanes)) (now (a .counts))) (sym e) (rest-start (take (a .t6 .count) (a .t6 .rows)) (now (a .edges)) (now (a .lanes)) (now (a .counts)) _ (t .pre .1 .0) (t .pre .1 .1 .1)),
       rows-none (a .t6 .rows) (c .none-drawn .result .rows) (c .none-drawn .result .count) z,
-      λ b s. ap (λ (ds : List DrawnBundle). sheet-of b (a .allow) (turns-at (a .t6 .rows) (a .plan) (a .t8 .rows) (a .t6 .count) 0) (standing (routes-of (now (a .points)) (now (a .counts))) (map (drawn-of (now (a .edges)) (now (a .taps))) ds) (a .granted .0))) e,
+      (λ b s. ap (λ (ds : List DrawnBundle). sheet-of b (a .allow) (turns-at (a .t6 .rows) (a .plan) (a .t8 .rows) (a .t6 .count) 0) (standing (routes-of (now (a .points)) (now (a .counts))) (map (drawn-of (now (a .edges)) (now (a .taps))) ds) (a .granted .0))) e),
+      search (needs, length-mapped),
     )
 
 mul-u : tie.Need-mul-u Inv-loop μ-loop
@@ -205,14 +207,17 @@ returns c =
 enum-known-v-2 : tie.Need-enum-known-v-2 Inv-loop μ-loop
 enum-known-v-2 c = search needs
 
-drawn-with-requires : tie.Need-drawn-with-requires Inv-loop μ-loop
-drawn-with-requires c κs =
-    let s = c .before .before .before .before .before .before .before .before .before .before .before .before .before .before .before .before .before .before .before .before .before .before .before .before .before .before .before .before .before .before .before .before .before .before .before .before in
-    let k = s .pre .0 .0 in
-    let l = c .before .before .before .before .before .before .before .before .before .before .before .before .before .before .before .before .before .before .before .before .before .before .before .before .loop in
-    let h = c .before .before .before .before .before .before .before .before .before .before .before .before .before .before .before .before .before .before .before .before .before .before .before .loop-test .taken in
-    let e = l .inv .1 in
-    omega (arith, k, h, e)
+mul-row : tie.Need-mul-row Inv-loop μ-loop
+mul-row c =
+    let few = c .before .before .before .before .before .before .before .before .before .before .before .before .before .before .before .before .before .before .before .before .before .before .before .before .before .before .before .before .before .before .before .before .before .before .before .before .before .pre .0 .0 in
+    let h = c .before .before .before .before .before .before .before .before .before .before .before .before .before .before .before .before .before .before .before .before .before .before .before .before .loop-test .taken in
+    omega (arith, few, h)
+
+element-set-from-row : tie.Need-element-set-from-row Inv-loop μ-loop
+element-set-from-row c =
+    let few = c .before .before .before .before .before .before .before .before .before .before .before .before .before .before .before .before .before .before .before .before .before .before .before .before .before .before .before .before .before .before .before .before .before .before .before .before .before .pre .0 .0 in
+    let h = c .before .before .before .before .before .before .before .before .before .before .before .before .before .before .before .before .before .before .before .before .before .before .before .before .loop-test .taken in
+    omega (arith, few, h)
 
 loop-less : tie.Need-loop-less Inv-loop μ-loop
 loop-less c = let h = c .before .before .before .before .before .before .before .before .before .before .before .before .before .before .before .before .before .before .before .before .before .before .before .before .loop-test .taken in omega (arith, h)
@@ -226,11 +231,13 @@ loop-again c =
     let f = c .before .before .before .before .before .before .before .before .before .before .before .before .before .before .draw-bundle in
     let end = c .before .before .before .before .before .before .before .before .before .before .before .before .before .before .before .before .before .before .before .before .before .before .point-at in
     let p = c .before .before .before .before .before .before .before .before .before .before .before .before .before .before .before .before .before .before .before .before .before .planned-of in
-    let w = c .drawn-with in
     let ds = take (l .drawn .count) (l .drawn .rows) in
     let r = split t (l .i) h ds (now (a .edges)) (now (a .lanes)) (l .counts) (l .inv .7) in
     let count = l .inv .1 in
-    let more = w .ensures .1 in
+    let rows = l .inv .10 in
+    let few = t .pre .0 .0 in
+    let w : DrawnBundles = record { rows = set (l .drawn .rows) (l .i) (f .result .row); count = l .i + 1 } in
+    let more = drawn-next (l .drawn) (l .i) (f .result .row) count (omega (arith, h, few, rows)) in
     let v = c .before .before .v2 .given .1 in
     let kt = f .kept .1 .1 .1 .1 .1 .1 .1 .1 .1 .1 .1 .0 in
     let kp = f .kept .1 .1 .1 .1 .1 .1 .1 .1 .1 .1 .1 .1 .0 in
@@ -242,22 +249,22 @@ loop-again c =
     let lc = l .inv .4 in
     let lm = l .inv .5 in
     let ls = l .inv .6 in
-    let few = t .pre .0 .0 in
     let long = bundles-length t in (
       omega (arith, h),
-      omega (arith, count, more),
+      refl,
       omega (arith, kt, lt),
       omega (arith, kp, lp),
       omega (arith, kc, lc),
       omega (arith, km, lm),
       omega (arith, ks, ls),
-      rest-next (this t (l .i) h) (later t (l .i) h) ds (now (a .edges)) (now (a .lanes)) (l .counts) r (f .result .row) _ _ (w .ensures .0) (f .ensures .1 .0) (f .ensures .1 .1 .0) (longer-clean (f .result .verdict) _ (l .counts) _ _ v (f .ensures .1 .1 .1)),
-      rows-next (l .drawn) (w .result) (f .result .row) (w .ensures .0) (a .t6 .rows) no-bundle (omega (arith, count, h, few, long)) more (subst (λ (i : ℕ). Row (getD (a .t6 .rows) i no-bundle) (f .result .row)) (sym count) (f .ensures .1 .0)) (l .inv .8),
-      λ b s.
+      rest-next (this t (l .i) h) (later t (l .i) h) ds (now (a .edges)) (now (a .lanes)) (l .counts) r (f .result .row) _ _ more (f .ensures .1 .0) (f .ensures .1 .1 .0) (longer-clean (f .result .verdict) _ (l .counts) _ _ v (f .ensures .1 .1 .1)),
+      rows-next (l .drawn) w (f .result .row) more (a .t6 .rows) no-bundle (omega (arith, count, h, few, long)) (ap (λ (k : ℕ). k + 1) (sym count)) (subst (λ (i : ℕ). Row (getD (a .t6 .rows) i no-bundle) (f .result .row)) (sym count) (f .ensures .1 .0)) (l .inv .8),
+      (λ b s.
           sheet-on b (a .allow) (turn-here t (l .i) h) (turns-later t (l .i) h) (standing (routes-of (l .points) (l .counts)) (map (drawn-of (now (a .edges)) (l .taps)) ds) (l .left .0)) (f .result .verdict) _ _
-          (f .ensures .0 b (faces (this t (l .i) h) (later t (l .i) h) ds (now (a .edges)) (now (a .lanes)) (l .counts) r b (a .o) (now (a .boxes)) (now (a .ends)) (now (a .spots)) (a .t6) (end .result) s (s .stand (l .i) h ∙ sym (end .ensures))) ∙ ap (λ (x : Bound). turn b (a .allow) (turn-of (this t (l .i) h) x (getD (a .t8 .rows) (l .i) nan)) (standing (routes-of (l .points) (l .counts)) (map (drawn-of (now (a .edges)) (l .taps)) ds) (l .left .0))) (p .ensures)) _ _ (drawn-more (l .drawn) (w .result) (f .result .row) (w .ensures .0) (now (a .edges)) _) v
+          (f .ensures .0 b (faces (this t (l .i) h) (later t (l .i) h) ds (now (a .edges)) (now (a .lanes)) (l .counts) r b (a .o) (now (a .boxes)) (now (a .ends)) (now (a .spots)) (a .t6) (end .result) s (s .stand (l .i) h ∙ sym (end .ensures))) ∙ ap (λ (x : Bound). turn b (a .allow) (turn-of (this t (l .i) h) x (getD (a .t8 .rows) (l .i) nan)) (standing (routes-of (l .points) (l .counts)) (map (drawn-of (now (a .edges)) (l .taps)) ds) (l .left .0))) (p .ensures)) _ _ (drawn-more (l .drawn) w (f .result .row) more (now (a .edges)) _) v
           ∙ ap (λ (ts : List Turn). sheet-of b (a .allow) ts (standing (routes-of (l .points) (l .counts)) (map (drawn-of (now (a .edges)) (l .taps)) ds) (l .left .0))) (sym (turns-are t (l .i) h))
-          ∙ l .inv .9 b s,
+          ∙ l .inv .9 b s),
+      length-set (l .drawn .rows) (l .i) (f .result .row) ∙ rows,
     )
 
 same-length-6 : tie.Need-same-length-6 Inv-loop μ-loop
@@ -315,7 +322,8 @@ draw-bundles-spec =
     same-length-5
     returns
     enum-known-v-2
-    drawn-with-requires
+    mul-row
+    element-set-from-row
     loop-less
     loop-again
     same-length-6

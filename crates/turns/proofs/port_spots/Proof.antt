@@ -8,7 +8,7 @@ use Rattle.board.specs.declared.Port.{Port}
 use Rattle.plan.specs.Depths.{no-port}
 use Rattle.plan.specs.Tables.{no-bundle}
 use Rattle.plan.proofs.Rows.{length-mapped, null-port, getD-any}
-use Rattle.turns.specs.Rows.{Named, Spotted}
+use Rattle.turns.specs.Rows.{Spotted}
 use Rattle.turns.proofs.Filling.{spotted-next}
 use Rattle.turns.proofs.port_spots.Statement.{statement}
 use Rattle.turns.proofs.port_spots.Tie as tie
