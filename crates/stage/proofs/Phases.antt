@@ -8,6 +8,9 @@ use native.Mathlib.Omega.{arith}
 use lib.ListN.{length, take}
 use lib.Seq.{sets}
 use lib.Ieee.{Float}
+use Rattle.route.specs.Slots.{routes-of, Held}
+use Rattle.board.specs.declared.DrawnBundles.{DrawnBundles}
+use Rattle.board.specs.declared.DrawnTaps.{DrawnTaps}
 use Rattle.geometry.specs.Points.{Route}
 use Rattle.job.specs.declared.Job as code
 use Rattle.job.specs.declared.JobRead.{JobRead}
@@ -24,19 +27,24 @@ use Rattle.drawing.specs.declared.Verdict.the-variants.{Clean, Refused}
 use Rattle.drawing.specs.Build.{Drawn}
 use Rattle.drawing.specs.Sheet.{turns-from, sheet-of, blank, after-check}
 use Rattle.drawing.specs.Sheet as drawing
-use Rattle.turns.specs.Rows.{ends-as, standing, Full, Room}
+use Rattle.drawing.specs.Normal.{page-of}
+use Rattle.turns.specs.Rows.{ends-as, standing, drawn-in, Full, Room, Listed, Rows}
+use Rattle.normalize.specs.declared.Laid.{Laid}
+use Rattle.normalize.specs.Rows.{heading, sheet-in, page-in}
 use Rattle.plan.specs.Plan.{plan-of}
 use Rattle.plan.specs.Plan as plan
 use Rattle.components.specs.declared.Step.{Step}
 use Rattle.components.specs.Settled.{step-in}
 use Rattle.answer.specs.Answer.{Sheet, answer-bytes, notice-bytes}
 use Rattle.answer.specs.Laws.{notice-length}
+use Rattle.answer.specs.Tables as answer
 use Rattle.stage.specs.Stage.{Told, refused, drawn, normalized, page-told, planned, sheet-drawn, after-sheet, after-plan, after-reading, told, told-bytes, written, stage-of}
 use Rattle.stage.specs.Size.{short, roomy, written-size}
-use Rattle.job_tables.specs.Ready.{read-accepted}
+use Rattle.job_tables.specs.Ready.{read-accepted, tables-sound, routes-in}
 use Rattle.job_tables.specs.Came.{Sizes, job-in, Came}
-use Rattle.stage.specs.Tables.{Writes}
+use Rattle.stage.specs.Tables.{Writes, TapsOf, OnSheet, Lent, told-as}
 use Rattle.stage.proofs.Ready.{given-same}
+use Rattle.stage.proofs.Answers.{sheet-same}
 
 -- ---- what is written
 
@@ -130,6 +138,26 @@ module _ (j : code.Job) (buffer : List Float) (from : Came j buffer) (sizes : Si
       let z : sheet-drawn (job-in j buffer) (plan-in (j .bundles .count) p) ≡ drawing.going (standing rs ds (q .0)) = drawn-is ∙ rw e in
       ap (after-sheet (job-in j buffer .board) (plan-in (j .bundles .count) p)) z
 
+-- the sheet after the last turn, all bundles drawn
+module _ (j : code.Job) (buffer : List Float) (from : Came j buffer) (sizes : Sizes j) (edges lanes : List ℕ) (taps points : List Float) (counts : List ℕ) (mask : List Bool) (scratch : List Float) (lent : Lent j edges lanes taps points counts mask scratch)
+    (v : Verdict) (ds : DrawnBundles) (edges' lanes' : List ℕ) (taps' points' : List Float) (counts' : List ℕ) (taps-kept : length taps' ≡ length taps) (points-kept : length points' ≡ length points) (counts-kept : length counts' ≡ length counts) where
+  pub on-sheet : (q : GeometryVisits) → v ≡ Clean q → Listed edges' lanes' (j .members .rows) (j .members .count) → Rows (take (ds .count) (j .bundles .rows)) (take (ds .count) (ds .rows)) → Full v (ds .count) (j .bundles .count) → Held counts'
+      → OnSheet j edges' ds points' counts' taps'
+  on-sheet q e listed each full held =
+      let all = full-clean v q (ds .count) (j .bundles .count) e full in
+      record {
+        fits = from .fits;
+        members-on = routes-in j buffer from sizes .members-on;
+        windows = λ i h. tables-sound j buffer from sizes .bundles-on i (omega (arith, h, all)) .members-in;
+        edges-are = λ i h. listed i h .0;
+        all-drawn = all;
+        each-row = each;
+        slots = omega (arith, lent .room .slots, points-kept, counts-kept);
+        hold = held;
+        counted = omega (arith, lent .counts-long, counts-kept);
+        places = omega (arith, lent .room .places, taps-kept);
+      }
+
 pub sheet-room : (t : Told) (s : Sheet) (room : ℕ) → t ≡ drawn s → length (told-bytes t) ≤ room → length (answer-bytes s) ≤ room
 unfolding told-bytes
 sheet-room t s room e h = rw e at h
@@ -140,3 +168,25 @@ told-room s t room e h = subst (λ (z : Told). length (told-bytes z) ≤ room) e
 pub room-for : (members n : ℕ) (taps points : List Float) (counts : List ℕ) (mask : List Bool) (scratch : List Float) → members ≤ 256 → n ≤ 256 → length taps ≡ 512 → 136 * n ≤ length points → length counts ≡ n → length mask ≡ 256 → length scratch ≡ 136
     → Room members taps points counts mask scratch
 room-for members n taps points counts mask scratch hm hn t p c m s = record { places = omega arith; slots = omega arith; masked = omega arith; spare = omega arith }
+
+-- ---- the answer
+
+module _ (j : code.Job) (buffer : List Float) (from : Came j buffer) (sizes : Sizes j) (s : Step)
+    (is : step-in (j .bundles .count) s
+    ≡ plan-of (tables.board-of (j .options) (j .nodes) (j .ports) (take (j .edges .count) (j .edges .rows)) (j .bundles) (j .members)) (tables.given-routes buffer (j .edges)) (j .flags .«separates_collectors») (j .grants .«tap_visits»))
+    (on-going : s .refused ≡ false) (offsets : List Float) (v : Verdict) (edges : List ℕ) (ds : DrawnBundles) (points : List Float) (counts : List ℕ) (taps : List Float)
+    (as-offsets : offsets ≡ offsets-of (tables.board-of (j .options) (j .nodes) (j .ports) (take (j .edges .count) (j .edges .rows)) (j .bundles) (j .members)))
+    (ends : ends-as v (routes-of points counts) (drawn-in edges taps ds)
+    ≡ sheet-of (tables.board-of (j .options) (j .nodes) (j .ports) (take (j .edges .count) (j .edges .rows)) (j .bundles) (j .members)) (j .flags .«permits_crossings»)
+    (turns-from (take (j .bundles .count) (j .bundles .rows)) (map x-of (take (j .bundles .count) (s .plan .rows))) offsets) (blank (tables.given-routes buffer (j .edges)) (j .grants .«geometry_visits»))) where
+  pub all-refused : (n : ℕ) (q : GeometryVisits) → v ≡ Refused n q → after-plan (job-in j buffer) (planned (job-in j buffer)) ≡ refused n
+  all-refused n q e = plan-going j buffer from sizes s is on-going ∙ sheet-refused j buffer from sizes (s .plan) offsets v (routes-of points counts) (drawn-in edges taps ds) as-offsets ends n q e
+
+  -- the answer of the tables after the last shift
+  pub all-told : (q : GeometryVisits) → v ≡ Clean q → OnSheet j edges ds points counts taps → (l : Laid) (after shifted : List Float) (t : DrawnTaps) → TapsOf (j .edges) (j .members) shifted t → page-in edges l after counts shifted ≡ page-of (sheet-in edges (j .nodes) ds points counts taps)
+      → l .drawn .count ≡ ds .count → map heading (take (l .drawn .count) (l .drawn .rows)) ≡ map heading (take (ds .count) (ds .rows))
+      → after-plan (job-in j buffer) (planned (job-in j buffer)) ≡ told-as (answer.sheet-of (record { «tap_visits» = s .plan .left .0; «geometry_visits» = q .0; width = l .width; height = l .height }) (l .nodes) (j .edges) after counts (l .drawn) t)
+  all-told q e on l after shifted t of page as-many kept =
+      plan-going j buffer from sizes s is on-going
+      ∙ sheet-clean j buffer from sizes (s .plan) offsets v (routes-of points counts) (drawn-in edges taps ds) as-offsets ends q e
+      ∙ sym (ap told-as (sheet-same j edges ds points counts taps on sizes buffer (s .plan .left .0) (q .0) l after shifted t of (omega (arith, on .fits .members, of .rows-long)) page as-many kept))

@@ -7,15 +7,11 @@
 ghost use mathlib.Core.Path.{_≡_};
 ghost use Prim.Native.Nat.{ℕ, _+_, _*_, _≤_, _<_};
 ghost use lib.ListN.{length, getD, take};
-ghost use Rattle.stage.specs.Stage.{planned, sheet-drawn, after-sheet, after-plan, told-bytes, written, stage-of};
+ghost use Rattle.stage.specs.Stage.{planned, after-plan, told, told-bytes, written, stage-of};
 ghost use Rattle.stage.specs.Demand3.{Demand3};
-ghost use Rattle.plan.specs.Prepared.{plan-in};
-ghost use mathlib.Core.List.{[]};
 ghost use Rattle.job_tables.specs.Came.{job-in, Came};
-ghost use Rattle.answer.specs.Answer.{answer-bytes};
-ghost use Rattle.stage.specs.Tables.{Writes, TapsOf, MembersOn, OnSheet, Lent, sheet-told, told-as};
+ghost use Rattle.stage.specs.Tables.{Writes, TapsOf, MembersOn, Lent};
 use answer::Frame;
-use board::DrawnBundles;
 use board::DrawnTap;
 use board::DrawnTaps;
 use board::Edges;
@@ -24,7 +20,6 @@ use drawing::GeometryVisits;
 use drawing::Verdict;
 use geometry::Point;
 use job::Job;
-use plan::Planning;
 use search::TapVisits;
 
 // ---- the sheet (10, 11, 12, 14) and the answer
@@ -56,48 +51,13 @@ pub fn tap_rows(table: Edges, members: Members, taps: &[f64]) -> DrawnTaps
     }
 }
 
-// The last shift, and the answer.
-fn put_sheet(
-    j: Job,
-    edges: &[usize],
-    drawn: DrawnBundles,
-    left: TapVisits,
-    rest: GeometryVisits,
-    points: &mut [f64],
-    counts: &[usize],
-    taps: &mut [f64],
-    answer: &mut [u8],
-) -> usize
-    requires { ⌜ OnSheet j (now edges) drawn (now points) (now counts) (now taps) ⌝ }
-    requires { ⌜ length (answer-bytes (sheet-told j [] (now edges) drawn (now points) (now counts) (now taps) (left .0) (rest .0))) ≤ length (now answer) ⌝ }
-    ensures { λ r. ⌜ Writes (now (answer .entry)) (now (answer .exit)) r (told-as (sheet-told j [] (now (edges .entry)) drawn (now (points .entry)) (now (counts .entry)) (now (taps .entry)) (left .0) (rest .0))) ⌝ }
-{
-    let members = j.members;
-    let n = members.count;
-    let l = normalize::normalize_layout(j.nodes, drawn, &mut points[..], counts, &mut taps[..], n);
-    let t = tap_rows(j.edges, members, &taps[..]);
-    answer::write_answer(
-        &mut answer[..],
-        Frame {
-            tap_visits: left.0,
-            geometry_visits: rest.0,
-            width: l.width,
-            height: l.height,
-        },
-        l.nodes,
-        j.edges,
-        &points[..],
-        counts,
-        l.drawn,
-        t,
-    )
-}
-
-// The sheet of a plan in lent slices, and its answer or the notice of its refusal.
+// The plan (13), the sheet of it and the last shift, in lent slices; the answer, or the notice of a
+// refusal. One function for all of it: a table that is handed on is copied.
 fn draw_in(
     j: Job,
     given: &[f64],
-    p: Planning,
+    xs: &mut [f64],
+    sorted: &mut [f64],
     edges: &mut [usize],
     lanes: &mut [u32],
     taps: &mut [f64],
@@ -108,23 +68,40 @@ fn draw_in(
     answer: &mut [u8],
 ) -> usize
     requires { ⌜ Came j (now given) × (6 ≤ length (now answer)) ⌝ }
-    requires { ⌜ length (told-bytes (after-sheet (job-in j (now given) .board) (plan-in (j .bundles .count) p) (sheet-drawn (job-in j (now given)) (plan-in (j .bundles .count) p)))) ≤ length (now answer) ⌝ }
+    requires { ⌜ length (told-bytes (after-plan (job-in j (now given)) (planned (job-in j (now given))))) ≤ length (now answer) ⌝ }
+    requires { ⌜ (4096 < length (now xs)) × (length (now xs) ≤ length (now sorted)) ⌝ }
     requires { ⌜ Lent j (now edges) (now lanes) (now taps) (now points) (now counts) (now mask) (now scratch) ⌝ }
-    ensures { λ r. ⌜ Writes (now (answer .entry)) (now (answer .exit)) r (after-sheet (job-in j (now (given .entry)) .board) (plan-in (j .bundles .count) p) (sheet-drawn (job-in j (now (given .entry))) (plan-in (j .bundles .count) p))) ⌝ }
+    ensures { λ r. ⌜ Writes (now (answer .entry)) (now (answer .exit)) r (after-plan (job-in j (now (given .entry))) (planned (job-in j (now (given .entry))))) ⌝ }
 {
-    let flags = j.flags;
-    let grants = j.grants;
-    let planned = p.rows;
-    let offsets = plan::corridor_depth_offsets(j.options, j.nodes, j.ports, j.bundles, j.members);
-    let d = turns::draw_sheet(
+    let s = planner::plan_interior_collectors(
         j.options,
-        flags.permits_crossings,
         j.nodes,
         j.ports,
         j.edges,
         j.bundles,
         j.members,
-        planned,
+        given,
+        j.flags.separates_collectors,
+        TapVisits(j.grants.tap_visits),
+        &mut xs[..],
+        &mut sorted[..],
+    );
+    if s.refused {
+        return answer::write_notice(&mut answer[..], 13);
+    }
+    let plan = s.plan;
+    let left = plan.left;
+    let rows = plan.rows;
+    let offsets = plan::corridor_depth_offsets(j.options, j.nodes, j.ports, j.bundles, j.members);
+    let d = turns::draw_sheet(
+        j.options,
+        j.flags.permits_crossings,
+        j.nodes,
+        j.ports,
+        j.edges,
+        j.bundles,
+        j.members,
+        rows,
         offsets,
         given,
         &mut edges[..],
@@ -134,46 +111,90 @@ fn draw_in(
         &mut counts[..],
         &mut mask[..],
         &mut scratch[..],
-        GeometryVisits(grants.geometry_visits),
+        GeometryVisits(j.grants.geometry_visits),
     );
     let v = d.verdict;
     match v {
         Verdict::Refused(r, q) => answer::write_notice(&mut answer[..], r),
-        Verdict::Clean(q) => put_sheet(
-            j,
-            &edges[..],
-            d.drawn,
-            p.left,
-            q,
-            &mut points[..],
-            &counts[..],
-            &mut taps[..],
-            &mut answer[..],
-        ),
+        Verdict::Clean(rest) => {
+            let n = j.members.count;
+            let l = normalize::normalize_layout(
+                j.nodes,
+                d.drawn,
+                &mut points[..],
+                &counts[..],
+                &mut taps[..],
+                n,
+            );
+            let t = tap_rows(j.edges, j.members, &taps[..]);
+            answer::write_answer(
+                &mut answer[..],
+                Frame {
+                    tap_visits: left.0,
+                    geometry_visits: rest.0,
+                    width: l.width,
+                    height: l.height,
+                },
+                l.nodes,
+                j.edges,
+                &points[..],
+                &counts[..],
+                l.drawn,
+                t,
+            )
+        }
     }
 }
 
-// The same, with the slots of the present routes lent and the other slices its own.
-fn draw_on(j: Job, given: &[f64], p: Planning, points: &mut [f64], answer: &mut [u8]) -> usize
-    requires { ⌜ Came j (now given) × (6 ≤ length (now answer)) ⌝ }
-    requires { ⌜ length (told-bytes (after-sheet (job-in j (now given) .board) (plan-in (j .bundles .count) p) (sheet-drawn (job-in j (now given)) (plan-in (j .bundles .count) p)))) ≤ length (now answer) ⌝ }
-    requires { ⌜ 136 * j .edges .count ≤ length (now points) ⌝ }
-    ensures { λ r. ⌜ Writes (now (answer .entry)) (now (answer .exit)) r (after-sheet (job-in j (now (given .entry)) .board) (plan-in (j .bundles .count) p) (sheet-drawn (job-in j (now (given .entry))) (plan-in (j .bundles .count) p))) ⌝ }
+// Reads the job and draws it, with the slots of the present routes its own: 32 where that is enough, as
+// most of a small board's time would go into clearing 256.
+fn read_and_draw(
+    job: &[u8],
+    given: &mut [f64],
+    xs: &mut [f64],
+    sorted: &mut [f64],
+    edges: &mut [usize],
+    lanes: &mut [u32],
+    taps: &mut [f64],
+    counts: &mut [usize],
+    mask: &mut [bool],
+    scratch: &mut [f64],
+    answer: &mut [u8],
+) -> usize
+    requires { ⌜ (length (now given) ≡ 4096) × (65536 ≤ length (now answer)) ⌝ }
+    requires { ⌜ (4096 < length (now xs)) × (length (now xs) ≤ length (now sorted)) ⌝ }
+    requires { ⌜ (length (now edges) ≡ 256) × (length (now lanes) ≡ 256) × (length (now taps) ≡ 512) × (length (now counts) ≡ 256) × (length (now mask) ≡ 256) × (length (now scratch) ≡ 136) ⌝ }
+    ensures { λ r. ⌜ Writes (now (answer .entry)) (now (answer .exit)) r (told (now (job .entry))) ⌝ }
 {
-    let mut edges = [0; 256];
-    let mut lanes = [0; 256];
-    let mut taps = [0.0; 512];
-    let mut counts = [0; 256];
-    let mut mask = [false; 256];
-    let mut scratch = [0.0; 136];
-    let members = j.members;
-    let table = j.edges;
-    let m = members.count;
-    let n = table.count;
+    let r = job::read_job(job, &mut given[..]);
+    if !r.ok {
+        return answer::write_notice(&mut answer[..], r.refusal);
+    }
+    let m = r.job.members.count;
+    let n = r.job.edges.count;
+    if n <= 32 {
+        let mut few = [0.0; 4352];
+        return draw_in(
+            r.job,
+            &given[..],
+            &mut xs[..],
+            &mut sorted[..],
+            &mut edges[..m],
+            &mut lanes[..m],
+            &mut taps[..],
+            &mut few[..],
+            &mut counts[..n],
+            &mut mask[..],
+            &mut scratch[..],
+            &mut answer[..],
+        );
+    }
+    let mut points = [0.0; 34816];
     draw_in(
-        j,
-        given,
-        p,
+        r.job,
+        &given[..],
+        &mut xs[..],
+        &mut sorted[..],
         &mut edges[..m],
         &mut lanes[..m],
         &mut taps[..],
@@ -183,70 +204,6 @@ fn draw_on(j: Job, given: &[f64], p: Planning, points: &mut [f64], answer: &mut 
         &mut scratch[..],
         &mut answer[..],
     )
-}
-
-// The same, in slots of its own for up to 32 routes: most of a small board's time would go into
-// clearing 256.
-fn draw_few(j: Job, given: &[f64], p: Planning, answer: &mut [u8]) -> usize
-    requires { ⌜ Came j (now given) × (6 ≤ length (now answer)) ⌝ }
-    requires { ⌜ length (told-bytes (after-sheet (job-in j (now given) .board) (plan-in (j .bundles .count) p) (sheet-drawn (job-in j (now given)) (plan-in (j .bundles .count) p)))) ≤ length (now answer) ⌝ }
-    requires { ⌜ j .edges .count ≤ 32 ⌝ }
-    ensures { λ r. ⌜ Writes (now (answer .entry)) (now (answer .exit)) r (after-sheet (job-in j (now (given .entry)) .board) (plan-in (j .bundles .count) p) (sheet-drawn (job-in j (now (given .entry))) (plan-in (j .bundles .count) p))) ⌝ }
-{
-    let mut points = [0.0; 4352];
-    draw_on(j, given, p, &mut points[..], &mut answer[..])
-}
-
-// The same, in slots of its own for any number of routes.
-fn draw_many(j: Job, given: &[f64], p: Planning, answer: &mut [u8]) -> usize
-    requires { ⌜ Came j (now given) × (6 ≤ length (now answer)) ⌝ }
-    requires { ⌜ length (told-bytes (after-sheet (job-in j (now given) .board) (plan-in (j .bundles .count) p) (sheet-drawn (job-in j (now given)) (plan-in (j .bundles .count) p)))) ≤ length (now answer) ⌝ }
-    ensures { λ r. ⌜ Writes (now (answer .entry)) (now (answer .exit)) r (after-sheet (job-in j (now (given .entry)) .board) (plan-in (j .bundles .count) p) (sheet-drawn (job-in j (now (given .entry))) (plan-in (j .bundles .count) p))) ⌝ }
-{
-    let mut points = [0.0; 34816];
-    draw_on(j, given, p, &mut points[..], &mut answer[..])
-}
-
-fn draw(j: Job, given: &[f64], p: Planning, answer: &mut [u8]) -> usize
-    requires { ⌜ Came j (now given) × (6 ≤ length (now answer)) ⌝ }
-    requires { ⌜ length (told-bytes (after-sheet (job-in j (now given) .board) (plan-in (j .bundles .count) p) (sheet-drawn (job-in j (now given)) (plan-in (j .bundles .count) p)))) ≤ length (now answer) ⌝ }
-    ensures { λ r. ⌜ Writes (now (answer .entry)) (now (answer .exit)) r (after-sheet (job-in j (now (given .entry)) .board) (plan-in (j .bundles .count) p) (sheet-drawn (job-in j (now (given .entry))) (plan-in (j .bundles .count) p))) ⌝ }
-{
-    let table = j.edges;
-    if table.count <= 32 {
-        return draw_few(j, given, p, &mut answer[..]);
-    }
-    draw_many(j, given, p, &mut answer[..])
-}
-
-// ---- the plan (13)
-
-fn plan_and_draw(j: Job, given: &[f64], answer: &mut [u8]) -> usize
-    requires { ⌜ Came j (now given) × (6 ≤ length (now answer)) ⌝ }
-    requires { ⌜ length (told-bytes (after-plan (job-in j (now given)) (planned (job-in j (now given))))) ≤ length (now answer) ⌝ }
-    ensures { λ r. ⌜ Writes (now (answer .entry)) (now (answer .exit)) r (after-plan (job-in j (now (given .entry))) (planned (job-in j (now (given .entry))))) ⌝ }
-{
-    let mut xs = [0.0; 4097];
-    let mut scratch = [0.0; 4097];
-    let flags = j.flags;
-    let grants = j.grants;
-    let s = planner::plan_interior_collectors(
-        j.options,
-        j.nodes,
-        j.ports,
-        j.edges,
-        j.bundles,
-        j.members,
-        given,
-        flags.separates_collectors,
-        TapVisits(grants.tap_visits),
-        &mut xs[..],
-        &mut scratch[..],
-    );
-    if s.refused {
-        return answer::write_notice(&mut answer[..], 13);
-    }
-    draw(j, given, s.plan, &mut answer[..])
 }
 
 // ---- the whole
@@ -263,9 +220,25 @@ pub extern "C" fn stage(job: &[u8], answer: &mut [u8]) -> usize
         return 0;
     }
     let mut given = [0.0; 4096];
-    let r = job::read_job(job, &mut given[..]);
-    if !r.ok {
-        return answer::write_notice(&mut answer[..], r.refusal);
-    }
-    plan_and_draw(r.job, &given[..], &mut answer[..])
+    let mut xs = [0.0; 4097];
+    let mut sorted = [0.0; 4097];
+    let mut edges = [0; 256];
+    let mut lanes = [0; 256];
+    let mut taps = [0.0; 512];
+    let mut counts = [0; 256];
+    let mut mask = [false; 256];
+    let mut scratch = [0.0; 136];
+    read_and_draw(
+        job,
+        &mut given[..],
+        &mut xs[..],
+        &mut sorted[..],
+        &mut edges[..],
+        &mut lanes[..],
+        &mut taps[..],
+        &mut counts[..],
+        &mut mask[..],
+        &mut scratch[..],
+        &mut answer[..],
+    )
 }

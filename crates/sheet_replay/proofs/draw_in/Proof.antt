@@ -1,6 +1,5 @@
 -- `sheet_replay::draw_in` is safe and ends. Assumes nothing.
 use mathlib.Core.Path.{_≡_}
-use native.Mathlib.Omega.{arith}
 use Rattle.job_tables.specs.Came.{Sizes}
 use Rattle.job_tables.specs.Ready.{tables-sound, routes-in}
 use Rattle.plan.proofs.Rows as rows
@@ -49,23 +48,7 @@ put-pages-requires c κs =
     let s = c .before .before .before .before .before .before .before .before .before .before .before .before .before .before .before .before .before .before .before .before .before .before .before .before .before .before .before .before .before .before .before .before .before .before .before .before .before .before .before .before .before .before .before .before .before .before in
     let a = s .args in
     let d = c .before .before .before .before .before .before .before .before .before .before .before .before .before .before .before .before .before .before .before .before .before .before .before .before .draw-sheet in
-    let k = tables-sound (a .j) (a .given .now) (s .pre .0 .0) (sizes s) in
-    let lent = s .pre .1 in
-    let full = laws.full-clean (d .result .verdict) _ (d .result .drawn .count) (a .j .bundles .count) (c .before .before .before .before .before .before .before .v2 .given .1) (d .ensures .1 .1 .1 .0) in (
-      record {
-        fits = s .pre .0 .0 .fits;
-        members-on = routes-in (a .j) (a .given .now) (s .pre .0 .0) (sizes s) .members-on;
-        windows = λ i h. k .bundles-on i (omega (arith, h, full)) .members-in;
-        edges-are = λ i h. d .ensures .1 .0 i h .0;
-        all-drawn = full;
-        each-row = d .ensures .1 .1 .0;
-        slots = omega (arith, lent .room .slots, d .kept .1 .1 .1 .1 .1 .1 .1 .1 .1 .1 .1 .1 .1 .0, d .kept .1 .1 .1 .1 .1 .1 .1 .1 .1 .1 .1 .1 .1 .1 .0);
-        hold = d .ensures .1 .1 .1 .1;
-        counted = omega (arith, lent .counts-long, d .kept .1 .1 .1 .1 .1 .1 .1 .1 .1 .1 .1 .1 .1 .1 .0);
-        places = omega (arith, lent .room .places, d .kept .1 .1 .1 .1 .1 .1 .1 .1 .1 .1 .1 .1 .0);
-      },
-      s .pre .0 .1,
-    )
+    (laws.on-sheet (a .j) (a .given .now) (s .pre .0 .0) (sizes s) _ _ _ _ _ _ _ (s .pre .1) (d .result .verdict) (d .result .drawn) (d .last .1 .1 .1 .1 .1 .1 .1 .1 .1 .1 .0) (d .last .1 .1 .1 .1 .1 .1 .1 .1 .1 .1 .1 .0) (d .last .1 .1 .1 .1 .1 .1 .1 .1 .1 .1 .1 .1 .0) (d .last .1 .1 .1 .1 .1 .1 .1 .1 .1 .1 .1 .1 .1 .0) (d .last .1 .1 .1 .1 .1 .1 .1 .1 .1 .1 .1 .1 .1 .1 .0) (d .kept .1 .1 .1 .1 .1 .1 .1 .1 .1 .1 .1 .1 .0) (d .kept .1 .1 .1 .1 .1 .1 .1 .1 .1 .1 .1 .1 .1 .0) (d .kept .1 .1 .1 .1 .1 .1 .1 .1 .1 .1 .1 .1 .1 .1 .0) _ (c .before .before .before .before .before .before .before .v2 .given .1) (d .ensures .1 .0) (d .ensures .1 .1 .0) (d .ensures .1 .1 .1 .0) (d .ensures .1 .1 .1 .1), s .pre .0 .1)
 
 same-length : tie.Need-same-length
 same-length c = search needs
