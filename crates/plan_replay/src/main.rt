@@ -312,6 +312,7 @@ fn put_plan(
     let bundles = j.bundles;
     let flags = j.flags;
     let grants = j.grants;
+    let offsets = plan::corridor_depth_offsets(j.options, j.nodes, j.ports, bundles, j.members);
     let s = planner::plan_interior_collectors(
         j.options,
         j.nodes,
@@ -319,6 +320,7 @@ fn put_plan(
         j.edges,
         bundles,
         j.members,
+        offsets,
         points,
         flags.separates_collectors,
         TapVisits(grants.tap_visits),
@@ -559,12 +561,14 @@ fn put_routed(
         &mut edges[..],
         &mut lanes[..],
     );
+    let offsets = plan::corridor_depth_offsets(j.options, j.nodes, j.ports, j.bundles, j.members);
     let t = planner::reach_bundles(
         j.options,
         j.nodes,
         j.ports,
         j.bundles,
         j.members,
+        offsets,
         points,
         &starts,
         &counts,

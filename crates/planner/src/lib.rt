@@ -16,7 +16,7 @@ ghost use Rattle.plan.specs.Tables.{Sound, RoutesIn, board-of, given-routes};
 ghost use Rattle.plan.specs.Plan.{plan-with, plan-of};
 ghost use Rattle.plan.specs.Prepared.{Inside, Searchable, AllBelow, Rowed, Ended, Windowed, Cornered, AllTell, AllAmong};
 ghost use Rattle.components.specs.Settled.{step-in};
-ghost use Rattle.planner.specs.Members.{member-at, Clear, RowsOf, MembersIn, Standing, EndsOf, Listed, Worked, EdgesIn};
+ghost use Rattle.planner.specs.Members.{member-at, Clear, RowsOf, MembersIn, Standing, EndsOf, OffsetsOf, Listed, Worked, EdgesIn};
 use board::Bundle;
 use board::Bundles;
 use board::Edges;
@@ -145,13 +145,14 @@ fn reaches(
     }
 }
 
-// The same, the corridors worked out.
+// The same, the corridors worked out of the depth offsets.
 pub fn reach_bundles(
     o: Options,
     nodes: Nodes,
     ports: Ports,
     bundles: Bundles,
     members: Members,
+    offsets: Offsets,
     points: &[f64],
     starts: &[usize; 256],
     counts: &[usize; 256],
@@ -161,6 +162,7 @@ pub fn reach_bundles(
     requires { ⌜ Sound nodes ports bundles members × MembersIn members (now edges) (now lanes) ⌝ }
     requires { ⌜ Inside (now points) (now starts) (now counts) 256 ⌝ }
     requires { ⌜ (length (now starts) ≡ 256) × (length (now counts) ≡ 256) ⌝ }
+    requires { ⌜ OffsetsOf o nodes ports bundles members (offsets .rows) ⌝ }
     ensures told { λ r. ⌜ ((table : List Edge) (given : List Route) → Windowed (board-of o nodes ports table bundles members) given (now (points .entry)) (now (starts .entry)) (now (counts .entry)) → AllTell (board-of o nodes ports table bundles members) given (now (points .entry)) (now (starts .entry)) (now (counts .entry)) (rail-depth o) (sheet-pitch o) r) ⌝ }
     ensures same { λ r. ⌜ Listed r bundles ⌝ }
 {
@@ -168,7 +170,6 @@ pub fn reach_bundles(
     let mut in_xs = [0.0; 256];
     let mut out_marks = [false; 256];
     let mut out_xs = [0.0; 256];
-    let offsets = plan::corridor_depth_offsets(o, nodes, ports, bundles, members);
     let ends = bundle_ends(nodes, ports, bundles);
     plan::fallback_corridors_by_edge(
         Role::Input,
@@ -272,7 +273,8 @@ fn plan_reached(
     }
 }
 
-// An x or none for each bundle, with the visits left; or that the plan is refused.
+// An x or none for each bundle, with the visits left; or that the plan is refused. The depth offsets come
+// from the caller, who needs them for the sheet too.
 pub fn plan_interior_collectors(
     o: Options,
     nodes: Nodes,
@@ -280,6 +282,7 @@ pub fn plan_interior_collectors(
     table: Edges,
     bundles: Bundles,
     members: Members,
+    offsets: Offsets,
     points: &[f64],
     separate: bool,
     granted: TapVisits,
@@ -288,6 +291,7 @@ pub fn plan_interior_collectors(
 ) -> Step
     requires { ⌜ Sound nodes ports bundles members × RoutesIn (now points) table members ⌝ }
     requires { ⌜ (4096 < length (now xs)) × (length (now xs) ≤ length (now scratch)) ⌝ }
+    requires { ⌜ OffsetsOf o nodes ports bundles members (offsets .rows) ⌝ }
     ensures { λ r. ⌜ step-in (bundles .count) r ≡ plan-of (board-of o nodes ports (take (table .count) (table .rows)) bundles members) (given-routes (now (points .entry)) table) separate (granted .0) ⌝ }
 {
     let mut starts = [0; 256];
@@ -308,6 +312,7 @@ pub fn plan_interior_collectors(
         ports,
         bundles,
         members,
+        offsets,
         points,
         &starts,
         &counts,

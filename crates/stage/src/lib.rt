@@ -73,6 +73,7 @@ fn draw_in(
     requires { ⌜ Lent j (now edges) (now lanes) (now taps) (now points) (now counts) (now mask) (now scratch) ⌝ }
     ensures { λ r. ⌜ Writes (now (answer .entry)) (now (answer .exit)) r (after-plan (job-in j (now (given .entry))) (planned (job-in j (now (given .entry))))) ⌝ }
 {
+    let offsets = plan::corridor_depth_offsets(j.options, j.nodes, j.ports, j.bundles, j.members);
     let s = planner::plan_interior_collectors(
         j.options,
         j.nodes,
@@ -80,6 +81,7 @@ fn draw_in(
         j.edges,
         j.bundles,
         j.members,
+        offsets,
         given,
         j.flags.separates_collectors,
         TapVisits(j.grants.tap_visits),
@@ -92,7 +94,6 @@ fn draw_in(
     let plan = s.plan;
     let left = plan.left;
     let rows = plan.rows;
-    let offsets = plan::corridor_depth_offsets(j.options, j.nodes, j.ports, j.bundles, j.members);
     let d = turns::draw_sheet(
         j.options,
         j.flags.permits_crossings,

@@ -49,11 +49,14 @@ member-rows-requires c κs =
     let s = c .before .before .before .before .before .before .before .before .before in
     ((s .pre .0 .1 .edges-few, s .pre .0 .0 .members-few), (s .pre .0 .1 .members-on, (laws.clear, laws.clear, refl, refl)))
 
+corridor-depth-offsets-requires : tie.Need-corridor-depth-offsets-requires
+corridor-depth-offsets-requires c κs = search needs
+
 reach-bundles-requires : tie.Need-reach-bundles-requires
 reach-bundles-requires c κs =
-    let s = c .before .before .before .before .before .before .before .before .before .before .before .before .before .before .before .before .before .before in
-    let w = c .before .before .before .before .before .before .before .before .member-rows .ensures in
-    ((s .pre .0 .0, w .told), (inside s _ _ _ _ w 256, (w .starts-long, w .counts-long)))
+    let s = c .before .before .before .before .before .before .before .before .before .before .before .before .before .before .before .before .before .before .before in
+    let w = c .before .before .before .before .before .before .before .before .before .member-rows .ensures in
+    ((s .pre .0 .0, w .told), (inside s _ _ _ _ w 256, ((w .starts-long, w .counts-long), c .before .before .before .before .corridor-depth-offsets .ensures)))
 
 boundary-bundle-rail-depth-requires : tie.Need-boundary-bundle-rail-depth-requires
 boundary-bundle-rail-depth-requires c κs = search needs
@@ -69,8 +72,8 @@ slice-aggregate-put-reached-2 c = search needs
 
 put-reached-requires : tie.Need-put-reached-requires
 put-reached-requires c κs =
-    let s = c .before .before .before .before .before .before .before .before .before .before .before .before .before .before .before .before .before .before .before .before .before .before .before .before .before .before .before in
-    let w = c .before .before .before .before .before .before .before .before .before .before .before .before .before .before .before .before .before .member-rows .ensures in
+    let s = c .before .before .before .before .before .before .before .before .before .before .before .before .before .before .before .before .before .before .before .before .before .before .before .before .before .before .before .before in
+    let w = c .before .before .before .before .before .before .before .before .before .before .before .before .before .before .before .before .before .before .member-rows .ensures in
     let t = c .before .before .before .before .before .before .before .before .reach-bundles in
     (record { paired = w .starts-long ∙ sym (w .counts-long); windows = inside s _ _ _ _ w _; room = s .pre .1 .0; scratch-room = s .pre .1 .1 }, among s _ _ _ _ w (t .result) (t .ensures .1))
 
@@ -95,6 +98,7 @@ put-routed-spec =
     slice-aggregate-member-rows-3
     slice-aggregate-member-rows-4
     member-rows-requires
+    corridor-depth-offsets-requires
     reach-bundles-requires
     boundary-bundle-rail-depth-requires
     pitch-of-sheet-requires

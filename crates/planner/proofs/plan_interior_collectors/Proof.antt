@@ -68,7 +68,7 @@ reach-bundles-requires : tie.Need-reach-bundles-requires
 reach-bundles-requires c κs =
     let s = c .before .before .before .before .before .before .before .before .before .before .before .before .before .before .before .before in
     let w = c .before .before .before .before .before .before .before .before .member-rows .ensures in
-    ((s .pre .0 .0, w .told), (inside s _ _ _ _ w 256, (w .starts-long, w .counts-long)))
+    ((s .pre .0 .0, w .told), (inside s _ _ _ _ w 256, ((w .starts-long, w .counts-long), s .pre .1 .1)))
 
 boundary-bundle-rail-depth-requires : tie.Need-boundary-bundle-rail-depth-requires
 boundary-bundle-rail-depth-requires c κs = search needs
@@ -91,7 +91,7 @@ plan-reached-requires c κs =
     let a = s .args in
     let w = c .before .before .before .before .before .before .before .before .before .before .before .before .before .before .before .before .member-rows .ensures in
     let t = c .before .before .before .before .before .before .before .reach-bundles in (
-      record { paired = w .starts-long ∙ sym (w .counts-long); windows = inside s _ _ _ _ w _; room = s .pre .1 .0; scratch-room = s .pre .1 .1 },
+      record { paired = w .starts-long ∙ sym (w .counts-long); windows = inside s _ _ _ _ w _; room = s .pre .1 .0 .0; scratch-room = s .pre .1 .0 .1 },
       (
         (among s _ _ _ _ w (t .result) (t .ensures .1), omega (arith, w .starts-long, w .edges-long)),
         record {

@@ -30,11 +30,8 @@ edges-below s = let a = s .args in laws.edges-below (a .nodes) (a .ports) (a .bu
 lanes-below : (s : tie.Start) → AllBelow (s .args .lanes .now) (s .args .bundles)
 lanes-below s = let a = s .args in laws.lanes-below (a .nodes) (a .ports) (a .bundles) (a .members) (s .pre .0 .0) (a .edges .now) (a .lanes .now) (s .pre .0 .1)
 
-corridor-depth-offsets-requires : tie.Need-corridor-depth-offsets-requires
-corridor-depth-offsets-requires c κs = c .before .pre .0 .0
-
 bundle-ends-requires : tie.Need-bundle-ends-requires
-bundle-ends-requires c κs = let s = c .before .before in laws.standing (s .args .nodes) (s .args .ports) (s .args .bundles) (s .args .members) (s .pre .0 .0)
+bundle-ends-requires c κs = let s = c .before in laws.standing (s .args .nodes) (s .args .ports) (s .args .bundles) (s .args .members) (s .pre .0 .0)
 
 slice-aggregate-fallback-corridors-by-edge : tie.Need-slice-aggregate-fallback-corridors-by-edge
 slice-aggregate-fallback-corridors-by-edge c = search needs
@@ -43,7 +40,7 @@ slice-aggregate-fallback-corridors-by-edge-2 : tie.Need-slice-aggregate-fallback
 slice-aggregate-fallback-corridors-by-edge-2 c = search needs
 
 fallback-corridors-by-edge-requires : tie.Need-fallback-corridors-by-edge-requires
-fallback-corridors-by-edge-requires c κs = let s = c .before .before .before .before .before in ((edges-below s, lanes-below s), (refl, refl))
+fallback-corridors-by-edge-requires c κs = let s = c .before .before .before .before in ((edges-below s, lanes-below s), (refl, refl))
 
 slice-aggregate-fallback-corridors-by-edge-3 : tie.Need-slice-aggregate-fallback-corridors-by-edge-3
 slice-aggregate-fallback-corridors-by-edge-3 c = search needs
@@ -52,17 +49,16 @@ slice-aggregate-fallback-corridors-by-edge-4 : tie.Need-slice-aggregate-fallback
 slice-aggregate-fallback-corridors-by-edge-4 c = search needs
 
 fallback-corridors-by-edge-requires-2 : tie.Need-fallback-corridors-by-edge-requires-2
-fallback-corridors-by-edge-requires-2 c κs = let s = c .before .before .before .before .before .before .before .before .before .before in ((edges-below s, lanes-below s), (refl, refl))
+fallback-corridors-by-edge-requires-2 c κs = let s = c .before .before .before .before .before .before .before .before .before in ((edges-below s, lanes-below s), (refl, refl))
 
 reaches-requires : tie.Need-reaches-requires
-reaches-requires c κs = let s = c .before .before .before .before .before .before .before .before .before .before .before .before .before .before .before .before .before in ((edges-below s, s .pre .1 .0), (s .pre .1 .1 .0, s .pre .1 .1 .1))
+reaches-requires c κs = let s = c .before .before .before .before .before .before .before .before .before .before .before .before .before .before .before .before in ((edges-below s, s .pre .1 .0), s .pre .1 .1 .0)
 
 returns : tie.Need-returns
 unfolding ofBits
 returns c =
-    let s = c .before .before .before .before .before .before .before .before .before .before .before .before .before .before .before .before .before .before in
+    let s = c .before .before .before .before .before .before .before .before .before .before .before .before .before .before .before .before .before in
     let a = s .args in
-    let d = c .before .before .before .before .before .before .before .before .before .before .before .before .before .before .before .before .corridor-depth-offsets in
     let e = c .before .before .before .before .before .before .before .before .before .before .before .before .before .before .before .bundle-ends in
     let i = c .before .before .before .before .before .before .before .before .before .before .before .before .fallback-corridors-by-edge in
     let o = c .before .before .before .before .before .before .before .fallback-corridors-by-edge2 in
@@ -72,8 +68,8 @@ returns c =
           let rowed = laws.rowed (a .nodes) (a .ports) (a .bundles) (a .members) (s .pre .0 .0) (a .edges .now) (a .lanes .now) (s .pre .0 .1) (a .o) table (members-in s) in
           let ended = laws.ended (a .nodes) (a .ports) (a .bundles) (a .members) (s .pre .0 .0) (a .edges .now) (a .lanes .now) (s .pre .0 .1) (a .o) table (members-in s) (e .result .rows) (e .ensures) in
           r .0 b given (a .lanes .now) ended rowed w
-          (record { are = λ n. i .ensures b n rowed ended ∙ none-marked 256 (replicate 256 zero64) n _ ∙ ap (λ (l : List Float). corridor-from b Input n (b .bundles) l) (d .ensures table) })
-          (record { are = λ n. o .ensures b n rowed ended ∙ none-marked 256 (replicate 256 zero64) n _ ∙ ap (λ (l : List Float). corridor-from b Output n (b .bundles) l) (d .ensures table) }),
+          (record { are = λ n. i .ensures b n rowed ended ∙ none-marked 256 (replicate 256 zero64) n _ ∙ ap (λ (l : List Float). corridor-from b Input n (b .bundles) l) (s .pre .1 .1 .1 table) })
+          (record { are = λ n. o .ensures b n rowed ended ∙ none-marked 256 (replicate 256 zero64) n _ ∙ ap (λ (l : List Float). corridor-from b Output n (b .bundles) l) (s .pre .1 .1 .1 table) }),
       r .1,
     )
 
@@ -81,7 +77,6 @@ pub reach-bundles-spec : {M : Type 1} → statement M
 reach-bundles-spec =
     tie.close
     (tie.spec
-    corridor-depth-offsets-requires
     bundle-ends-requires
     slice-aggregate-fallback-corridors-by-edge
     slice-aggregate-fallback-corridors-by-edge-2

@@ -57,14 +57,20 @@ on-sheet c =
 windows : (c : tie.After-known-told2) → Windows (drawn-by c .count) (drawn-by c .rows) (start c .args .j .members .count)
 windows c = answers.windows (start c .args .j) (edges-by c) (drawn-by c) (points-by c) (counts-by c) (taps-by c) (on-sheet c) (sizes (start c))
 
+corridor-depth-offsets-requires : tie.Need-corridor-depth-offsets-requires
+corridor-depth-offsets-requires c κs =
+    let s = c .before .before .before .before .before .before .before .before .before .before .before in
+    let a = s .args in
+    tables-sound (a .j) (a .given .now) (s .pre .0 .0) (sizes s)
+
 plan-interior-collectors-requires : tie.Need-plan-interior-collectors-requires
 plan-interior-collectors-requires c κs =
-    let s = c .before .before .before .before .before .before .before .before .before .before .before .before .before in
+    let s = c .before .before .before .before .before .before .before .before .before .before .before .before .before .before in
     let a = s .args in
-    ((tables-sound (a .j) (a .given .now) (s .pre .0 .0) (sizes s), routes-in (a .j) (a .given .now) (s .pre .0 .0) (sizes s)), s .pre .1 .1 .0)
+    ((tables-sound (a .j) (a .given .now) (s .pre .0 .0) (sizes s), routes-in (a .j) (a .given .now) (s .pre .0 .0) (sizes s)), (s .pre .1 .1 .0, c .before .before .corridor-depth-offsets .ensures))
 
 write-notice-requires : tie.Need-write-notice-requires
-write-notice-requires c κs = c .before .before .before .before .before .before .before .before .before .before .before .before .before .before .before .before .before .before .before .before .pre .0 .1
+write-notice-requires c κs = c .before .before .before .before .before .before .before .before .before .before .before .before .before .before .before .before .before .before .before .before .before .pre .0 .1
 
 same-length : tie.Need-same-length
 same-length c = search needs
@@ -77,17 +83,11 @@ same-length-3 c = search needs
 
 returns : tie.Need-returns
 returns c =
-    let s = c .before .before .before .before .before .before .before .before .before .before .before .before .before .before .before .before .before .before .before .before .before .before .before in
+    let s = c .before .before .before .before .before .before .before .before .before .before .before .before .before .before .before .before .before .before .before .before .before .before .before .before in
     let a = s .args in
     let p = c .before .before .before .before .before .before .before .before .before .plan-interior-collectors in
     let w = c .before .before .write-notice .ensures in
     laws.notice-writes _ _ _ 13 _ (laws.plan-refused (a .j) (a .given .now) (s .pre .0 .0) (sizes s) (p .result) (p .ensures) (c .before .before .before .before .if1 .taken)) (w .0) (w .1)
-
-corridor-depth-offsets-requires : tie.Need-corridor-depth-offsets-requires
-corridor-depth-offsets-requires c κs =
-    let s = c .before .before .before .before .before .before .before .before .before .before .before .before .before .before .before .before .before .before .before .before .before .before in
-    let a = s .args in
-    tables-sound (a .j) (a .given .now) (s .pre .0 .0) (sizes s)
 
 draw-sheet-requires : tie.Need-draw-sheet-requires
 draw-sheet-requires c κs =
@@ -121,8 +121,8 @@ write-answer-requires : tie.Need-write-answer-requires
 write-answer-requires c κs =
     let s = c .before .before .before .before .before .before .before .before .before .before .before .before .before .before .before .before .before .before .before .before .before .before .before .before .before .before .before .before .before .before .before .before .before .before .before .before .before .before .before .before .before .before .before .before .before .before .before .before .before .before .before .before .before .before .before .before .before .before .before .before .before in
     let a = s .args in
-    let p = c .before .before .before .before .before .before .before .before .before .before .before .before .before .before .before .before .before .before .before .before .before .before .before .before .before .before .before .before .before .before .before .before .before .before .before .before .before .before .before .before .before .before .before .before .before .before .before .plan-interior-collectors in
-    let o = c .before .before .before .before .before .before .before .before .before .before .before .before .before .before .before .before .before .before .before .before .before .before .before .before .before .before .before .before .before .before .before .before .before .before .before .before .before .before .corridor-depth-offsets in
+    let p = c .before .before .before .before .before .before .before .before .before .before .before .before .before .before .before .before .before .before .before .before .before .before .before .before .before .before .before .before .before .before .before .before .before .before .before .before .before .before .before .before .before .before .before .before .before .before .plan-interior-collectors in
+    let o = c .before .before .before .before .before .before .before .before .before .before .before .before .before .before .before .before .before .before .before .before .before .before .before .before .before .before .before .before .before .before .before .before .before .before .before .before .before .before .before .before .before .before .before .before .before .before .before .before .before .corridor-depth-offsets in
     let d = c .before .before .before .before .before .before .before .before .before .before .before .before .before .before .before .before .before .before .before .before .before .before .before .before .before .before .before .before .before .before .draw-sheet in
     let n = c .before .before .before .before .before .before .before .before .before .normalize-layout in
     let t = c .before .before .before .tap-rows in
@@ -137,14 +137,14 @@ write-answer-requires c κs =
       bundles = omega (arith, on .all-drawn, on .fits .bundles, n .ensures .1 .1 .0);
       taps = omega (arith, t .ensures .count-is, on .fits .members);
       windows = subst (Windows (n .result .drawn .count) (n .result .drawn .rows)) (sym (t .ensures .count-is)) (windows-kept (a .j .members .count) (drawn-by m) (n .result .drawn) (n .ensures .1 .1 .1) (n .ensures .1 .1 .0) (windows m));
-      room-for-it = laws.sheet-room _ _ _ (laws.all-told (a .j) (a .given .now) (s .pre .0 .0) (sizes s) (p .result) (p .ensures) (c .before .before .before .before .before .before .before .before .before .before .before .before .before .before .before .before .before .before .before .before .before .before .before .before .before .before .before .before .before .before .before .before .before .before .before .before .before .before .before .before .before .before .if1 .left) (take (a .j .bundles .count) (o .result .rows)) (d .result .verdict) (edges-by m) (drawn-by m) (points-by m) (counts-by m) (taps-by m) (o .ensures (take (a .j .edges .count) (a .j .edges .rows))) (d .ensures .0) _ (c .before .before .before .before .before .before .before .before .before .before .before .before .before .before .v2 .given .1) on (n .result) (n .last .1 .1 .0) (n .last .1 .1 .1 .1 .0) (t .result) (t .ensures) (n .ensures .0 (edges-by m)) (n .ensures .1 .1 .0) (n .ensures .1 .1 .1)) (s .pre .1 .0);
+      room-for-it = laws.sheet-room _ _ _ (laws.all-told (a .j) (a .given .now) (s .pre .0 .0) (sizes s) (p .result) (p .ensures) (c .before .before .before .before .before .before .before .before .before .before .before .before .before .before .before .before .before .before .before .before .before .before .before .before .before .before .before .before .before .before .before .before .before .before .before .before .before .before .before .before .before .if1 .left) (take (a .j .bundles .count) (o .result .rows)) (d .result .verdict) (edges-by m) (drawn-by m) (points-by m) (counts-by m) (taps-by m) (o .ensures (take (a .j .edges .count) (a .j .edges .rows))) (d .ensures .0) _ (c .before .before .before .before .before .before .before .before .before .before .before .before .before .before .v2 .given .1) on (n .result) (n .last .1 .1 .0) (n .last .1 .1 .1 .1 .0) (t .result) (t .ensures) (n .ensures .0 (edges-by m)) (n .ensures .1 .1 .0) (n .ensures .1 .1 .1)) (s .pre .1 .0);
     }
 
 same-length-4 : tie.Need-same-length-4
-same-length-4 c = let k = c .before .before .before .before .before .before .before .before .before .before .before .before .before .before .before .before .before .before .before .before .before .before .before .before .before .before .before .before .before .before .before .before .before .before .before .before .before .before .plan-interior-collectors .kept .1 .1 .1 .1 .1 .1 .1 .1 .1 .0 in omega (arith, k)
+same-length-4 c = let k = c .before .before .before .before .before .before .before .before .before .before .before .before .before .before .before .before .before .before .before .before .before .before .before .before .before .before .before .before .before .before .before .before .before .before .before .before .before .plan-interior-collectors .kept .1 .1 .1 .1 .1 .1 .1 .1 .1 .1 .0 in omega (arith, k)
 
 same-length-5 : tie.Need-same-length-5
-same-length-5 c = let k = c .before .before .before .before .before .before .before .before .before .before .before .before .before .before .before .before .before .before .before .before .before .before .before .before .before .before .before .before .before .before .before .before .before .before .before .before .before .before .plan-interior-collectors .kept .1 .1 .1 .1 .1 .1 .1 .1 .1 .1 .0 in omega (arith, k)
+same-length-5 c = let k = c .before .before .before .before .before .before .before .before .before .before .before .before .before .before .before .before .before .before .before .before .before .before .before .before .before .before .before .before .before .before .before .before .before .before .before .before .before .plan-interior-collectors .kept .1 .1 .1 .1 .1 .1 .1 .1 .1 .1 .1 .0 in omega (arith, k)
 
 same-length-6 : tie.Need-same-length-6
 same-length-6 c = search needs
@@ -174,17 +174,17 @@ returns-2 : tie.Need-returns-2
 returns-2 c =
     let s = c .before .before .before .before .before .before .before .before .before .before .before .before .before .before .before .before .before .before .before .before .before .before .before .before .before .before .before .before .before .before .before .before .before .before .before .before .before .before .before .before .before .before .before .before .before .before .before .before .before .before .before .before in
     let a = s .args in
-    let p = c .before .before .before .before .before .before .before .before .before .before .before .before .before .before .before .before .before .before .before .before .before .before .before .before .before .before .before .before .before .before .before .before .before .before .before .before .before .before .plan-interior-collectors in
-    let o = c .before .before .before .before .before .before .before .before .before .before .before .before .before .before .before .before .before .before .before .before .before .before .before .before .before .before .before .before .before .corridor-depth-offsets in
+    let p = c .before .before .before .before .before .before .before .before .before .before .before .before .before .before .before .before .before .before .before .before .before .before .before .before .before .before .before .before .before .before .before .before .before .before .before .before .before .plan-interior-collectors in
+    let o = c .before .before .before .before .before .before .before .before .before .before .before .before .before .before .before .before .before .before .before .before .before .before .before .before .before .before .before .before .before .before .before .before .before .before .before .before .before .before .before .before .corridor-depth-offsets in
     let d = c .before .before .before .before .before .before .before .before .before .before .before .before .before .before .before .before .before .before .before .before .before .draw-sheet in
     let w = c .before .before .write-notice2 .ensures in
-    laws.notice-writes _ _ _ _ _ (laws.all-refused (a .j) (a .given .now) (s .pre .0 .0) (sizes s) (p .result) (p .ensures) (c .before .before .before .before .before .before .before .before .before .before .before .before .before .before .before .before .before .before .before .before .before .before .before .before .before .before .before .before .before .before .before .before .before .if1 .left) (take (a .j .bundles .count) (o .result .rows)) (d .result .verdict) (d .last .1 .1 .1 .1 .1 .1 .1 .1 .1 .1 .0) (d .result .drawn) (d .last .1 .1 .1 .1 .1 .1 .1 .1 .1 .1 .1 .1 .1 .0) (d .last .1 .1 .1 .1 .1 .1 .1 .1 .1 .1 .1 .1 .1 .1 .0) (d .last .1 .1 .1 .1 .1 .1 .1 .1 .1 .1 .1 .1 .0) (o .ensures (take (a .j .edges .count) (a .j .edges .rows))) (d .ensures .0) _ _ (c .before .before .before .before .before .v .given .1)) (w .0) (w .1)
+    laws.notice-writes _ _ _ _ _ (laws.all-refused (a .j) (a .given .now) (s .pre .0 .0) (sizes s) (p .result) (p .ensures) (c .before .before .before .before .before .before .before .before .before .before .before .before .before .before .before .before .before .before .before .before .before .before .before .before .before .before .before .before .before .before .before .before .if1 .left) (take (a .j .bundles .count) (o .result .rows)) (d .result .verdict) (d .last .1 .1 .1 .1 .1 .1 .1 .1 .1 .1 .0) (d .result .drawn) (d .last .1 .1 .1 .1 .1 .1 .1 .1 .1 .1 .1 .1 .1 .0) (d .last .1 .1 .1 .1 .1 .1 .1 .1 .1 .1 .1 .1 .1 .1 .0) (d .last .1 .1 .1 .1 .1 .1 .1 .1 .1 .1 .1 .1 .0) (o .ensures (take (a .j .edges .count) (a .j .edges .rows))) (d .ensures .0) _ _ (c .before .before .before .before .before .v .given .1)) (w .0) (w .1)
 
 same-length-14 : tie.Need-same-length-14
-same-length-14 c = let k = c .before .before .before .before .before .before .before .before .before .before .before .before .before .before .before .before .before .before .before .before .before .before .before .before .before .before .before .before .before .before .before .before .before .before .before .before .before .before .before .before .before .before .before .before .before .before .before .before .before .before .plan-interior-collectors .kept .1 .1 .1 .1 .1 .1 .1 .1 .1 .0 in omega (arith, k)
+same-length-14 c = let k = c .before .before .before .before .before .before .before .before .before .before .before .before .before .before .before .before .before .before .before .before .before .before .before .before .before .before .before .before .before .before .before .before .before .before .before .before .before .before .before .before .before .before .before .before .before .before .before .before .before .plan-interior-collectors .kept .1 .1 .1 .1 .1 .1 .1 .1 .1 .1 .0 in omega (arith, k)
 
 same-length-15 : tie.Need-same-length-15
-same-length-15 c = let k = c .before .before .before .before .before .before .before .before .before .before .before .before .before .before .before .before .before .before .before .before .before .before .before .before .before .before .before .before .before .before .before .before .before .before .before .before .before .before .before .before .before .before .before .before .before .before .before .before .before .before .plan-interior-collectors .kept .1 .1 .1 .1 .1 .1 .1 .1 .1 .1 .0 in omega (arith, k)
+same-length-15 c = let k = c .before .before .before .before .before .before .before .before .before .before .before .before .before .before .before .before .before .before .before .before .before .before .before .before .before .before .before .before .before .before .before .before .before .before .before .before .before .before .before .before .before .before .before .before .before .before .before .before .before .plan-interior-collectors .kept .1 .1 .1 .1 .1 .1 .1 .1 .1 .1 .1 .0 in omega (arith, k)
 
 same-length-16 : tie.Need-same-length-16
 same-length-16 c = omega (arith, c .before .before .before .before .before .before .before .before .before .before .before .before .before .before .before .before .before .before .before .before .before .before .before .before .before .before .before .before .before .before .before .before .before .draw-sheet .kept .1 .1 .1 .1 .1 .1 .1 .1 .1 .1 .0)
@@ -214,27 +214,27 @@ returns-3 : tie.Need-returns-3
 returns-3 c =
     let s = c .before .before .before .before .before .before .before .before .before .before .before .before .before .before .before .before .before .before .before .before .before .before .before .before .before .before .before .before .before .before .before .before .before .before .before .before .before .before .before .before .before .before .before .before .before .before .before .before .before .before .before .before .before .before .before .before .before .before .before .before .before .before .before .before in
     let a = s .args in
-    let p = c .before .before .before .before .before .before .before .before .before .before .before .before .before .before .before .before .before .before .before .before .before .before .before .before .before .before .before .before .before .before .before .before .before .before .before .before .before .before .before .before .before .before .before .before .before .before .before .before .before .before .plan-interior-collectors in
-    let o = c .before .before .before .before .before .before .before .before .before .before .before .before .before .before .before .before .before .before .before .before .before .before .before .before .before .before .before .before .before .before .before .before .before .before .before .before .before .before .before .before .before .corridor-depth-offsets in
+    let p = c .before .before .before .before .before .before .before .before .before .before .before .before .before .before .before .before .before .before .before .before .before .before .before .before .before .before .before .before .before .before .before .before .before .before .before .before .before .before .before .before .before .before .before .before .before .before .before .before .before .plan-interior-collectors in
+    let o = c .before .before .before .before .before .before .before .before .before .before .before .before .before .before .before .before .before .before .before .before .before .before .before .before .before .before .before .before .before .before .before .before .before .before .before .before .before .before .before .before .before .before .before .before .before .before .before .before .before .before .before .before .corridor-depth-offsets in
     let d = c .before .before .before .before .before .before .before .before .before .before .before .before .before .before .before .before .before .before .before .before .before .before .before .before .before .before .before .before .before .before .before .before .before .draw-sheet in
     let n = c .before .before .before .before .before .before .before .before .before .before .before .before .normalize-layout in
     let t = c .before .before .before .before .before .before .tap-rows in
     let m = c .before .before .before .before .before .before .before .before .before .before .before .before .before .before .before .before in
     let on = on-sheet m in
     let w = c .before .before .write-answer .ensures in
-    laws.writes-as _ _ _ _ _ (sym (laws.all-told (a .j) (a .given .now) (s .pre .0 .0) (sizes s) (p .result) (p .ensures) (c .before .before .before .before .before .before .before .before .before .before .before .before .before .before .before .before .before .before .before .before .before .before .before .before .before .before .before .before .before .before .before .before .before .before .before .before .before .before .before .before .before .before .before .before .before .if1 .left) (take (a .j .bundles .count) (o .result .rows)) (d .result .verdict) (edges-by m) (drawn-by m) (points-by m) (counts-by m) (taps-by m) (o .ensures (take (a .j .edges .count) (a .j .edges .rows))) (d .ensures .0) _ (c .before .before .before .before .before .before .before .before .before .before .before .before .before .before .before .before .before .v2 .given .1) on (n .result) (n .last .1 .1 .0) (n .last .1 .1 .1 .1 .0) (t .result) (t .ensures) (n .ensures .0 (edges-by m)) (n .ensures .1 .1 .0) (n .ensures .1 .1 .1))) (answers.answer-writes _ _ _ _ _ refl (w .0) (w .1))
+    laws.writes-as _ _ _ _ _ (sym (laws.all-told (a .j) (a .given .now) (s .pre .0 .0) (sizes s) (p .result) (p .ensures) (c .before .before .before .before .before .before .before .before .before .before .before .before .before .before .before .before .before .before .before .before .before .before .before .before .before .before .before .before .before .before .before .before .before .before .before .before .before .before .before .before .before .before .before .before .if1 .left) (take (a .j .bundles .count) (o .result .rows)) (d .result .verdict) (edges-by m) (drawn-by m) (points-by m) (counts-by m) (taps-by m) (o .ensures (take (a .j .edges .count) (a .j .edges .rows))) (d .ensures .0) _ (c .before .before .before .before .before .before .before .before .before .before .before .before .before .before .before .before .before .v2 .given .1) on (n .result) (n .last .1 .1 .0) (n .last .1 .1 .1 .1 .0) (t .result) (t .ensures) (n .ensures .0 (edges-by m)) (n .ensures .1 .1 .0) (n .ensures .1 .1 .1))) (answers.answer-writes _ _ _ _ _ refl (w .0) (w .1))
 
 pub draw-in-spec : {M : Type 1} → statement M
 draw-in-spec =
     tie.close
     (tie.spec
+    corridor-depth-offsets-requires
     plan-interior-collectors-requires
     write-notice-requires
     same-length
     same-length-2
     same-length-3
     returns
-    corridor-depth-offsets-requires
     draw-sheet-requires
     enum-known-v
     write-notice-requires-2
