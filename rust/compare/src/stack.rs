@@ -8,7 +8,7 @@ use oracle::stage::BUFFER;
 use crate::outside::{Fenced, PAGE, stage_on_stack};
 
 /// Pages of stack that are enough for every job: what `stack` has measured, rounded up.
-pub const PAGES: usize = 171;
+pub const PAGES: usize = 135;
 /// More than the stage needs, to measure on.
 const MEASURED_ON: usize = 256;
 const PATTERN: u8 = 0xa5;
