@@ -171,7 +171,7 @@ pub fn rewrite_member_routes(
     while i < count {
         let e = edges[first + i];
         let depth = corridor_depth(offset, pitch, lanes[first + i]);
-        let tap = geometry::point_at(taps, first + i);
+        let tap = route_views::point_at(taps, first + i);
         if !rewrite_member(
             inside,
             role,
@@ -229,7 +229,7 @@ fn trunk_taps(
                 return false;
             }
             Crossing::On(k, p) => {
-                geometry::put_point(&mut taps[..], first + i, p);
+                route_views::put_point(&mut taps[..], first + i, p);
             }
         }
         i += 1;
@@ -247,7 +247,7 @@ fn tap_reach(y: f64, taps: &[f64], first: usize, count: usize) -> Reach
     let mut high = y;
     let mut i: usize = 0;
     while i < count {
-        let p = geometry::point_at(taps, first + i);
+        let p = route_views::point_at(taps, first + i);
         low = binary64::min(low, p.y);
         high = binary64::max(high, p.y);
         i += 1;
@@ -267,7 +267,7 @@ fn taps_are_at(x: f64, taps: &[f64], first: usize, count: usize) -> bool
 {
     let mut i: usize = 0;
     while i < count {
-        let p = geometry::point_at(taps, first + i);
+        let p = route_views::point_at(taps, first + i);
         if !(p.x == x) {
             return false;
         }
@@ -397,7 +397,7 @@ fn rail_taps(
     let mut i: usize = 0;
     while i < count {
         let p = rail_tap(end, middle, pitch, lanes[first + i]);
-        geometry::put_point(&mut taps[..], first + i, p);
+        route_views::put_point(&mut taps[..], first + i, p);
         i += 1;
     }
 }
@@ -411,8 +411,8 @@ fn rail_reach(y: f64, taps: &[f64], first: usize, count: usize) -> Reach
     if count == 0 {
         return Reach { low: y, high: y };
     }
-    let a = geometry::point_at(taps, first);
-    let b = geometry::point_at(taps, first + count - 1);
+    let a = route_views::point_at(taps, first);
+    let b = route_views::point_at(taps, first + count - 1);
     let low = binary64::min(a.y, y);
     let high = binary64::max(b.y, y);
     Reach {
@@ -563,10 +563,10 @@ pub fn verify_bundle(
     ensures { λ r. ⌜ r ≡ then-walk (walk 12 (over-routes (inside-route (now (boxes .entry)) (now (ends .entry))) (among (members-from (now (edges .entry)) [] (new .first) (new .count))) (routes-of (now (points .entry)) (now (counts .entry))) 0) (visits .0)) (λ k. walk 11 (contact-tests o allow (drawn-of (now (edges .entry)) (now (taps .entry)) new) (among (members-from (now (edges .entry)) [] (new .first) (new .count))) (map (drawn-of (now (edges .entry)) (now (taps .entry))) (take (priors .count) (priors .rows))) (routes-of (now (points .entry)) (now (counts .entry)))) k) ⌝ }
 {
     mark_members(edges, new.first, new.count, &mut mask[..]);
-    let v = checks::interiors_paid(visits, boxes, ends, &mask[..], points, counts);
+    let v = paid_checks::interiors_paid(visits, boxes, ends, &mask[..], points, counts);
     match v {
         Verdict::Refused(r, p) => Verdict::Refused(r, p),
-        Verdict::Clean(q) => checks::contacts_paid(
+        Verdict::Clean(q) => paid_checks::contacts_paid(
             q,
             o,
             allow,

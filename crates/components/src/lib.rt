@@ -62,7 +62,7 @@ fn of_role(role: Role, t: Ranges, order: &[usize], n: usize) -> Places
         let u = s.bundle;
         let its = u.role;
         k += 1;
-        if plan::is_same_role(its, role) {
+        if plan_numbers::is_same_role(its, role) {
             rows[count] = i;
             count += 1;
         }
@@ -175,7 +175,7 @@ fn input_split(pitch: f64, low: f64, limit: f64, deepest: f64, earliest: f64) ->
     ensures { λ r. ⌜ r ≡ input-split pitch low limit deepest earliest ⌝ }
 {
     let separate = earliest - pitch;
-    plan::clamp(separate + (deepest - separate) / 2.0, low, limit - pitch)
+    plan_numbers::clamp(separate + (deepest - separate) / 2.0, low, limit - pitch)
 }
 
 // The inputs are split from the outputs if the deepest comes too near to the earliest.
@@ -213,7 +213,7 @@ fn split(
             inputs.desired,
             outputs.desired,
         );
-        let q = plan::search_again(
+        let q = plan_searches::search_again(
             points,
             starts,
             counts,
@@ -268,9 +268,18 @@ fn limited(
     requires { ⌜ Listing (now which) count (t .count) ⌝ }
     ensures { λ r. ⌜ ((b : Board) (given : List Route) (ranges : List Ranged) → Known b given (now (points .entry)) (now (starts .entry)) (now (counts .entry)) rail pitch t ranges → plan-in (t .count) r ≡ limited search-of b given ranges limit (take count (now (which .entry))) (plan-in (t .count) p)) ⌝ }
 {
-    let r = plan::required_output_collector_x(points, starts, counts, pitch, t, which, count, p);
+    let r = plan_outputs::required_output_collector_x(
+        points,
+        starts,
+        counts,
+        pitch,
+        t,
+        which,
+        count,
+        p,
+    );
     if exceeds(r, limit) {
-        return plan::search_again(
+        return plan_searches::search_again(
             points,
             starts,
             counts,
@@ -311,7 +320,7 @@ fn outputs_last(
     requires { ⌜ Listing (now outputs) «output_count» (t .count) ⌝ }
     ensures { λ r. ⌜ ((b : Board) (given : List Route) (ranges : List Ranged) → Known b given (now (points .entry)) (now (starts .entry)) (now (counts .entry)) rail pitch t ranges → plan-in (t .count) r ≡ outputs-last search-of b given ranges (take «input_count» (now (inputs .entry))) (take «output_count» (now (outputs .entry))) (plan-in (t .count) p)) ⌝ }
 {
-    let r = plan::required_output_collector_x(
+    let r = plan_outputs::required_output_collector_x(
         points,
         starts,
         counts,
@@ -321,7 +330,7 @@ fn outputs_last(
         input_count,
         p,
     );
-    plan::search_again(
+    plan_searches::search_again(
         points,
         starts,
         counts,
@@ -545,8 +554,8 @@ fn components(
         let s = ranges.rows[at];
         let b = s.bounds;
         if !seen[at] {
-            if plan::is_found(b) {
-                let w = plan::component(adjacent, n, at, seen);
+            if plan_numbers::is_found(b) {
+                let w = plan_neighbours::component(adjacent, n, at, seen);
                 let order = w.order;
                 seen = w.seen;
                 let step = treat(
@@ -595,7 +604,7 @@ pub fn settle_components(
     ensures { λ r. ⌜ ((b : Board) (given : List Route) → Known b given (now (points .entry)) (now (starts .entry)) (now (counts .entry)) rail pitch t (ranges-in (t .count) ranges) → AllEdges b (now (edges .entry)) ranges (t .count) → step-in (t .count) r ≡ settled b given (passed (t .count) ranges)) ⌝ }
 {
     let n = t.count;
-    let a = plan::adjacency(edges, ranges, n);
+    let a = plan_neighbours::adjacency(edges, ranges, n);
     let adjacent = a.rows;
     let p = initial(ranges, n);
     components(

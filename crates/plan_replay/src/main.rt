@@ -71,7 +71,7 @@ fn put_offsets(j: Job, out: &mut [u8], from: usize) -> usize
 {
     let bundles = j.bundles;
     let n = bundles.count;
-    let t = plan::corridor_depth_offsets(j.options, j.nodes, j.ports, bundles, j.members);
+    let t = plan_depths::corridor_depth_offsets(j.options, j.nodes, j.ports, bundles, j.members);
     let mut at = put_count(&mut out[..], from, n);
     let mut i: usize = 0;
     while i < n {
@@ -112,7 +112,7 @@ fn put_members(
     let mut i: usize = 0;
     while i < n {
         let m = members.rows[first + i];
-        let x = plan::corridor_of(role, in_marks, in_xs, out_marks, out_xs, m.edge);
+        let x = plan_corridors::corridor_of(role, in_marks, in_xs, out_marks, out_xs, m.edge);
         at = put_corridor(&mut out[..], at, x);
         i += 1;
     }
@@ -169,11 +169,17 @@ fn put_corridors(j: Job, out: &mut [u8], at: usize) -> usize
         &mut edges[..],
         &mut lanes[..],
     );
-    let offsets = plan::corridor_depth_offsets(j.options, j.nodes, j.ports, j.bundles, j.members);
+    let offsets = plan_depths::corridor_depth_offsets(
+        j.options,
+        j.nodes,
+        j.ports,
+        j.bundles,
+        j.members,
+    );
     let ends = planner::bundle_ends(j.nodes, j.ports, j.bundles);
     let mut in_marks = [false; 256];
     let mut in_xs = [0.0; 256];
-    plan::fallback_corridors_by_edge(
+    plan_corridors::fallback_corridors_by_edge(
         Role::Input,
         j.options,
         j.bundles,
@@ -186,7 +192,7 @@ fn put_corridors(j: Job, out: &mut [u8], at: usize) -> usize
     );
     let mut out_marks = [false; 256];
     let mut out_xs = [0.0; 256];
-    plan::fallback_corridors_by_edge(
+    plan_corridors::fallback_corridors_by_edge(
         Role::Output,
         j.options,
         j.bundles,
@@ -218,7 +224,7 @@ fn put_all_bounds(
     let mut i: usize = 0;
     while i < n {
         let r = t.rows[i];
-        let b = plan::interior_collector_bounds(r, rail, pitch, lower, upper);
+        let b = plan_bounds::interior_collector_bounds(r, rail, pitch, lower, upper);
         at = put_between(&mut out[..], at, b);
         i += 1;
     }
@@ -227,13 +233,13 @@ fn put_all_bounds(
 
 // What a search says, and the bounds where it found an x.
 fn put_search(out: &mut [u8], at: usize, b: CollectorBounds, o: Outcome) -> usize {
-    if !plan::is_found(b) {
+    if !plan_numbers::is_found(b) {
         return put_mark(&mut out[..], at, 3);
     }
     match o {
         Outcome::Spent => put_mark(&mut out[..], at, 2),
         Outcome::Nothing => put_mark(&mut out[..], at, 0),
-        Outcome::Found(_) => put_between(&mut out[..], at, plan::narrow(b, o)),
+        Outcome::Found(_) => put_between(&mut out[..], at, plan_searches::narrow(b, o)),
     }
 }
 
@@ -261,9 +267,9 @@ fn put_searches(
     let mut i: usize = 0;
     while i < n {
         let r = t.rows[i];
-        let b = plan::interior_collector_bounds(r, rail, pitch, lower, upper);
+        let b = plan_bounds::interior_collector_bounds(r, rail, pitch, lower, upper);
         let u = r.bundle;
-        let s = plan::search_between(
+        let s = plan_searches::search_between(
             points,
             starts,
             counts,
@@ -312,7 +318,13 @@ fn put_plan(
     let bundles = j.bundles;
     let flags = j.flags;
     let grants = j.grants;
-    let offsets = plan::corridor_depth_offsets(j.options, j.nodes, j.ports, bundles, j.members);
+    let offsets = plan_depths::corridor_depth_offsets(
+        j.options,
+        j.nodes,
+        j.ports,
+        bundles,
+        j.members,
+    );
     let s = planner::plan_interior_collectors(
         j.options,
         j.nodes,
@@ -374,7 +386,14 @@ fn divergence_at(
 {
     match x {
         Bound::None => Bound::None,
-        Bound::At(c) => plan::input_shared_trunk_divergence_x(points, starts, counts, pitch, u, c),
+        Bound::At(c) => plan_outputs::input_shared_trunk_divergence_x(
+            points,
+            starts,
+            counts,
+            pitch,
+            u,
+            c,
+        ),
     }
 }
 
@@ -427,7 +446,7 @@ fn inputs_of(t: Reaches) -> Inputs
         let role = u.role;
         let at = i;
         i += 1;
-        if plan::is_same_role(role, Role::Input) {
+        if plan_numbers::is_same_role(role, Role::Input) {
             rows[count] = at;
             count += 1;
         }
@@ -455,7 +474,7 @@ fn put_asked(
     let at = put_divergences(points, starts, counts, pitch, t, p, &mut out[..], from);
     let inputs = inputs_of(t);
     let which = inputs.rows;
-    let r = plan::required_output_collector_x(
+    let r = plan_outputs::required_output_collector_x(
         points,
         starts,
         counts,
@@ -561,7 +580,13 @@ fn put_routed(
         &mut edges[..],
         &mut lanes[..],
     );
-    let offsets = plan::corridor_depth_offsets(j.options, j.nodes, j.ports, j.bundles, j.members);
+    let offsets = plan_depths::corridor_depth_offsets(
+        j.options,
+        j.nodes,
+        j.ports,
+        j.bundles,
+        j.members,
+    );
     let t = planner::reach_bundles(
         j.options,
         j.nodes,
@@ -707,7 +732,7 @@ fn answer(
     }
     let size = size_of(record, op, from, record.len() - from);
     let end = from + size;
-    let r = job::read_job(&record[from..end], &mut points[..]);
+    let r = job_reader::read_job(&record[from..end], &mut points[..]);
     if !r.ok {
         return put_mark(&mut out[..], 0, r.refusal as u64);
     }

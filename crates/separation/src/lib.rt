@@ -87,8 +87,16 @@ fn moved(pitch: f64, role: Role, r: Bounds, x: f64, used: &[f64], count: usize) 
     ensures { λ s. ⌜ s ≡ moved pitch role r x (take count (now (used .entry))) ⌝ }
 {
     match role {
-        Role::Input => plan::clamp(smallest_of(x, used, count) - pitch, r.minimum, r.maximum),
-        Role::Output => plan::clamp(largest_of(x, used, count) + pitch, r.minimum, r.maximum),
+        Role::Input => plan_numbers::clamp(
+            smallest_of(x, used, count) - pitch,
+            r.minimum,
+            r.maximum,
+        ),
+        Role::Output => plan_numbers::clamp(
+            largest_of(x, used, count) + pitch,
+            r.minimum,
+            r.maximum,
+        ),
     }
 }
 
@@ -159,7 +167,7 @@ fn beside(
     let role = u.role;
     let b = s.bounds;
     let cut = cut_beside(pitch, role, b, x, used, count);
-    plan::search_between(
+    plan_searches::search_between(
         points,
         starts,
         counts,
@@ -330,7 +338,7 @@ pub fn separate(
             &mut scratch[..],
         );
         let o = r.outcome;
-        let found = plan::found_x(o);
+        let found = plan_numbers::found_x(o);
         let x = if_clear(pitch, found, &used[..], taken.count);
         rows[i] = Planned { x: x };
         lanes = add_lane(role, x, lanes);

@@ -7,7 +7,7 @@ ghost use lib.ListN.{length};
 ghost use Rattle.route.specs.Slots.{Held};
 ghost use Rattle.answer.specs.Tables.{Windows};
 ghost use Rattle.job_tables.specs.Came.{Came};
-ghost use Rattle.stage.specs.Tables.{MembersOn, OnSheet, Lent};
+ghost use Rattle.draw_job.specs.Tables.{MembersOn, OnSheet, Lent};
 use answer::Frame;
 use board::DrawnBundles;
 use board::Edges;
@@ -174,7 +174,13 @@ fn draw_in(
     let flags = j.flags;
     let grants = j.grants;
     let planned = p.rows;
-    let offsets = plan::corridor_depth_offsets(j.options, j.nodes, j.ports, j.bundles, j.members);
+    let offsets = plan_depths::corridor_depth_offsets(
+        j.options,
+        j.nodes,
+        j.ports,
+        j.bundles,
+        j.members,
+    );
     let d = turns::draw_sheet(
         j.options,
         flags.permits_crossings,
@@ -270,7 +276,7 @@ fn answer(record: &[u8], given: &mut [f64], page: &mut [u8], out: &mut [u8]) -> 
     }
     let size = size_of(record, record.len() - 1);
     let end = 1 + size;
-    let r = job::read_job(&record[1..end], &mut given[..]);
+    let r = job_reader::read_job(&record[1..end], &mut given[..]);
     if !r.ok {
         records::put_u8(&mut out[..], 0, r.refusal as u64);
         return 1;

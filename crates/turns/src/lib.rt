@@ -142,8 +142,8 @@ fn node_boxes(nodes: Nodes, boxes: &mut [f64])
             x: body.width,
             y: body.height,
         };
-        geometry::put_point(&mut boxes[..], 2 * i, body.corner);
-        geometry::put_point(&mut boxes[..], 2 * i + 1, size);
+        route_views::put_point(&mut boxes[..], 2 * i, body.corner);
+        route_views::put_point(&mut boxes[..], 2 * i + 1, size);
         i += 1;
     }
 }
@@ -154,7 +154,7 @@ fn spot(boxes: &[f64], p: Port) -> Point
     ensures { λ r. ⌜ r ≡ spot-of (now (boxes .entry)) p ⌝ }
 {
     let side = p.side;
-    geometry::port_point(checks::box_at(boxes, p.node), side, p.offset)
+    shapes::port_point(looks::box_at(boxes, p.node), side, p.offset)
 }
 
 // Where each bundle's port stands.
@@ -168,7 +168,7 @@ fn port_spots(boxes: &[f64], ports: Ports, bundles: Bundles, spots: &mut [f64])
         let u = bundles.rows[i];
         let at = u.port;
         let end = spot(boxes, ports.rows[at]);
-        geometry::put_point(&mut spots[..], i, end);
+        route_views::put_point(&mut spots[..], i, end);
         i += 1;
     }
 }
@@ -275,7 +275,7 @@ fn draw_bundles(
     let mut i: usize = 0;
     while i < n {
         let u = bundles.rows[i];
-        let end = geometry::point_at(spots, i);
+        let end = route_views::point_at(spots, i);
         let x = planned_of(plan, i);
         let offset = offsets.rows[i];
         let k = i;

@@ -2,9 +2,9 @@
 use mathlib.Core.Path.{_≡_}
 use Rattle.job_tables.specs.Came.{Sizes}
 use Rattle.job_tables.specs.Ready.{tables-sound, routes-in}
-use Rattle.plan.proofs.Rows as rows
-use Rattle.stage.proofs.Ready as ready
-use Rattle.stage.proofs.Phases as laws
+use Rattle.plan.specs.Rows as rows
+use Rattle.draw_job.proofs.Ready as ready
+use Rattle.draw_job.proofs.Phases as laws
 use borrow.Author.Needs.{needs}
 use Rattle.sheet_replay.proofs.draw_in.Statement.{statement}
 use Rattle.sheet_replay.proofs.draw_in.Tie as tie

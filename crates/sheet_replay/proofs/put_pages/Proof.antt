@@ -3,9 +3,9 @@ use mathlib.Core.Path.{_≡_, sym, _∙_}
 use native.Mathlib.Omega.{arith}
 use lib.ListN.{length}
 use Rattle.job_tables.specs.Came.{Sizes}
-use Rattle.plan.proofs.Rows as rows
+use Rattle.plan.specs.Rows as rows
 use Rattle.normalize.proofs.Shift.{windows-kept}
-use Rattle.stage.proofs.Answers as answers
+use Rattle.draw_job.proofs.Answers as answers
 use borrow.Author.Needs.{needs}
 use Rattle.sheet_replay.proofs.put_pages.Statement.{statement}
 use Rattle.sheet_replay.proofs.put_pages.Tie as tie

@@ -14,7 +14,7 @@ use Rattle.board.specs.Board.{Board}
 use Rattle.plan.specs.declared.Bound.{Bound}
 use Rattle.plan.specs.Tables.{no-bundle}
 use Rattle.plan.specs.Prepared.{no-planned}
-use Rattle.plan.proofs.Rows.{length-mapped, part-cons}
+use Rattle.plan.specs.Rows.{length-mapped, part-cons}
 use Rattle.drawing.specs.Sheet.{Turn, turn, sheet-of}
 use Rattle.checks.specs.Rows.{drawn-of}
 use Rattle.building.specs.Rows.{Row}
@@ -25,7 +25,7 @@ use Rattle.turns.proofs.draw_bundles.Tie as tie
 use Rattle.turns.proofs.draw_bundles.Reads as reads
 use Rattle.turns.proofs.draw_bundles.Lts as lts
 use Rattle.turns.proofs.draw_bundle.Reads as draw-bundle-reads
-use Rattle.geometry.proofs.point_at.Reads as point-at-reads
+use Rattle.route_views.proofs.point_at.Reads as point-at-reads
 use Rattle.turns.proofs.none_drawn.Reads as none-drawn-reads
 use Rattle.turns.proofs.planned_of.Reads as planned-of-reads
 

@@ -4,14 +4,14 @@ use mathlib.Core.Path.{_≡_, refl}
 use Prim.Native.Nat.{_≤_, _-_}
 use lib.ListN.{length}
 use Rattle.plan.specs.Depths.{no-node}
-use Rattle.plan.proofs.Rows.{length-mapped, null-node, getD-any}
+use Rattle.plan.specs.Rows.{length-mapped, null-node, getD-any}
 use Rattle.turns.specs.Rows.{Boxed}
 use Rattle.turns.proofs.Filling.{boxed-next}
 use Rattle.turns.proofs.node_boxes.Statement.{statement}
 use Rattle.turns.proofs.node_boxes.Tie as tie
 use Rattle.turns.proofs.node_boxes.Reads as reads
 use Rattle.turns.proofs.node_boxes.Lts as lts
-use Rattle.geometry.proofs.put_point.Reads as put-point-reads
+use Rattle.route_views.proofs.put_point.Reads as put-point-reads
 
 abbrev Inv-loop : tie.InvT-loop
 Inv-loop boxes₀ nodes n i₀ boxes i = (i ≤ n) × (length boxes ≡ length boxes₀) × Boxed boxes (nodes .rows) i

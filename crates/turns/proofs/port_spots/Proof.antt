@@ -7,14 +7,14 @@ use denote.Ref.{now}
 use Rattle.board.specs.declared.Port.{Port}
 use Rattle.plan.specs.Depths.{no-port}
 use Rattle.plan.specs.Tables.{no-bundle}
-use Rattle.plan.proofs.Rows.{length-mapped, null-port, getD-any}
+use Rattle.plan.specs.Rows.{length-mapped, null-port, getD-any}
 use Rattle.turns.specs.Rows.{Spotted}
 use Rattle.turns.proofs.Filling.{spotted-next}
 use Rattle.turns.proofs.port_spots.Statement.{statement}
 use Rattle.turns.proofs.port_spots.Tie as tie
 use Rattle.turns.proofs.port_spots.Reads as reads
 use Rattle.turns.proofs.port_spots.Lts as lts
-use Rattle.geometry.proofs.put_point.Reads as put-point-reads
+use Rattle.route_views.proofs.put_point.Reads as put-point-reads
 use Rattle.turns.proofs.spot.Reads as spot-reads
 
 abbrev Inv-loop : tie.InvT-loop

@@ -6,8 +6,8 @@ use Rattle.turns.proofs.spot.Statement.{statement}
 use Rattle.turns.proofs.spot.Tie as tie
 use Rattle.turns.proofs.spot.Reads as reads
 use Rattle.turns.proofs.spot.Lts as lts
-use Rattle.checks.proofs.box_at.Reads as box-at-reads
-use Rattle.geometry.proofs.port_point.Reads as port-point-reads
+use Rattle.looks.proofs.box_at.Reads as box-at-reads
+use Rattle.shapes.proofs.port_point.Reads as port-point-reads
 
 box-at-requires : tie.Need-box-at-requires
 box-at-requires c κs = search needs

@@ -1,0 +1,280 @@
+-- `draw_job::draw_in` meets its contract. Assumes nothing.
+use mathlib.Core.Path.{_≡_, refl, sym, _∙_, ap, subst}
+use mathlib.Core.List.{List, _++_}
+use Prim.Native.Nat.{ℕ, _+_, _*_, _≤_, _<_}
+use native.Mathlib.Omega.{arith}
+use lib.ListN.{length, getD, take, drop}
+use lib.Seq.{length-take-le, length-front}
+use lib.Ieee.{Float}
+use Rattle.board.specs.declared.DrawnBundles.{DrawnBundles}
+use Rattle.job_tables.specs.Came.{Sizes}
+use Rattle.job_tables.specs.Ready.{tables-sound, routes-in}
+use Rattle.normalize.proofs.Shift.{windows-kept}
+use Rattle.normalize.specs.Rows.{Windows}
+use Rattle.plan.specs.Rows as rows
+use Rattle.draw_job.specs.Tables.{OnSheet}
+use Rattle.draw_job.proofs.Answers as answers
+use Rattle.draw_job.proofs.Ready as ready
+use Rattle.draw_job.proofs.Phases as laws
+use borrow.Author.Needs.{needs}
+use Rattle.draw_job.proofs.draw_in.Statement.{statement}
+use Rattle.draw_job.proofs.draw_in.Tie as tie
+
+sizes : (s : tie.Start) → Sizes (s .args .j)
+sizes s = record {
+  nodes = let g = s .good .0 .1 .1 .1 .1 .1 .0 in search (needs, rows.length-mapped, g);
+  ports = let g = s .good .0 .1 .1 .1 .1 .1 .1 .0 in search (needs, rows.length-mapped, g);
+  edges = let g = s .good .0 .1 .1 .1 .1 .1 .1 .1 .0 in search (needs, rows.length-mapped, g);
+  bundles = let g = s .good .0 .1 .1 .1 .1 .1 .1 .1 .1 .0 in search (needs, rows.length-mapped, g);
+  members = let g = s .good .0 .1 .1 .1 .1 .1 .1 .1 .1 .1 .0 in search (needs, rows.length-mapped, g);
+}
+
+-- where every turn was clean: the slices after the last one
+abbrev start : tie.After-known-told2 → tie.Start
+start c = c .before .before .before .before .before .before .before .before .before .before .before .before .before .before .before .before .before .before .before .before .before .before .before .before .before .before .before .before .before .before .before .before .before .before .before .before .before .before .before .before .before .before .before .before .before .before .before
+
+abbrev drawn-by : tie.After-known-told2 → DrawnBundles
+drawn-by c = c .before .before .before .before .before .before .before .before .before .before .before .before .before .before .before .before .before .draw-sheet .result .drawn
+
+abbrev edges-by : tie.After-known-told2 → List ℕ
+edges-by c = c .before .before .before .before .before .before .before .before .before .before .before .before .before .before .before .before .before .draw-sheet .last .1 .1 .1 .1 .1 .1 .1 .1 .1 .1 .0
+
+abbrev taps-by : tie.After-known-told2 → List Float
+taps-by c = c .before .before .before .before .before .before .before .before .before .before .before .before .before .before .before .before .before .draw-sheet .last .1 .1 .1 .1 .1 .1 .1 .1 .1 .1 .1 .1 .0
+
+abbrev points-by : tie.After-known-told2 → List Float
+points-by c = c .before .before .before .before .before .before .before .before .before .before .before .before .before .before .before .before .before .draw-sheet .last .1 .1 .1 .1 .1 .1 .1 .1 .1 .1 .1 .1 .1 .0
+
+abbrev counts-by : tie.After-known-told2 → List ℕ
+counts-by c = c .before .before .before .before .before .before .before .before .before .before .before .before .before .before .before .before .before .draw-sheet .last .1 .1 .1 .1 .1 .1 .1 .1 .1 .1 .1 .1 .1 .1 .0
+
+on-sheet : (c : tie.After-known-told2) → OnSheet (start c .args .j) (edges-by c) (drawn-by c) (points-by c) (counts-by c) (taps-by c)
+on-sheet c =
+    let s = start c in
+    let a = s .args in
+    let p = c .before .before .before .before .before .before .before .before .before .before .before .before .before .before .before .before .before .before .before .before .before .before .before .before .before .before .before .before .before .before .before .before .before .plan-interior-collectors in
+    let d = c .before .before .before .before .before .before .before .before .before .before .before .before .before .before .before .before .before .draw-sheet in
+    let lent = laws.lent-as (a .j) _ _ _ _ (p .last .1 .1 .1 .1 .1 .1 .1 .1 .1 .1 .0 ++ drop 4097 (a .points .now)) _ _ _ (length-front (a .points .now) (p .last .1 .1 .1 .1 .1 .1 .1 .1 .1 .1 .0) 4097 (p .kept .1 .1 .1 .1 .1 .1 .1 .1 .1 .1 .0)) (s .pre .1 .1 .1) in
+    laws.on-sheet (a .j) (a .given .now) (s .pre .0 .0) (sizes s) _ _ _ _ _ _ _ lent (d .result .verdict) (drawn-by c) (edges-by c) (d .last .1 .1 .1 .1 .1 .1 .1 .1 .1 .1 .1 .0) (taps-by c) (points-by c) (counts-by c) (d .kept .1 .1 .1 .1 .1 .1 .1 .1 .1 .1 .1 .1 .0) (d .kept .1 .1 .1 .1 .1 .1 .1 .1 .1 .1 .1 .1 .1 .0) (d .kept .1 .1 .1 .1 .1 .1 .1 .1 .1 .1 .1 .1 .1 .1 .0) _ (c .before .v2 .given .1) (d .ensures .1 .0) (d .ensures .1 .1 .0) (d .ensures .1 .1 .1 .0) (d .ensures .1 .1 .1 .1)
+
+windows : (c : tie.After-known-told2) → Windows (drawn-by c .count) (drawn-by c .rows) (start c .args .j .members .count)
+windows c = answers.windows (start c .args .j) (edges-by c) (drawn-by c) (points-by c) (counts-by c) (taps-by c) (on-sheet c) (sizes (start c))
+
+corridor-depth-offsets-requires : tie.Need-corridor-depth-offsets-requires
+corridor-depth-offsets-requires c κs =
+    let s = c .before .before .before .before .before .before .before .before .before .before in
+    let a = s .args in
+    tables-sound (a .j) (a .given .now) (s .pre .0 .0) (sizes s)
+
+slice-relend-prefix-plan-interior-collectors : tie.Need-slice-relend-prefix-plan-interior-collectors
+slice-relend-prefix-plan-interior-collectors c = search needs
+
+slice-aggregate-plan-interior-collectors : tie.Need-slice-aggregate-plan-interior-collectors
+slice-aggregate-plan-interior-collectors c =
+    let s = c .before .before .before .before .before .before .before .before .before .before .before .before in
+    let a = s .args in
+    sym (length-take-le 4097 (a .points .now) (s .pre .1 .1 .0 .0))
+
+plan-interior-collectors-requires : tie.Need-plan-interior-collectors-requires
+plan-interior-collectors-requires c κs =
+    let s = c .before .before .before .before .before .before .before .before .before .before .before .before .before in
+    let a = s .args in
+    let x = length-take-le 4097 (a .points .now) (s .pre .1 .1 .0 .0) in
+    ((tables-sound (a .j) (a .given .now) (s .pre .0 .0) (sizes s), routes-in (a .j) (a .given .now) (s .pre .0 .0) (sizes s)), ((omega (arith, x), omega (arith, x, s .pre .1 .1 .0 .1)), c .before .before .corridor-depth-offsets .ensures))
+
+write-notice-requires : tie.Need-write-notice-requires
+write-notice-requires c κs = c .before .before .before .before .before .before .before .before .before .before .before .before .before .before .before .before .before .before .before .before .pre .0 .1
+
+same-length : tie.Need-same-length
+same-length c = search needs
+
+same-length-2 : tie.Need-same-length-2
+same-length-2 c = search needs
+
+same-length-3 : tie.Need-same-length-3
+same-length-3 c = search needs
+
+returns : tie.Need-returns
+returns c =
+    let s = c .before .before .before .before .before .before .before .before .before .before .before .before .before .before .before .before .before .before .before .before .before .before .before in
+    let a = s .args in
+    let p = c .before .before .before .before .before .before .before .before .before .plan-interior-collectors in
+    let w = c .before .before .write-notice .ensures in
+    laws.notice-writes _ _ _ 13 _ (laws.plan-refused (a .j) (a .given .now) (s .pre .0 .0) (sizes s) (p .result) (p .ensures) (c .before .before .before .before .if1 .taken)) (w .0) (w .1)
+
+draw-sheet-requires : tie.Need-draw-sheet-requires
+draw-sheet-requires c κs =
+    let s = c .before .before .before .before .before .before .before .before .before .before .before .before .before .before .before .before .before .before .before .before .before .before .before .before .before .before .before .before .before in
+    let a = s .args in
+    let p = c .before .before .before .before .before .before .before .before .before .before .before .before .before .before .before .plan-interior-collectors in
+    let lent = laws.lent-as (a .j) _ _ _ _ _ _ _ _ (length-front (a .points .now) (p .last .1 .1 .1 .1 .1 .1 .1 .1 .1 .1 .0) 4097 (p .kept .1 .1 .1 .1 .1 .1 .1 .1 .1 .1 .0)) (s .pre .1 .1 .1) in
+    ((tables-sound (a .j) (a .given .now) (s .pre .0 .0) (sizes s), routes-in (a .j) (a .given .now) (s .pre .0 .0) (sizes s)), ((ready.follow (a .j) (a .given .now) (s .pre .0 .0) (sizes s), ready.once-a-role (a .j) (a .given .now) (s .pre .0 .0) (sizes s)), ((lent .edges-long, lent .lanes-long, lent .counts-long), lent .room)))
+
+enum-known-v : tie.Need-enum-known-v
+enum-known-v c = search needs
+
+write-notice-requires-2 : tie.Need-write-notice-requires-2
+write-notice-requires-2 c κs = c .before .before .before .before .before .before .before .before .before .before .before .before .before .before .before .before .before .before .before .before .before .before .before .before .before .before .before .before .before .before .before .before .before .before .before .before .before .before .before .before .before .before .before .before .before .before .before .before .pre .0 .1
+
+enum-known-v-2 : tie.Need-enum-known-v-2
+enum-known-v-2 c = search needs
+
+normalize-layout-requires : tie.Need-normalize-layout-requires
+normalize-layout-requires c κs =
+    let m = c .before .before .before in
+    let on = on-sheet m in
+    ((on .fits .nodes, omega (arith, on .all-drawn, on .fits .bundles)), ((on .slots, on .hold), (on .places, windows m)))
+
+tap-rows-requires : tie.Need-tap-rows-requires
+tap-rows-requires c κs =
+    let on = on-sheet (c .before .before .before .before .before .before .before .before .before) in
+    let n = c .before .before .before .before .before .normalize-layout in
+    ((on .fits .members, on .fits .edges, omega (arith, on .places, n .kept .1 .1 .1 .1 .0)), on .members-on)
+
+write-answer-requires : tie.Need-write-answer-requires
+write-answer-requires c κs =
+    let s = c .before .before .before .before .before .before .before .before .before .before .before .before .before .before .before .before .before .before .before .before .before .before .before .before .before .before .before .before .before .before .before .before .before .before .before .before .before .before .before .before .before .before .before .before .before .before .before .before .before .before .before .before .before .before .before .before .before .before .before .before in
+    let a = s .args in
+    let p = c .before .before .before .before .before .before .before .before .before .before .before .before .before .before .before .before .before .before .before .before .before .before .before .before .before .before .before .before .before .before .before .before .before .before .before .before .before .before .before .before .before .before .before .before .before .before .plan-interior-collectors in
+    let o = c .before .before .before .before .before .before .before .before .before .before .before .before .before .before .before .before .before .before .before .before .before .before .before .before .before .before .before .before .before .before .before .before .before .before .before .before .before .before .before .before .before .before .before .before .before .before .before .before .before .corridor-depth-offsets in
+    let d = c .before .before .before .before .before .before .before .before .before .before .before .before .before .before .before .before .before .before .before .before .before .before .before .before .before .before .before .before .before .before .draw-sheet in
+    let n = c .before .before .before .before .before .before .before .before .before .normalize-layout in
+    let t = c .before .before .before .tap-rows in
+    let m = c .before .before .before .before .before .before .before .before .before .before .before .before .before in
+    let on = on-sheet m in
+    record {
+      nodes = omega (arith, on .fits .nodes, n .ensures .1 .0);
+      edges = on .fits .edges;
+      counted = omega (arith, on .counted);
+      stored = omega (arith, on .counted, on .slots, n .kept .1 .1 .0);
+      held = on .hold;
+      bundles = omega (arith, on .all-drawn, on .fits .bundles, n .ensures .1 .1 .0);
+      taps = omega (arith, t .ensures .count-is, on .fits .members);
+      windows = subst (Windows (n .result .drawn .count) (n .result .drawn .rows)) (sym (t .ensures .count-is)) (windows-kept (a .j .members .count) (drawn-by m) (n .result .drawn) (n .ensures .1 .1 .1) (n .ensures .1 .1 .0) (windows m));
+      room-for-it = laws.sheet-room _ _ _ (laws.all-told (a .j) (a .given .now) (s .pre .0 .0) (sizes s) (p .result) (p .ensures) (c .before .before .before .before .before .before .before .before .before .before .before .before .before .before .before .before .before .before .before .before .before .before .before .before .before .before .before .before .before .before .before .before .before .before .before .before .before .before .before .before .before .if1 .left) (take (a .j .bundles .count) (o .result .rows)) (d .result .verdict) (edges-by m) (drawn-by m) (points-by m) (counts-by m) (taps-by m) (o .ensures (take (a .j .edges .count) (a .j .edges .rows))) (d .ensures .0) _ (c .before .before .before .before .before .before .before .before .before .before .before .before .before .before .v2 .given .1) on (n .result) (n .last .1 .1 .0) (n .last .1 .1 .1 .1 .0) (t .result) (t .ensures) (n .ensures .0 (edges-by m)) (n .ensures .1 .1 .0) (n .ensures .1 .1 .1)) (s .pre .1 .0);
+    }
+
+same-length-4 : tie.Need-same-length-4
+same-length-4 c = let k = c .before .before .before .before .before .before .before .before .before .before .before .before .before .before .before .before .before .before .before .before .before .before .before .before .before .before .before .before .before .before .before .before .before .before .before .before .before .plan-interior-collectors .kept .1 .1 .1 .1 .1 .1 .1 .1 .1 .1 .1 .0 in omega (arith, k)
+
+same-length-5 : tie.Need-same-length-5
+same-length-5 c = search needs
+
+same-length-6 : tie.Need-same-length-6
+same-length-6 c = search needs
+
+same-length-7 : tie.Need-same-length-7
+same-length-7 c = search needs
+
+same-length-8 : tie.Need-same-length-8
+same-length-8 c =
+    let p = c .before .before .before .before .before .before .before .before .before .before .before .before .before .before .before .before .before .before .before .before .before .before .before .before .before .before .before .before .before .before .before .before .before .before .before .before .before .plan-interior-collectors in
+    let kept = length-front (c .before .before .before .before .before .before .before .before .before .before .before .before .before .before .before .before .before .before .before .before .before .before .before .before .before .before .before .before .before .before .before .before .before .before .before .before .before .before .before .before .before .before .before .before .before .before .before .before .before .before .before .args .points .now) (p .last .1 .1 .1 .1 .1 .1 .1 .1 .1 .1 .0) 4097 (p .kept .1 .1 .1 .1 .1 .1 .1 .1 .1 .1 .0) in
+    omega (arith, kept, c .before .before .before .before .before .before .before .before .before .before .before .before .before .before .before .before .before .before .before .before .before .draw-sheet .kept .1 .1 .1 .1 .1 .1 .1 .1 .1 .1 .1 .1 .1 .0)
+
+same-length-9 : tie.Need-same-length-9
+same-length-9 c = search needs
+
+same-length-10 : tie.Need-same-length-10
+same-length-10 c = search needs
+
+same-length-11 : tie.Need-same-length-11
+same-length-11 c = search needs
+
+same-length-12 : tie.Need-same-length-12
+same-length-12 c = search needs
+
+returns-2 : tie.Need-returns-2
+returns-2 c =
+    let s = c .before .before .before .before .before .before .before .before .before .before .before .before .before .before .before .before .before .before .before .before .before .before .before .before .before .before .before .before .before .before .before .before .before .before .before .before .before .before .before .before .before .before .before .before .before .before .before .before .before .before .before in
+    let a = s .args in
+    let p = c .before .before .before .before .before .before .before .before .before .before .before .before .before .before .before .before .before .before .before .before .before .before .before .before .before .before .before .before .before .before .before .before .before .before .before .before .before .plan-interior-collectors in
+    let o = c .before .before .before .before .before .before .before .before .before .before .before .before .before .before .before .before .before .before .before .before .before .before .before .before .before .before .before .before .before .before .before .before .before .before .before .before .before .before .before .before .corridor-depth-offsets in
+    let d = c .before .before .before .before .before .before .before .before .before .before .before .before .before .before .before .before .before .before .before .before .before .draw-sheet in
+    let w = c .before .before .write-notice2 .ensures in
+    laws.notice-writes _ _ _ _ _ (laws.all-refused (a .j) (a .given .now) (s .pre .0 .0) (sizes s) (p .result) (p .ensures) (c .before .before .before .before .before .before .before .before .before .before .before .before .before .before .before .before .before .before .before .before .before .before .before .before .before .before .before .before .before .before .before .before .if1 .left) (take (a .j .bundles .count) (o .result .rows)) (d .result .verdict) (d .last .1 .1 .1 .1 .1 .1 .1 .1 .1 .1 .0) (d .result .drawn) (d .last .1 .1 .1 .1 .1 .1 .1 .1 .1 .1 .1 .1 .1 .0) (d .last .1 .1 .1 .1 .1 .1 .1 .1 .1 .1 .1 .1 .1 .1 .0) (d .last .1 .1 .1 .1 .1 .1 .1 .1 .1 .1 .1 .1 .0) (o .ensures (take (a .j .edges .count) (a .j .edges .rows))) (d .ensures .0) _ _ (c .before .before .before .before .before .v .given .1)) (w .0) (w .1)
+
+same-length-13 : tie.Need-same-length-13
+same-length-13 c = let k = c .before .before .before .before .before .before .before .before .before .before .before .before .before .before .before .before .before .before .before .before .before .before .before .before .before .before .before .before .before .before .before .before .before .before .before .before .before .before .before .before .before .before .before .before .before .before .before .before .before .plan-interior-collectors .kept .1 .1 .1 .1 .1 .1 .1 .1 .1 .1 .1 .0 in omega (arith, k)
+
+same-length-14 : tie.Need-same-length-14
+same-length-14 c = omega (arith, c .before .before .before .before .before .before .before .before .before .before .before .before .before .before .before .before .before .before .before .before .before .before .before .before .before .before .before .before .before .before .before .before .before .draw-sheet .kept .1 .1 .1 .1 .1 .1 .1 .1 .1 .1 .0)
+
+same-length-15 : tie.Need-same-length-15
+same-length-15 c = omega (arith, c .before .before .before .before .before .before .before .before .before .before .before .before .before .before .before .before .before .before .before .before .before .before .before .before .before .before .before .before .before .before .before .before .before .draw-sheet .kept .1 .1 .1 .1 .1 .1 .1 .1 .1 .1 .1 .0)
+
+same-length-16 : tie.Need-same-length-16
+same-length-16 c = omega (arith, c .before .before .before .before .before .before .before .before .before .before .before .before .before .before .before .before .before .before .before .before .before .before .before .before .before .before .before .before .before .before .before .before .before .draw-sheet .kept .1 .1 .1 .1 .1 .1 .1 .1 .1 .1 .1 .1 .0, c .before .before .before .before .before .before .before .before .before .before .before .before .normalize-layout .kept .1 .1 .1 .1 .0)
+
+same-length-17 : tie.Need-same-length-17
+same-length-17 c =
+    let p = c .before .before .before .before .before .before .before .before .before .before .before .before .before .before .before .before .before .before .before .before .before .before .before .before .before .before .before .before .before .before .before .before .before .before .before .before .before .before .before .before .before .before .before .before .before .before .before .before .before .plan-interior-collectors in
+    let kept = length-front (c .before .before .before .before .before .before .before .before .before .before .before .before .before .before .before .before .before .before .before .before .before .before .before .before .before .before .before .before .before .before .before .before .before .before .before .before .before .before .before .before .before .before .before .before .before .before .before .before .before .before .before .before .before .before .before .before .before .before .before .before .before .before .before .args .points .now) (p .last .1 .1 .1 .1 .1 .1 .1 .1 .1 .1 .0) 4097 (p .kept .1 .1 .1 .1 .1 .1 .1 .1 .1 .1 .0) in
+    omega (arith, kept, c .before .before .before .before .before .before .before .before .before .before .before .before .before .before .before .before .before .before .before .before .before .before .before .before .before .before .before .before .before .before .before .before .before .draw-sheet .kept .1 .1 .1 .1 .1 .1 .1 .1 .1 .1 .1 .1 .1 .0, c .before .before .before .before .before .before .before .before .before .before .before .before .normalize-layout .kept .1 .1 .0)
+
+same-length-18 : tie.Need-same-length-18
+same-length-18 c = omega (arith, c .before .before .before .before .before .before .before .before .before .before .before .before .before .before .before .before .before .before .before .before .before .before .before .before .before .before .before .before .before .before .before .before .before .draw-sheet .kept .1 .1 .1 .1 .1 .1 .1 .1 .1 .1 .1 .1 .1 .1 .0)
+
+same-length-19 : tie.Need-same-length-19
+same-length-19 c = omega (arith, c .before .before .before .before .before .before .before .before .before .before .before .before .before .before .before .before .before .before .before .before .before .before .before .before .before .before .before .before .before .before .before .before .before .draw-sheet .kept .1 .1 .1 .1 .1 .1 .1 .1 .1 .1 .1 .1 .1 .1 .1 .0)
+
+same-length-20 : tie.Need-same-length-20
+same-length-20 c = omega (arith, c .before .before .before .before .before .before .before .before .before .before .before .before .before .before .before .before .before .before .before .before .before .before .before .before .before .before .before .before .before .before .before .before .before .draw-sheet .kept .1 .1 .1 .1 .1 .1 .1 .1 .1 .1 .1 .1 .1 .1 .1 .1 .0)
+
+same-length-21 : tie.Need-same-length-21
+same-length-21 c = search needs
+
+returns-3 : tie.Need-returns-3
+returns-3 c =
+    let s = c .before .before .before .before .before .before .before .before .before .before .before .before .before .before .before .before .before .before .before .before .before .before .before .before .before .before .before .before .before .before .before .before .before .before .before .before .before .before .before .before .before .before .before .before .before .before .before .before .before .before .before .before .before .before .before .before .before .before .before .before .before .before .before in
+    let a = s .args in
+    let p = c .before .before .before .before .before .before .before .before .before .before .before .before .before .before .before .before .before .before .before .before .before .before .before .before .before .before .before .before .before .before .before .before .before .before .before .before .before .before .before .before .before .before .before .before .before .before .before .before .before .plan-interior-collectors in
+    let o = c .before .before .before .before .before .before .before .before .before .before .before .before .before .before .before .before .before .before .before .before .before .before .before .before .before .before .before .before .before .before .before .before .before .before .before .before .before .before .before .before .before .before .before .before .before .before .before .before .before .before .before .before .corridor-depth-offsets in
+    let d = c .before .before .before .before .before .before .before .before .before .before .before .before .before .before .before .before .before .before .before .before .before .before .before .before .before .before .before .before .before .before .before .before .before .draw-sheet in
+    let n = c .before .before .before .before .before .before .before .before .before .before .before .before .normalize-layout in
+    let t = c .before .before .before .before .before .before .tap-rows in
+    let m = c .before .before .before .before .before .before .before .before .before .before .before .before .before .before .before .before in
+    let on = on-sheet m in
+    let w = c .before .before .write-answer .ensures in
+    laws.writes-as _ _ _ _ _ (sym (laws.all-told (a .j) (a .given .now) (s .pre .0 .0) (sizes s) (p .result) (p .ensures) (c .before .before .before .before .before .before .before .before .before .before .before .before .before .before .before .before .before .before .before .before .before .before .before .before .before .before .before .before .before .before .before .before .before .before .before .before .before .before .before .before .before .before .before .before .if1 .left) (take (a .j .bundles .count) (o .result .rows)) (d .result .verdict) (edges-by m) (drawn-by m) (points-by m) (counts-by m) (taps-by m) (o .ensures (take (a .j .edges .count) (a .j .edges .rows))) (d .ensures .0) _ (c .before .before .before .before .before .before .before .before .before .before .before .before .before .before .before .before .before .v2 .given .1) on (n .result) (n .last .1 .1 .0) (n .last .1 .1 .1 .1 .0) (t .result) (t .ensures) (n .ensures .0 (edges-by m)) (n .ensures .1 .1 .0) (n .ensures .1 .1 .1))) (answers.answer-writes _ _ _ _ _ refl (w .0) (w .1))
+
+pub draw-in-spec : {M : Type 1} → statement M
+draw-in-spec =
+    tie.close
+    (tie.spec
+    corridor-depth-offsets-requires
+    slice-relend-prefix-plan-interior-collectors
+    slice-aggregate-plan-interior-collectors
+    plan-interior-collectors-requires
+    write-notice-requires
+    same-length
+    same-length-2
+    same-length-3
+    returns
+    draw-sheet-requires
+    enum-known-v
+    write-notice-requires-2
+    enum-known-v-2
+    normalize-layout-requires
+    tap-rows-requires
+    write-answer-requires
+    same-length-4
+    same-length-5
+    same-length-6
+    same-length-7
+    same-length-8
+    same-length-9
+    same-length-10
+    same-length-11
+    same-length-12
+    returns-2
+    same-length-13
+    same-length-14
+    same-length-15
+    same-length-16
+    same-length-17
+    same-length-18
+    same-length-19
+    same-length-20
+    same-length-21
+    returns-3)

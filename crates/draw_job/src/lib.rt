@@ -1,0 +1,150 @@
+// A job that was read, drawn: the plan (13), the sheet (10, 11, 12, 14), the last shift and the answer.
+//
+// Ported from cachanova/schemweave, commit c4a1a2c60a, crates/schemweave/src/boundary_bundles.rs
+// (Apache-2.0, see NOTICE).
+ghost use Prim.Native.Nat.{_*_, _≤_};
+ghost use lib.ListN.{length};
+ghost use Rattle.promise.specs.Stage.{planned, after-plan, told-bytes};
+ghost use Rattle.job_tables.specs.Came.{job-in, Came};
+ghost use Rattle.draw_job.specs.Tables.{Writes, TapsOf, MembersOn, Lent};
+use answer::Frame;
+use board::DrawnTap;
+use board::DrawnTaps;
+use board::Edges;
+use board::Members;
+use drawing::GeometryVisits;
+use drawing::Verdict;
+use geometry::Point;
+use job::Job;
+use search::TapVisits;
+
+// ---- the sheet (10, 11, 12, 14) and the answer
+
+// A tap for each member, with the id of its edge.
+pub fn tap_rows(table: Edges, members: Members, taps: &[f64]) -> DrawnTaps
+    requires { ⌜ (members .count ≤ 256) × (table .count ≤ 256) × (2 * members .count ≤ length (now taps)) ⌝ }
+    requires { ⌜ MembersOn table members ⌝ }
+    ensures { λ r. ⌜ TapsOf table members (now (taps .entry)) r ⌝ }
+{
+    let p = Point { x: 0.0, y: 0.0 };
+    let mut rows = [DrawnTap { edge: 0, point: p }; 256];
+    let n = members.count;
+    let mut i: usize = 0;
+    while i < n {
+        let m = members.rows[i];
+        let at = m.edge;
+        let e = table.rows[at];
+        let q = route_views::point_at(taps, i);
+        rows[i] = DrawnTap {
+            edge: e.id,
+            point: q,
+        };
+        i += 1;
+    }
+    DrawnTaps {
+        rows: rows,
+        count: n,
+    }
+}
+
+// The plan (13), the sheet of it and the last shift, in lent slices; the answer, or the notice of a
+// refusal. One function for all of it: a table that is handed on is copied. The slots of the present
+// routes hold the search's numbers first: nothing is in them before the sheet.
+pub fn draw_in(
+    j: Job,
+    given: &[f64],
+    sorted: &mut [f64],
+    edges: &mut [usize],
+    lanes: &mut [u32],
+    taps: &mut [f64],
+    points: &mut [f64],
+    counts: &mut [usize],
+    mask: &mut [bool],
+    scratch: &mut [f64],
+    answer: &mut [u8],
+) -> usize
+    requires { ⌜ Came j (now given) × (6 ≤ length (now answer)) ⌝ }
+    requires { ⌜ length (told-bytes (after-plan (job-in j (now given)) (planned (job-in j (now given))))) ≤ length (now answer) ⌝ }
+    requires { ⌜ (4097 ≤ length (now points)) × (4097 ≤ length (now sorted)) ⌝ }
+    requires { ⌜ Lent j (now edges) (now lanes) (now taps) (now points) (now counts) (now mask) (now scratch) ⌝ }
+    ensures { λ r. ⌜ Writes (now (answer .entry)) (now (answer .exit)) r (after-plan (job-in j (now (given .entry))) (planned (job-in j (now (given .entry))))) ⌝ }
+{
+    let offsets = plan_depths::corridor_depth_offsets(
+        j.options,
+        j.nodes,
+        j.ports,
+        j.bundles,
+        j.members,
+    );
+    let s = planner::plan_interior_collectors(
+        j.options,
+        j.nodes,
+        j.ports,
+        j.edges,
+        j.bundles,
+        j.members,
+        offsets,
+        given,
+        j.flags.separates_collectors,
+        TapVisits(j.grants.tap_visits),
+        &mut points[..4097],
+        &mut sorted[..],
+    );
+    if s.refused {
+        return answer::write_notice(&mut answer[..], 13);
+    }
+    let plan = s.plan;
+    let left = plan.left;
+    let rows = plan.rows;
+    let d = turns::draw_sheet(
+        j.options,
+        j.flags.permits_crossings,
+        j.nodes,
+        j.ports,
+        j.edges,
+        j.bundles,
+        j.members,
+        rows,
+        offsets,
+        given,
+        &mut edges[..],
+        &mut lanes[..],
+        &mut taps[..],
+        &mut points[..],
+        &mut counts[..],
+        &mut mask[..],
+        &mut scratch[..],
+        GeometryVisits(j.grants.geometry_visits),
+    );
+    let v = d.verdict;
+    match v {
+        Verdict::Refused(r, q) => answer::write_notice(&mut answer[..], r),
+        Verdict::Clean(rest) => {
+            let n = j.members.count;
+            let l = normalize::normalize_layout(
+                j.nodes,
+                d.drawn,
+                &mut points[..],
+                &counts[..],
+                &mut taps[..],
+                n,
+            );
+            let t = tap_rows(j.edges, j.members, &taps[..]);
+            answer::write_answer(
+                &mut answer[..],
+                Frame {
+                    tap_visits: left.0,
+                    geometry_visits: rest.0,
+                    width: l.width,
+                    height: l.height,
+                },
+                l.nodes,
+                j.edges,
+                &points[..],
+                &counts[..],
+                l.drawn,
+                t,
+            )
+        }
+    }
+}

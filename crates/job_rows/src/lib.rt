@@ -1,0 +1,348 @@
+// Reading tables: a loop for each, which looks every id up.
+ghost use mathlib.Core.Path.{_≡_};
+ghost use Prim.Native.Nat.{_+_, _*_, _<_, _≤_};
+ghost use lib.ListN.{length, drop};
+ghost use Rattle.wire.specs.Read.{many};
+ghost use Rattle.geometry.specs.Points.{points-from};
+ghost use Rattle.job.specs.Job.{point, push};
+ghost use Rattle.job.specs.Reads.{first-keys, ended-as, NodesTold, PortsTold, EdgesTold, BundlesTold};
+use board::Bundle;
+use board::Bundles;
+use board::Edge;
+use board::Member;
+use board::Members;
+use board::PlacedNode;
+use board::Port;
+use geometry::Node;
+use geometry::Point;
+use geometry::Role;
+use geometry::Side;
+use job::BundleRead;
+use job::BundlesRead;
+use job::EdgeRead;
+use job::EdgesRead;
+use job::Ended;
+use job::MemberRead;
+use job::NodeRead;
+use job::NodesRead;
+use job::PointRead;
+use job::PortRead;
+use job::PortsRead;
+
+// ---- tables
+//
+// The keys of a table's rows go to lent columns, one number to a row. Where an id stands alone the
+// second column is one of zeros. An id is looked up in the columns of the tables before.
+
+pub fn read_nodes(s: &[u8], from: usize, count: usize, ids: &mut [u64]) -> NodesRead
+    requires { ⌜ (from < 1024) × (count ≤ 128) × (length (now ids) ≡ 256) ⌝ }
+    ensures { λ r. ⌜ NodesTold (now (s .entry)) from count (now (ids .exit)) r ⌝ }
+{
+    let corner = Point { x: 0.0, y: 0.0 };
+    let body = Node {
+        corner: corner,
+        width: 0.0,
+        height: 0.0,
+    };
+    let none = PlacedNode { id: 0, body: body };
+    let mut t = NodesRead {
+        ok: false,
+        refusal: 0,
+        at: from,
+        rows: [none; 128],
+    };
+    let mut at = from;
+    let mut i: usize = 0;
+    while i < count {
+        let one = job_records::node_at(s, at);
+        let n = match one {
+            NodeRead::Bad(r) => {
+                t.ok = false;
+                t.refusal = r;
+                return t;
+            }
+            NodeRead::Good(v) => v,
+        };
+        t.rows[i] = n;
+        ids[i] = n.id;
+        at += 36;
+        i += 1;
+    }
+    t.ok = true;
+    t.at = at;
+    t
+}
+
+pub fn read_ports(
+    s: &[u8],
+    from: usize,
+    count: usize,
+    node_ids: &[u64; 256],
+    zeros: &[u64; 256],
+    n: usize,
+    nodes: &mut [u64],
+    ids: &mut [u64],
+) -> PortsRead
+    requires { ⌜ (from < 8192) × (count ≤ 256) × (n ≤ 256) ⌝ }
+    requires { ⌜ (length (now «node_ids») ≡ 256) × (length (now zeros) ≡ 256) × (length (now nodes) ≡ 256) × (length (now ids) ≡ 256) ⌝ }
+    ensures { λ r. ⌜ PortsTold (now (s .entry)) from count (first-keys (now («node_ids» .entry)) (now (zeros .entry)) n) (now (nodes .exit)) (now (ids .exit)) r ⌝ }
+{
+    let none = Port {
+        node: 0,
+        id: 0,
+        side: Side::North,
+        offset: 0.0,
+    };
+    let mut t = PortsRead {
+        ok: false,
+        refusal: 0,
+        at: from,
+        known: false,
+        rows: [none; 256],
+    };
+    let mut known = true;
+    let mut at = from;
+    let mut i: usize = 0;
+    while i < count {
+        let one = job_records::port_at(s, at);
+        let p = match one {
+            PortRead::Bad(r) => {
+                t.ok = false;
+                t.refusal = r;
+                return t;
+            }
+            PortRead::Good(v) => v,
+        };
+        let f = job_keys::find(node_ids, zeros, 0, n, p.node, 0);
+        known = known & f.known;
+        let side = p.side;
+        t.rows[i] = Port {
+            node: f.at,
+            id: p.id,
+            side: side,
+            offset: p.offset,
+        };
+        nodes[i] = p.node;
+        ids[i] = p.id;
+        at += 17;
+        i += 1;
+    }
+    t.ok = true;
+    t.at = at;
+    t.known = known;
+    t
+}
+
+// The points of one route, total points standing before them.
+fn read_points(s: &[u8], from: usize, count: usize, total: usize, points: &mut [f64]) -> Ended
+    requires { ⌜ (from < 60000) × (count ≤ 64) × (total + count ≤ 2048) × (length (now points) ≡ 4096) ⌝ }
+    ensures { λ r. ⌜ ended-as r (points-from (now (points .exit)) 0 (total + count)) (drop (from + 16 * count) (now (s .entry))) ≡ many count (push point) (points-from (now (points .entry)) 0 total) (drop from (now (s .entry))) ⌝ }
+{
+    let mut at = from;
+    let mut i: usize = 0;
+    while i < count {
+        let one = job_records::point_at(s, at);
+        let p = match one {
+            PointRead::Bad(r) => {
+                return Ended::Stopped(r);
+            }
+            PointRead::Good(v) => v,
+        };
+        route_views::put_point(&mut points[..], total + i, p);
+        at += 16;
+        i += 1;
+    }
+    Ended::Well
+}
+
+pub fn read_edges(
+    s: &[u8],
+    from: usize,
+    count: usize,
+    node_ids: &[u64; 256],
+    zeros: &[u64; 256],
+    n: usize,
+    points: &mut [f64],
+    ids: &mut [u64],
+) -> EdgesRead
+    requires { ⌜ (from < 16384) × (count ≤ 256) × (n ≤ 256) × (length (now points) ≡ 4096) ⌝ }
+    requires { ⌜ (length (now «node_ids») ≡ 256) × (length (now zeros) ≡ 256) × (length (now ids) ≡ 256) ⌝ }
+    ensures { λ r. ⌜ EdgesTold (now (s .entry)) from count (first-keys (now («node_ids» .entry)) (now (zeros .entry)) n) (now (points .exit)) (now (ids .exit)) r ⌝ }
+{
+    let none = Edge {
+        id: 0,
+        source: 0,
+        target: 0,
+        first: 0,
+        count: 0,
+    };
+    let mut t = EdgesRead {
+        ok: false,
+        refusal: 0,
+        at: from,
+        known: false,
+        rows: [none; 256],
+        total: 0,
+    };
+    let mut known = true;
+    let mut at = from;
+    let mut total: usize = 0;
+    let mut i: usize = 0;
+    while i < count {
+        let one = job_records::edge_head_at(s, at, total);
+        let e = match one {
+            EdgeRead::Bad(r) => {
+                t.ok = false;
+                t.refusal = r;
+                return t;
+            }
+            EdgeRead::Good(v) => v,
+        };
+        let route = read_points(s, at + 22, e.count, total, &mut points[..]);
+        if let Ended::Stopped(r) = route {
+            t.ok = false;
+            t.refusal = r;
+            return t;
+        }
+        let f = job_keys::find(node_ids, zeros, 0, n, e.source, 0);
+        let g = job_keys::find(node_ids, zeros, 0, n, e.target, 0);
+        known = known & (f.known & g.known);
+        t.rows[i] = Edge {
+            id: e.id,
+            source: f.at,
+            target: g.at,
+            first: e.first,
+            count: e.count,
+        };
+        ids[i] = e.id;
+        at += 22 + 16 * e.count;
+        total += e.count;
+        i += 1;
+    }
+    t.ok = true;
+    t.at = at;
+    t.known = known;
+    t.total = total;
+    t
+}
+
+pub fn read_bundles(
+    s: &[u8],
+    from: usize,
+    count: usize,
+    node_ids: &[u64; 256],
+    n: usize,
+    port_nodes: &[u64; 256],
+    port_ids: &[u64; 256],
+    p: usize,
+    edge_ids: &[u64; 256],
+    e: usize,
+    zeros: &[u64; 256],
+    ids: &mut [u64],
+    edges: &mut [u64],
+    roles: &mut [u64],
+) -> BundlesRead
+    requires { ⌜ (from < 60000) × (count ≤ 32) × (n ≤ 256) × (p ≤ 256) × (e ≤ 256) ⌝ }
+    requires { ⌜ (length (now «node_ids») ≡ 256) × (length (now «port_nodes») ≡ 256) × (length (now «port_ids») ≡ 256) × (length (now «edge_ids») ≡ 256) × (length (now zeros) ≡ 256) ⌝ }
+    requires { ⌜ (length (now ids) ≡ 256) × (length (now edges) ≡ 256) × (length (now roles) ≡ 256) ⌝ }
+    ensures { λ r. ⌜ BundlesTold (now (s .entry)) from count (first-keys (now («node_ids» .entry)) (now (zeros .entry)) n) (first-keys (now («port_nodes» .entry)) (now («port_ids» .entry)) p) (first-keys (now («edge_ids» .entry)) (now (zeros .entry)) e) (now (ids .exit)) (now (edges .exit)) (now (roles .exit)) r ⌝ }
+{
+    let none = Bundle {
+        id: 0,
+        port: 0,
+        role: Role::Input,
+        width: 0,
+        first: 0,
+        count: 0,
+    };
+    let nobody = Member {
+        edge: 0,
+        tap_lane: 0,
+    };
+    let mut t = Bundles {
+        rows: [none; 32],
+        count: count,
+    };
+    let mut m = Members {
+        rows: [nobody; 256],
+        count: 0,
+    };
+    let mut known = true;
+    let mut members_known = true;
+    let mut at = from;
+    let mut total: usize = 0;
+    let mut i: usize = 0;
+    while i < count {
+        let one = job_records::bundle_head_at(s, at, total);
+        let b = match one {
+            BundleRead::Bad(r) => {
+                return BundlesRead {
+                    ok: false,
+                    refusal: r,
+                    at: at,
+                    known: known,
+                    bundles: t,
+                    members_known: members_known,
+                    members: m,
+                };
+            }
+            BundleRead::Good(v) => v,
+        };
+        let role = b.role;
+        let role_key = job_records::number_of_role(role);
+        let mut place = at + 19;
+        let mut j: usize = 0;
+        while j < b.count {
+            let next = job_records::member_at(s, place, role);
+            let x = match next {
+                MemberRead::Bad(r) => {
+                    return BundlesRead {
+                        ok: false,
+                        refusal: r,
+                        at: at,
+                        known: known,
+                        bundles: t,
+                        members_known: members_known,
+                        members: m,
+                    };
+                }
+                MemberRead::Good(v) => v,
+            };
+            let f = job_keys::find(edge_ids, zeros, 0, e, x.edge, 0);
+            members_known = members_known & f.known;
+            m.rows[total] = Member {
+                edge: f.at,
+                tap_lane: x.tap_lane,
+            };
+            edges[total] = x.edge;
+            roles[total] = role_key;
+            total += 1;
+            place += 6;
+            j += 1;
+        }
+        let f = job_keys::find(node_ids, zeros, 0, n, b.node, 0);
+        let g = job_keys::find(port_nodes, port_ids, 0, p, b.node, b.port);
+        known = known & (f.known & g.known);
+        t.rows[i] = Bundle {
+            id: b.id,
+            port: g.at,
+            role: role,
+            width: b.width,
+            first: b.first,
+            count: b.count,
+        };
+        ids[i] = b.id;
+        at = place;
+        i += 1;
+    }
+    m.count = total;
+    BundlesRead {
+        ok: true,
+        refusal: 0,
+        at: at,
+        known: known,
+        bundles: t,
+        members_known: members_known,
+        members: m,
+    }
+}

@@ -1,0 +1,23 @@
+-- `plan_numbers::raise` meets its contract. Assumes nothing.
+use mathlib.Core.Path.{_≡_, refl, sym, _∙_, ap}
+use borrow.Author.Needs.{needs}
+use Rattle.plan_numbers.proofs.raise.Statement.{statement}
+use Rattle.plan_numbers.proofs.raise.Tie as tie
+
+enum-told : tie.Need-enum-told
+enum-told c = search needs
+
+enum-known-b : tie.Need-enum-known-b
+enum-known-b c = search needs
+
+max-requires : tie.Need-max-requires
+max-requires c κs = search needs
+
+returns : tie.Need-returns
+returns c = rw (c .enum-told .given .1)
+
+returns-2 : tie.Need-returns-2
+returns-2 c = rw (c .before .before .b .given .1, ← c .max .ensures)
+
+pub raise-spec : {M : Type 1} → statement M
+raise-spec = tie.close (tie.spec enum-told enum-known-b max-requires returns returns-2)
