@@ -20,8 +20,8 @@ ghost use Rattle.drawing.specs.Build.{route-at, trunk-met, trunk-taps, lowest, 
 ghost use Rattle.drawing.specs.Rewrite.{rewritten, put-route, rewrite-all};
 ghost use Rattle.drawing.specs.Check.{walk, among, over-routes, contact-tests};
 ghost use Rattle.drawing.specs.Sheet.{planned-x};
-ghost use Rattle.checks.specs.Rows.{taps-from, drawn-of, inside-route, Tabled, AllTabled, Slotted};
-ghost use Rattle.building.specs.Rows.{members-from, depth-at, rewrite-with, routes-in, CountsKept, Laned, Roomy, Placed, Untouched, Slots, Blank, Known, Marks, then-walk, rail-point, tapped-in, interior-at, Row, drawn-row, inside-with, railed-with, corner-with, Draws};
+ghost use Rattle.checks.specs.CheckRows.{taps-from, drawn-of, inside-route, Tabled, AllTabled, Slotted};
+ghost use Rattle.building.specs.MemberSlices.{members-from, depth-at, rewrite-with, routes-in, CountsKept, Laned, Roomy, Placed, Untouched, Slots, Blank, Known, Marks, then-walk, rail-point, tapped-in, interior-at, Row, drawn-row, inside-with, railed-with, corner-with, Draws};
 use board::Bundle;
 use board::DrawnBundle;
 use board::DrawnBundles;

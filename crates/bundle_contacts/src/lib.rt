@@ -21,7 +21,7 @@ ghost use Rattle.route.specs.Slots.{routes-of};
 ghost use Rattle.drawing.specs.Build.{tap-of};
 ghost use Rattle.drawing.specs.Check.{due, walk, clash, run-tests, over-routes, route-tests, drawn-tests, pair-tests, prior-tests};
 ghost use Rattle.checks.specs.Purse.{told};
-ghost use Rattle.checks.specs.Rows.{taps-from, drawn-of, chosen-by, Tabled, AllTabled, Slotted};
+ghost use Rattle.checks.specs.CheckRows.{taps-from, drawn-of, chosen-by, Tabled, AllTabled, Slotted};
 use board::DrawnBundle;
 use board::DrawnBundles;
 use board::Options;

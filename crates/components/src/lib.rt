@@ -8,7 +8,7 @@ ghost use mathlib.Core.Bool.{false};
 ghost use mathlib.Core.List.{List, map};
 ghost use Prim.Native.Nat.{ℕ, _≤_, _<_};
 ghost use lib.ListN.{getD, take, drop, replicate};
-ghost use Rattle.binary64.specs.Sign.{zero64};
+ghost use Rattle.binary64.specs.Accepted.{zero64};
 ghost use Rattle.geometry.specs.Points.{Route};
 ghost use Rattle.board.specs.Board.{Board};
 ghost use Rattle.search.specs.declared.Bounds.{Bounds};

@@ -17,27 +17,27 @@ use Rattle.board.specs.declared.DrawnBundle.{DrawnBundle}
 use Rattle.board.specs.declared.DrawnTap.{DrawnTap}
 use Rattle.board.specs.declared.DrawnTaps.{DrawnTaps}
 use Rattle.board.specs.Board.{window}
-use Rattle.plan.specs.Tables.{no-bundle}
+use Rattle.plan.specs.BoardTables.{no-bundle}
 use Rattle.planner.specs.Members.{member-at, edge-row}
-use Rattle.planner.proofs.Laws.{window-cons}
+use Rattle.planner.proofs.MemberTurns.{window-cons}
 use Rattle.drawing.specs.Build.{TapOn}
 use Rattle.drawing.specs.Check.{no-edge}
-use Rattle.checks.specs.Rows.{taps-from, drawn-of}
-use Rattle.building.specs.Rows.{Row}
-use Rattle.turns.specs.Rows.{Rows}
+use Rattle.checks.specs.CheckRows.{taps-from, drawn-of}
+use Rattle.building.specs.MemberSlices.{Row}
+use Rattle.turns.specs.TurnTables.{Rows}
 use Rattle.route.specs.Slots.{routes-of}
 use Rattle.board.specs.declared.DrawnBundles.{DrawnBundles}
 use Rattle.drawing.specs.Normal.{Page, page-of}
 use Rattle.normalize.specs.declared.Laid.{Laid}
-use Rattle.normalize.specs.Rows.{Heading, heading, sheet-in, page-in, Windows}
+use Rattle.normalize.specs.PageTables.{Heading, heading, sheet-in, page-in, Windows}
 use Rattle.answer.specs.declared.Frame.{Frame}
 use lib.Seq.{sets}
 use Rattle.answer.specs.Answer.{Sheet, Trunk, trunk-of, spot-of, lines-of, answer-bytes}
-use Rattle.answer.specs.Tables.{sheet-of}
+use Rattle.answer.specs.SheetTables.{sheet-of}
 use Rattle.job.specs.declared.Job as code
 use Rattle.promise.specs.Stage.{tap-told, bundle-told, bundles-told, page-told, told-bytes}
 use Rattle.job_tables.specs.Came.{Sizes, job-in}
-use Rattle.draw_job.specs.Tables.{Writes, TapsOf, MembersOn, OnSheet, sheet-told, told-as}
+use Rattle.draw_job.specs.JobTables.{Writes, TapsOf, MembersOn, OnSheet, sheet-told, told-as}
 
 null-tap : DrawnTap
 null-tap = record { edge = 0; point = point-at [] 0 }

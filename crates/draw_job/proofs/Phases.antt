@@ -16,8 +16,8 @@ use Rattle.job.specs.declared.Job as code
 use Rattle.job.specs.declared.JobRead.{JobRead}
 use Rattle.job.specs.Job.{read-job, given-routes}
 use Rattle.job.specs.Job as job
-use Rattle.job.specs.Whole.{JobTold, told-job, job-of}
-use Rattle.plan.specs.Tables as tables
+use Rattle.job.specs.AllTables.{JobTold, told-job, job-of}
+use Rattle.plan.specs.BoardTables as tables
 use Rattle.plan.specs.declared.Planning.{Planning}
 use Rattle.plan.specs.Depths.{offsets-of}
 use Rattle.plan.specs.Prepared.{plan-in, x-of}
@@ -28,21 +28,21 @@ use Rattle.drawing.specs.Build.{Drawn}
 use Rattle.drawing.specs.Sheet.{turns-from, sheet-of, blank, after-check}
 use Rattle.drawing.specs.Sheet as drawing
 use Rattle.drawing.specs.Normal.{page-of}
-use Rattle.turns.specs.Rows.{ends-as, standing, drawn-in, Full, Room, Listed, Rows}
+use Rattle.turns.specs.TurnTables.{ends-as, standing, drawn-in, Full, Room, Listed, Rows}
 use Rattle.normalize.specs.declared.Laid.{Laid}
-use Rattle.normalize.specs.Rows.{heading, sheet-in, page-in}
+use Rattle.normalize.specs.PageTables.{heading, sheet-in, page-in}
 use Rattle.plan.specs.Plan.{plan-of}
 use Rattle.plan.specs.Plan as plan
 use Rattle.components.specs.declared.Step.{Step}
 use Rattle.components.specs.Settled.{step-in}
 use Rattle.answer.specs.Answer.{Sheet, answer-bytes, notice-bytes}
-use Rattle.answer.specs.Laws.{notice-length}
-use Rattle.answer.specs.Tables as answer
+use Rattle.answer.specs.Stores.{notice-length}
+use Rattle.answer.specs.SheetTables as answer
 use Rattle.promise.specs.Stage.{Told, refused, drawn, normalized, page-told, planned, sheet-drawn, after-sheet, after-plan, after-reading, told, told-bytes, written, stage-of}
 use Rattle.promise.specs.Size.{short, roomy, written-size}
 use Rattle.job_tables.specs.Ready.{read-accepted, tables-sound, routes-in}
 use Rattle.job_tables.specs.Came.{Sizes, job-in, Came}
-use Rattle.draw_job.specs.Tables.{Writes, TapsOf, OnSheet, Lent, told-as}
+use Rattle.draw_job.specs.JobTables.{Writes, TapsOf, OnSheet, Lent, told-as}
 use Rattle.draw_job.proofs.Ready.{given-same}
 use Rattle.draw_job.proofs.Answers.{sheet-same}
 

@@ -17,9 +17,9 @@ use Rattle.job.specs.declared.Job as code
 use Rattle.job.specs.Job.{Job, given-routes}
 use Rattle.job.specs.Sound.{GoodEdge, GoodBundle, starts}
 use Rattle.job.specs.Sound as sound
-use Rattle.plan.specs.Tables.{Sound, given-route}
-use Rattle.plan.specs.Tables as tables
-use Rattle.turns.specs.Rows.{Follow, Once}
+use Rattle.plan.specs.BoardTables.{Sound, given-route}
+use Rattle.plan.specs.BoardTables as tables
+use Rattle.turns.specs.TurnTables.{Follow, Once}
 use Rattle.draw_job.specs.Lengths.{once}
 use Rattle.job_tables.specs.Ready.{good, members-in}
 use Rattle.job_tables.specs.Came.{job-in, Came, Sizes}

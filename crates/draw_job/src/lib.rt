@@ -6,7 +6,7 @@ ghost use Prim.Native.Nat.{_*_, _≤_};
 ghost use lib.ListN.{length};
 ghost use Rattle.promise.specs.Stage.{planned, after-plan, told-bytes};
 ghost use Rattle.job_tables.specs.Came.{job-in, Came};
-ghost use Rattle.draw_job.specs.Tables.{Writes, TapsOf, MembersOn, Lent};
+ghost use Rattle.draw_job.specs.JobTables.{Writes, TapsOf, MembersOn, Lent};
 use answer::Frame;
 use board::DrawnTap;
 use board::DrawnTaps;

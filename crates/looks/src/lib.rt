@@ -15,7 +15,7 @@ ghost use lib.ListN.{length};
 ghost use Rattle.drawing.specs.Build.{tap-of};
 ghost use Rattle.drawing.specs.Check.{own, clash};
 ghost use Rattle.checks.specs.Purse.{charged};
-ghost use Rattle.checks.specs.Rows.{taps-from, box-at, edge-at, Tabled};
+ghost use Rattle.checks.specs.CheckRows.{taps-from, box-at, edge-at, Tabled};
 use board::Edge;
 use board::Options;
 use geometry::Node;

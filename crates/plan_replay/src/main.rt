@@ -4,7 +4,7 @@
 ghost use mathlib.Core.Path.{_≡_};
 ghost use Prim.Native.Nat.{ℕ, _+_, _≤_, _<_};
 ghost use lib.ListN.{length, getD};
-ghost use Rattle.plan.specs.Tables.{Sound, RoutesIn, no-member};
+ghost use Rattle.plan.specs.BoardTables.{Sound, RoutesIn, no-member};
 ghost use Rattle.plan.specs.Prepared.{Inside, Searchable, AllAmong, Listing};
 use board::Bundle;
 use board::Members;

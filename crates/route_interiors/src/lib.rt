@@ -15,7 +15,7 @@ ghost use lib.ListN.{length};
 ghost use Rattle.geometry.specs.Points.{points-from, runs};
 ghost use Rattle.drawing.specs.Check.{walk, inside-tests};
 ghost use Rattle.checks.specs.Purse.{told};
-ghost use Rattle.checks.specs.Rows.{nodes-in};
+ghost use Rattle.checks.specs.CheckRows.{nodes-in};
 use board::Edge;
 use drawing::Finding;
 

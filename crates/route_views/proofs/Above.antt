@@ -40,7 +40,7 @@ use denote.Triple.Clauses.{Ended, Clauses, ensured, lasts, closing}
 use Rattle.geometry.specs.declared.RouteView.{RouteView}
 use Rattle.geometry.proofs.RouteView.Laws as T′
 use Rattle.route_views.proofs.view as view
-use Rattle.route_views.proofs.Thin.{B, get-ended, get-clauses, Get}
+use Rattle.route_views.proofs.ThinViews.{B, get-ended, get-clauses, Get}
 use Rattle.route_views.proofs.Made.{View, v, Own, made, y, Same, is-made, to-view, goes-view, view-said, erased-typed}
 
 module _ (R : RattleType) (of : List Float → ℕ → R .Denot) (Asks : ℕ → ℕ → Type 0) where

@@ -36,7 +36,7 @@ use Rattle.geometry.specs.declared.RouteView.{RouteView}
 use Rattle.geometry.proofs.RouteView as T
 use Rattle.geometry.proofs.RouteView.Laws as T′
 use Rattle.route_views.proofs.view as view
-use Rattle.route_views.proofs.Thin.{B}
+use Rattle.route_views.proofs.ThinViews.{B}
 
 module _ {M : Type 1} (𝓤 : URA M) (H : Heap 𝓤) (A : Atoms 𝓤) (mem : Memory → SProp 𝓤) (run : Routine → Fun 𝓤) where
   abbrev pub View : Contract 𝓤

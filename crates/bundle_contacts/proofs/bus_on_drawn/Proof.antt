@@ -1,5 +1,5 @@
 use mathlib.Core.Path.{_∙_}
-use Rattle.checks.specs.Laws.{then-on, then-off}
+use Rattle.checks.specs.TestSteps.{then-on, then-off}
 use borrow.Author.Needs.{needs}
 use Rattle.bundle_contacts.proofs.bus_on_drawn.Statement.{statement}
 use Rattle.bundle_contacts.proofs.bus_on_drawn.Tie as tie

@@ -9,8 +9,8 @@ use Rattle.geometry.specs.Points.{runs, points-from}
 use Rattle.geometry.specs.Apart.{trunk}
 use Rattle.drawing.specs.Build.{tap-of}
 use Rattle.drawing.specs.Check.{due, walk, clash, run-tests}
-use Rattle.checks.specs.Rows.{taps-from, Tabled}
-use Rattle.checks.specs.Laws.{tests-at, walk-start, walk-off-at, walk-next, walk-end}
+use Rattle.checks.specs.CheckRows.{taps-from, Tabled}
+use Rattle.checks.specs.TestSteps.{tests-at, walk-start, walk-off-at, walk-next, walk-end}
 use borrow.Author.Needs.{needs}
 use Rattle.bundle_contacts.proofs.bus_on_route.Statement.{statement}
 use Rattle.bundle_contacts.proofs.bus_on_route.Tie as tie

@@ -4,7 +4,7 @@ use Rattle.geometry.specs.declared.Trunk.{Trunk}
 use Rattle.geometry.specs.declared.Tap.{Tap}
 use Rattle.geometry.specs.Apart.{apart}
 use Rattle.drawing.specs.Check.{clash}
-use Rattle.checks.specs.Laws.{due-spent, due-hit, due-clean, walk-done, apart-clean}
+use Rattle.checks.specs.TestSteps.{due-spent, due-hit, due-clean, walk-done, apart-clean}
 use borrow.Author.Tests.{not-true, not-false}
 use borrow.Author.Needs.{needs}
 use Rattle.bundle_contacts.proofs.bus_on_route_run.Statement.{statement}

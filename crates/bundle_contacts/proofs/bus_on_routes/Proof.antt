@@ -6,8 +6,8 @@ use denote.Ref.{now}
 use Rattle.geometry.specs.Apart.{trunk}
 use Rattle.route.specs.Slots.{routes-of}
 use Rattle.drawing.specs.Check.{walk, over-routes, route-tests}
-use Rattle.checks.specs.Rows.{taps-from, chosen-by, Tabled, Slotted}
-use Rattle.checks.specs.Laws.{rest-of, over-skip, over-on, over-off, over-end}
+use Rattle.checks.specs.CheckRows.{taps-from, chosen-by, Tabled, Slotted}
+use Rattle.checks.specs.TestSteps.{rest-of, over-skip, over-on, over-off, over-end}
 use borrow.Author.Needs.{needs}
 use Rattle.bundle_contacts.proofs.bus_on_routes.Statement.{statement}
 use Rattle.bundle_contacts.proofs.bus_on_routes.Tie as tie

@@ -1,6 +1,6 @@
 use mathlib.Core.Path.{sym, _∙_}
 use mathlib.Core.List.{[]}
-use Rattle.checks.specs.Laws.{due-spent, due-hit, due-clean, walk-done}
+use Rattle.checks.specs.TestSteps.{due-spent, due-hit, due-clean, walk-done}
 use borrow.Author.Needs.{needs}
 use Rattle.bundle_contacts.proofs.bus_on_run.Statement.{statement}
 use Rattle.bundle_contacts.proofs.bus_on_run.Tie as tie

@@ -1,6 +1,6 @@
 use mathlib.Core.Path.{_∙_}
 use Rattle.drawing.specs.Check.{drawn-tests}
-use Rattle.checks.specs.Laws.{then-on, then-off}
+use Rattle.checks.specs.TestSteps.{then-on, then-off}
 use borrow.Author.Needs.{needs}
 use Rattle.bundle_contacts.proofs.drawn_on_routes.Statement.{statement}
 use Rattle.bundle_contacts.proofs.drawn_on_routes.Tie as tie

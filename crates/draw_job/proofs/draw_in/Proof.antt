@@ -10,9 +10,9 @@ use Rattle.board.specs.declared.DrawnBundles.{DrawnBundles}
 use Rattle.job_tables.specs.Came.{Sizes}
 use Rattle.job_tables.specs.Ready.{tables-sound, routes-in}
 use Rattle.normalize.proofs.Shift.{windows-kept}
-use Rattle.normalize.specs.Rows.{Windows}
-use Rattle.plan.specs.Rows as rows
-use Rattle.draw_job.specs.Tables.{OnSheet}
+use Rattle.normalize.specs.PageTables.{Windows}
+use Rattle.plan.specs.TableReads as rows
+use Rattle.draw_job.specs.JobTables.{OnSheet}
 use Rattle.draw_job.proofs.Answers as answers
 use Rattle.draw_job.proofs.Ready as ready
 use Rattle.draw_job.proofs.Phases as laws

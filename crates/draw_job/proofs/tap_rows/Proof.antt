@@ -8,7 +8,7 @@ use Rattle.geometry.specs.declared.Point.{Point}
 use Rattle.geometry.specs.Points.{point-at}
 use Rattle.board.specs.declared.DrawnTap.{DrawnTap}
 use Rattle.planner.specs.Members.{edge-row}
-use Rattle.planner.proofs.Laws.{filled}
+use Rattle.planner.proofs.MemberTurns.{filled}
 use borrow.Author.Needs.{needs}
 use Rattle.draw_job.proofs.tap_rows.Statement.{statement}
 use Rattle.draw_job.proofs.tap_rows.Tie as tie

@@ -1,5 +1,5 @@
 use borrow.Author.Needs.{needs}
-use Rattle.checks.specs.Rows.{box-at}
+use Rattle.checks.specs.CheckRows.{box-at}
 use Rattle.looks.proofs.box_at.Statement.{statement}
 use Rattle.looks.proofs.box_at.Tie as tie
 use Rattle.looks.proofs.box_at.Reads as reads

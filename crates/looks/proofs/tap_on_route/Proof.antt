@@ -7,8 +7,8 @@ use denote.Ref.{now}
 use Rattle.geometry.specs.declared.Point.{Point}
 use Rattle.geometry.specs.declared.Tap.the-variants.{At}
 use Rattle.drawing.specs.Build.{tap-of}
-use Rattle.checks.specs.Rows.{taps-from}
-use Rattle.checks.specs.Laws.{tap-at, tap-start, tap-here, tap-next, tap-none}
+use Rattle.checks.specs.CheckRows.{taps-from}
+use Rattle.checks.specs.TestSteps.{tap-at, tap-start, tap-here, tap-next, tap-none}
 use Rattle.looks.proofs.tap_on_route.Statement.{statement}
 use Rattle.looks.proofs.tap_on_route.Tie as tie
 use Rattle.looks.proofs.tap_on_route.Reads as reads

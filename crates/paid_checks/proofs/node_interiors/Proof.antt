@@ -6,8 +6,8 @@ use lib.ListN.{length}
 use denote.Ref.{now}
 use Rattle.route.specs.Slots.{routes-of}
 use Rattle.drawing.specs.Check.{walk, over-routes}
-use Rattle.checks.specs.Rows.{chosen-by, inside-route, Slotted}
-use Rattle.checks.specs.Laws.{rest-of, over-skip, over-on, over-off, over-end, edge-tests}
+use Rattle.checks.specs.CheckRows.{chosen-by, inside-route, Slotted}
+use Rattle.checks.specs.TestSteps.{rest-of, over-skip, over-on, over-off, over-end, edge-tests}
 use borrow.Author.Needs.{needs}
 use Rattle.paid_checks.proofs.node_interiors.Statement.{statement}
 use Rattle.paid_checks.proofs.node_interiors.Tie as tie

@@ -1,6 +1,6 @@
 use mathlib.Core.Path.{_∙_}
 use Rattle.drawing.specs.Check.{contact-tests}
-use Rattle.checks.specs.Laws.{then-on, then-off}
+use Rattle.checks.specs.TestSteps.{then-on, then-off}
 use borrow.Author.Needs.{needs}
 use Rattle.paid_checks.proofs.route_contacts.Statement.{statement}
 use Rattle.paid_checks.proofs.route_contacts.Tie as tie

@@ -51,7 +51,7 @@ use Rattle.board.proofs.DrawnBundles.Laws as Bs′
 use Rattle.drawing.proofs.Finding as S
 use Rattle.drawing.proofs.Finding.Laws as S′
 use Rattle.paid_checks.proofs.Lent.{others}
-use Rattle.paid_checks.proofs.Thin.{clauses, Post, Left, goes-in, Done, comes-out, exits, meets}
+use Rattle.paid_checks.proofs.LentPurse.{clauses, Post, Left, goes-in, Done, comes-out, exits, meets}
 use Rattle.paid_checks.proofs.route_contacts as work
 use Rattle.paid_checks.proofs.route_contacts.Symbol as work-def
 use Rattle.paid_checks.proofs.route_contacts.Symbol.{name as #paid-checks·route-contacts}

@@ -43,7 +43,7 @@ use Rattle.drawing.specs.declared.Finding.{Finding}
 use Rattle.drawing.proofs.Finding as S
 use Rattle.drawing.proofs.Finding.Laws as S′
 use Rattle.paid_checks.proofs.Lent.{others}
-use Rattle.paid_checks.proofs.Thin.{clauses, Post, Left, goes-in, Done, comes-out, exits, meets}
+use Rattle.paid_checks.proofs.LentPurse.{clauses, Post, Left, goes-in, Done, comes-out, exits, meets}
 use Rattle.paid_checks.proofs.node_interiors as work
 use Rattle.paid_checks.proofs.node_interiors.Symbol as work-def
 use Rattle.paid_checks.proofs.node_interiors.Symbol.{name as #paid-checks·node-interiors}

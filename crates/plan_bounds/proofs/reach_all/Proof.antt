@@ -13,9 +13,9 @@ use Rattle.board.specs.Board.{Board}
 use Rattle.plan.specs.declared.Bound.{Bound}
 use Rattle.plan.specs.Bounds.{reach-all}
 use Rattle.plan.specs.Depths.{members-in, corridor-of}
-use Rattle.plan.specs.Tables.{no-member}
+use Rattle.plan.specs.BoardTables.{no-member}
 use Rattle.plan.specs.Prepared.{other, end-x, Rowed, Windowed, Cornered}
-use Rattle.plan.specs.Rows as rows
+use Rattle.plan.specs.TableReads as rows
 use Rattle.plan_bounds.proofs.Bounding as laws
 use borrow.Author.Needs.{needs}
 use Rattle.plan_bounds.proofs.reach_all.Statement.{statement}

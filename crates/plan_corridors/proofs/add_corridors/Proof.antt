@@ -12,9 +12,9 @@ use Rattle.board.specs.declared.Bundle.{Bundle}
 use Rattle.board.specs.declared.Member.{Member}
 use Rattle.board.specs.Board.{Board, rail-depth}
 use Rattle.plan.specs.Depths.{_⊕_, number, inward, first-of, endpoint-of, members-in, pitch-of, corridor-x, corridor-among}
-use Rattle.plan.specs.Tables.{corridor-in, no-member}
+use Rattle.plan.specs.BoardTables.{corridor-in, no-member}
 use Rattle.plan.specs.Prepared.{Rowed}
-use Rattle.plan.specs.Rows as laws
+use Rattle.plan.specs.TableReads as laws
 use Rattle.plan_corridors.proofs.Among as among
 use borrow.Author.Needs.{needs}
 use borrow.Author.Tests.{not-true, not-false}

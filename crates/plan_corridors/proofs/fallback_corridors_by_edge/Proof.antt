@@ -9,9 +9,9 @@ use Rattle.board.specs.declared.Options.{Options}
 use Rattle.board.specs.declared.Bundle.{Bundle}
 use Rattle.board.specs.Board.{Board, bundle-pitch, rail-depth}
 use Rattle.plan.specs.Depths.{inward, first-of, endpoint-of, corridor-from}
-use Rattle.plan.specs.Tables.{corridor-in, no-bundle}
+use Rattle.plan.specs.BoardTables.{corridor-in, no-bundle}
 use Rattle.plan.specs.Prepared.{Rowed, Ended}
-use Rattle.plan.specs.Rows as laws
+use Rattle.plan.specs.TableReads as laws
 use Rattle.plan_corridors.proofs.Among as among
 use borrow.Author.Needs.{needs}
 use Rattle.plan_corridors.proofs.fallback_corridors_by_edge.Statement.{statement}

@@ -9,8 +9,8 @@ use Rattle.board.specs.declared.Bundle.{Bundle}
 use Rattle.board.specs.declared.Port.{Port}
 use Rattle.board.specs.Board.{Board}
 use Rattle.plan.specs.Depths.{offsets-from, no-port}
-use Rattle.plan.specs.Tables.{board-of, Resolved, no-bundle, no-member}
-use Rattle.plan.specs.Rows as laws
+use Rattle.plan.specs.BoardTables.{board-of, Resolved, no-bundle, no-member}
+use Rattle.plan.specs.TableReads as laws
 use borrow.Author.Needs.{needs}
 use Rattle.plan_depths.proofs.corridor_depth_offsets.Statement.{statement}
 use Rattle.plan_depths.proofs.corridor_depth_offsets.Tie as tie

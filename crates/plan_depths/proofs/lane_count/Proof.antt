@@ -6,7 +6,7 @@ use native.Mathlib.Omega.{arith}
 use lib.ListN.{length, getD, take, drop}
 use Rattle.board.specs.declared.Member.{Member}
 use Rattle.plan.specs.Depths.{lane-count}
-use Rattle.plan.specs.Rows as laws
+use Rattle.plan.specs.TableReads as laws
 use borrow.Author.Needs.{needs}
 use Rattle.plan_depths.proofs.lane_count.Statement.{statement}
 use Rattle.plan_depths.proofs.lane_count.Tie as tie

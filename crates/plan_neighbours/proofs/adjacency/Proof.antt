@@ -9,7 +9,7 @@ use Rattle.geometry.specs.Points.{Route}
 use Rattle.board.specs.Board.{Board}
 use Rattle.plan.specs.Plan.{joined}
 use Rattle.plan.specs.Prepared.{EdgesOf, range-at, no-range, ranged-from, TabledTo}
-use Rattle.plan.specs.Rows as rows
+use Rattle.plan.specs.TableReads as rows
 use Rattle.plan_neighbours.proofs.Neighbours as laws
 use borrow.Author.Needs.{needs}
 use Rattle.plan_neighbours.proofs.adjacency.Statement.{statement}

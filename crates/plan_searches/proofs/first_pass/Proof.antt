@@ -11,7 +11,7 @@ use Rattle.search.specs.Search.{search-of}
 use Rattle.plan.specs.declared.Reached.{Reached}
 use Rattle.plan.specs.Plan.{first-pass}
 use Rattle.plan.specs.Prepared.{bundle-of, no-reached, reached-at, ranged-from, passed, AllTell}
-use Rattle.plan.specs.Rows as rows
+use Rattle.plan.specs.TableReads as rows
 use Rattle.plan_searches.proofs.Passes as laws
 use borrow.Author.Needs.{needs}
 use Rattle.plan_searches.proofs.first_pass.Statement.{statement}

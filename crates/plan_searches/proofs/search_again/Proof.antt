@@ -13,7 +13,7 @@ use Rattle.plan.specs.declared.Bound.{Bound}
 use Rattle.plan.specs.declared.Bound.the-variants.{None}
 use Rattle.plan.specs.Plan.{Ranged, Plan, ranged-at, asked, required, seek, found-x, again}
 use Rattle.plan.specs.Prepared.{AllTell, SameBundles, x-of, no-planned, reached-at, plan-in, upper-at}
-use Rattle.plan.specs.Rows as rows
+use Rattle.plan.specs.TableReads as rows
 use Rattle.plan.specs.Agains as laws
 use borrow.Author.Needs.{needs}
 use Rattle.plan_searches.proofs.search_again.Statement.{statement}

@@ -5,8 +5,8 @@ use lib.ListN.{length}
 use denote.Ref.{now}
 use Rattle.geometry.specs.Points.{runs, points-from}
 use Rattle.drawing.specs.Check.{walk, inside-tests}
-use Rattle.checks.specs.Rows.{boxes-from, nodes-in}
-use Rattle.checks.specs.Laws.{nodes-at, node-start, node-own, node-spent, node-hit, node-clean, node-end, inside-at, inside-start, inside-slanted, inside-straight, inside-end}
+use Rattle.checks.specs.CheckRows.{boxes-from, nodes-in}
+use Rattle.checks.specs.TestSteps.{nodes-at, node-start, node-own, node-spent, node-hit, node-clean, node-end, inside-at, inside-start, inside-slanted, inside-straight, inside-end}
 use borrow.Author.Needs.{needs}
 use Rattle.route_interiors.proofs.route_inside.Statement.{statement}
 use Rattle.route_interiors.proofs.route_inside.Tie as tie

@@ -42,7 +42,7 @@ use denote.Triple.Clauses.{ensured, lasts}
 use Rattle.geometry.specs.declared.Point.{Point}
 use Rattle.geometry.specs.declared.RouteView.{RouteView}
 use Rattle.geometry.specs.Points.{point-at}
-use Rattle.route_views.proofs.Thin.{B}
+use Rattle.route_views.proofs.ThinViews.{B}
 use Rattle.route_views.proofs.Made.{View, v, Own, made, y, Same, is-made, to-view, goes-view, view-said, erased-typed}
 use Rattle.geometry.proofs.RouteView as T
 use Rattle.geometry.proofs.RouteView.Laws as T′

@@ -6,7 +6,7 @@ use denote.Struct.Laws as LL
 use denote.Triple.Spec.{tripleOf}
 use denote.Triple.Table.{entered, cited}
 use Rattle.geometry.specs.Points.{run-at}
-use Rattle.route_views.proofs.Thin.{Get}
+use Rattle.route_views.proofs.ThinViews.{Get}
 use Rattle.route_views.proofs.Made.{View}
 use Rattle.route_views.proofs.Above.{plain-meets}
 use Rattle.geometry.proofs.Segment as S

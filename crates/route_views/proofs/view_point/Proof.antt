@@ -9,7 +9,7 @@ use denote.Struct.Laws as LL
 use denote.Triple.Spec.{tripleOf}
 use denote.Triple.Table.{entered, cited}
 use Rattle.geometry.specs.Points.{point-at}
-use Rattle.route_views.proofs.Thin.{From, get-meets}
+use Rattle.route_views.proofs.ThinViews.{From, get-meets}
 use Rattle.geometry.proofs.Point as S
 use Rattle.geometry.proofs.Point.Laws as S′
 use Rattle.route_views.proofs.point_from.Symbol as from-def

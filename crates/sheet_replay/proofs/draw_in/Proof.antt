@@ -2,7 +2,7 @@
 use mathlib.Core.Path.{_≡_}
 use Rattle.job_tables.specs.Came.{Sizes}
 use Rattle.job_tables.specs.Ready.{tables-sound, routes-in}
-use Rattle.plan.specs.Rows as rows
+use Rattle.plan.specs.TableReads as rows
 use Rattle.draw_job.proofs.Ready as ready
 use Rattle.draw_job.proofs.Phases as laws
 use borrow.Author.Needs.{needs}

@@ -4,8 +4,8 @@ use mathlib.Core.Path.{_≡_, refl}
 use Prim.Native.Nat.{_≤_, _-_}
 use lib.ListN.{length}
 use Rattle.plan.specs.Depths.{no-node}
-use Rattle.plan.specs.Rows.{length-mapped, null-node, getD-any}
-use Rattle.turns.specs.Rows.{Boxed}
+use Rattle.plan.specs.TableReads.{length-mapped, null-node, getD-any}
+use Rattle.turns.specs.TurnTables.{Boxed}
 use Rattle.turns.proofs.Filling.{boxed-next}
 use Rattle.turns.proofs.node_boxes.Statement.{statement}
 use Rattle.turns.proofs.node_boxes.Tie as tie

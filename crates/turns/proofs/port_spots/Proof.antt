@@ -6,9 +6,9 @@ use lib.ListN.{length, getD}
 use denote.Ref.{now}
 use Rattle.board.specs.declared.Port.{Port}
 use Rattle.plan.specs.Depths.{no-port}
-use Rattle.plan.specs.Tables.{no-bundle}
-use Rattle.plan.specs.Rows.{length-mapped, null-port, getD-any}
-use Rattle.turns.specs.Rows.{Spotted}
+use Rattle.plan.specs.BoardTables.{no-bundle}
+use Rattle.plan.specs.TableReads.{length-mapped, null-port, getD-any}
+use Rattle.turns.specs.TurnTables.{Spotted}
 use Rattle.turns.proofs.Filling.{spotted-next}
 use Rattle.turns.proofs.port_spots.Statement.{statement}
 use Rattle.turns.proofs.port_spots.Tie as tie
