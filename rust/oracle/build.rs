@@ -15,7 +15,7 @@ struct Patch {
 }
 
 // README.md lists these line by line.
-const PATCHES: [Patch; 11] = [
+const PATCHES: [Patch; 12] = [
     Patch {
         name: "tap grant: parameters",
         from: "    separate_same_role_collectors: bool,
@@ -139,6 +139,29 @@ fn promotion_collector_candidates_in(
     remaining: &mut usize,
 ) -> Vec<f64> {
     let Some(range) = range else {
+",
+    },
+    Patch {
+        name: "promotion candidates: note whether the second search is spent",
+        from: "        && let Some(offset_candidates) = common_horizontal_collector_xs(
+            context,
+            bundle,
+            routes,
+            range.minimum_x,
+            adjacent_lane,
+            range.maximum_x,
+            remaining,
+        )
+",
+        to: "        && let Some(offset_candidates) = harness::note_second(common_horizontal_collector_xs(
+            context,
+            bundle,
+            routes,
+            range.minimum_x,
+            adjacent_lane,
+            range.maximum_x,
+            remaining,
+        ))
 ",
     },
 ];

@@ -7,11 +7,11 @@
 ghost use Prim.Native.Nat.{_+_, _*_, _≤_, _<_};
 ghost use lib.ListN.{length, take};
 ghost use Rattle.search.specs.Stretches.{members, routes, Windows, runs-in};
-ghost use Rattle.search.specs.Promotion.{with-adjacent, promotion-xs};
-ghost use Rattle.search.specs.Search.{Lists};
+ghost use Rattle.search.specs.Promotion.{with-adjacent, promotion-xs, Promotes};
 use geometry::Role;
 use search::Bounds;
 use search::Listed;
+use search::Promoted;
 use search::TapVisits;
 
 // ---- promotion_collector_candidates
@@ -29,15 +29,15 @@ fn add_adjacent(
     left: TapVisits,
     xs: &mut [f64],
     scratch: &mut [f64],
-) -> Listed
+) -> Promoted
     requires { ⌜ Windows (now points) (now starts) (now counts) ⌝ }
     requires { ⌜ n + runs-in (members role pitch (routes (now points) (now starts) (now counts))) < length (now xs) ⌝ }
     requires { ⌜ length (now xs) ≤ length (now scratch) ⌝ }
-    ensures { λ r. ⌜ Lists r (now (xs .exit)) (length (now (xs .entry))) (with-adjacent role pitch b (members role pitch (routes (now (points .entry)) (now (starts .entry)) (now (counts .entry)))) (take n (now (xs .entry))) (left .0)) ⌝ }
+    ensures { λ r. ⌜ Promotes r (now (xs .exit)) (length (now (xs .entry))) (with-adjacent role pitch b (members role pitch (routes (now (points .entry)) (now (starts .entry)) (now (counts .entry)))) (take n (now (xs .entry))) (left .0)) ⌝ }
 {
     let lane = search_runs::adjacent_lane(role, pitch, b.desired);
     if !search_runs::is_between(b, lane) {
-        return Listed::All(n, left);
+        return Promoted::All(n, left);
     }
     let second = Bounds {
         minimum: b.minimum,
@@ -56,11 +56,11 @@ fn add_adjacent(
         scratch,
     );
     match g {
-        Listed::Spent => Listed::All(n, TapVisits(0)),
+        Listed::Spent => Promoted::SecondSpent(n),
         Listed::All(m, rest) => {
             let both = n + m;
             let k = search_lists::put_in_order(role, &mut xs[..both], scratch);
-            Listed::All(k, rest)
+            Promoted::All(k, rest)
         }
     }
 }
@@ -77,11 +77,11 @@ pub fn promotion_candidates(
     granted: TapVisits,
     xs: &mut [f64],
     scratch: &mut [f64],
-) -> Listed
+) -> Promoted
     requires { ⌜ Windows (now points) (now starts) (now counts) ⌝ }
     requires { ⌜ 2 * runs-in (members role pitch (routes (now points) (now starts) (now counts))) + 1 < length (now xs) ⌝ }
     requires { ⌜ length (now xs) ≤ length (now scratch) ⌝ }
-    ensures { λ r. ⌜ Lists r (now (xs .exit)) (length (now (xs .entry))) (promotion-xs role pitch b (members role pitch (routes (now (points .entry)) (now (starts .entry)) (now (counts .entry)))) (granted .0)) ⌝ }
+    ensures { λ r. ⌜ Promotes r (now (xs .exit)) (length (now (xs .entry))) (promotion-xs role pitch b (members role pitch (routes (now (points .entry)) (now (starts .entry)) (now (counts .entry)))) (granted .0)) ⌝ }
 {
     let g = collector_xs::common_horizontal_collector_xs(
         points,
@@ -95,7 +95,7 @@ pub fn promotion_candidates(
         scratch,
     );
     match g {
-        Listed::Spent => Listed::Spent,
+        Listed::Spent => Promoted::Spent,
         Listed::All(n, left) => add_adjacent(
             points,
             starts,

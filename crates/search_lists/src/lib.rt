@@ -35,11 +35,11 @@ pub fn gather(
     let mut n = 1;
     let mut left = granted.0;
     let mut m = 0;
-    'members: while m < starts.len() {
+    while m < starts.len() {
         let mut at = starts[m];
         let mut rest = counts[m];
         m += 1;
-        'runs: while 1 < rest {
+        while 1 < rest {
             if left == 0 {
                 return Listed::Spent;
             }
@@ -77,7 +77,10 @@ pub fn try_candidates(
     let mut left = granted.0;
     let mut n = 0;
     let mut i = 0;
-    'candidates: while i < xs.len() {
+    'candidates: loop {
+        if i == xs.len() {
+            return Listed::All(n, TapVisits(left));
+        }
         let x = xs[i];
         i += 1;
         let mut m = 0;
@@ -85,9 +88,9 @@ pub fn try_candidates(
             let mut at = starts[m];
             let mut rest = counts[m];
             m += 1;
-            'runs: while 1 < rest {
+            while 1 < rest {
                 if left == 0 {
-                    return Listed::Spent;
+                    break 'candidates;
                 }
                 left -= 1;
                 if search_runs::run_holds(points, at, rest, role, pitch, x) {
@@ -101,7 +104,7 @@ pub fn try_candidates(
         xs[n] = x;
         n += 1;
     }
-    Listed::All(n, TapVisits(left))
+    Listed::Spent
 }
 
 // The numbers in the order in which they are tried, equal bits kept once, at the front of xs; the

@@ -551,11 +551,12 @@ fn write_promoted_tag(out: &mut Writer, promoted: &Promoted) {
         Promoted::Kept(_) => 1,
         Promoted::Spent => 2,
         Promoted::Absent => 3,
+        Promoted::SecondSpent(_) => 4,
     });
 }
 
 fn write_promoted_list(out: &mut Writer, promoted: &Promoted) {
-    if let Promoted::Kept(list) = promoted {
+    if let Promoted::Kept(list) | Promoted::SecondSpent(list) = promoted {
         write_numbers(out, list);
     }
 }

@@ -11,6 +11,7 @@ thread_local! {
     static INTERIOR: Cell<bool> = const { Cell::new(false) };
     static SEARCHES: Cell<u64> = const { Cell::new(0) };
     static SEARCH_COST: Cell<u64> = const { Cell::new(0) };
+    static SECOND_SPENT: Cell<bool> = const { Cell::new(false) };
     static EVENTS: Cell<[u32; 5]> = const { Cell::new([0; 5]) };
 }
 
@@ -51,6 +52,13 @@ pub(super) fn note_search(
         .sum::<u64>();
     SEARCHES.set(SEARCHES.get() + 1);
     SEARCH_COST.set(SEARCH_COST.get() + runs * (runs + 2));
+}
+
+/// Called by the copy with what the second search of promotion_collector_candidates gives: None is
+/// spent.
+pub(super) fn note_second(list: Option<Vec<f64>>) -> Option<Vec<f64>> {
+    SECOND_SPENT.set(list.is_none());
+    list
 }
 
 /// What the verifiers and the rewriting answer when they do not pass.
@@ -100,6 +108,8 @@ pub(crate) enum Ranged {
 pub(crate) enum Promoted {
     Absent,
     Spent,
+    /// The list is the first search's, and may be empty.
+    SecondSpent(Vec<f64>),
     Nothing,
     Kept(Vec<f64>),
 }
@@ -322,7 +332,9 @@ impl<'board, 'graph> Prepared<'board, 'graph> {
         let kept = promotion_collector_candidates(&context, bundle, routes, &mut again);
         assert_eq!(again, *visits);
         match &promoted {
-            Promoted::Kept(list) => assert_eq!(bits(list), bits(&kept)),
+            Promoted::Kept(list) | Promoted::SecondSpent(list) => {
+                assert_eq!(bits(list), bits(&kept));
+            }
             _ => assert!(kept.is_empty()),
         }
         promoted
@@ -423,11 +435,16 @@ fn promoted(
     visits: &mut usize,
 ) -> Promoted {
     let before = *visits;
+    SECOND_SPENT.set(false);
     let kept = promotion_collector_candidates_in(context, bundle, routes, bounds, visits);
     let Some(range) = bounds else {
         assert!(kept.is_empty() && *visits == before);
         return Promoted::Absent;
     };
+    if SECOND_SPENT.get() {
+        assert_eq!(*visits, 0);
+        return Promoted::SecondSpent(kept);
+    }
     if !kept.is_empty() {
         return Promoted::Kept(kept);
     }

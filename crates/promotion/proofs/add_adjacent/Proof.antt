@@ -10,8 +10,8 @@ use lib.Seq.{length-take-le}
 use lib.Ieee.{Float}
 use Rattle.search.specs.declared.Listed.{Listed}
 use Rattle.search.specs.Stretches.{members, routes}
-use Rattle.search.specs.Search.{Listing, listing, told, in-order}
-use Rattle.search.specs.Promotion.{joined}
+use Rattle.search.specs.Search.{told, in-order}
+use Rattle.search.specs.Promotion.{kept, second-spent, joined}
 use Rattle.search.specs.Parts as parts
 use Rattle.promotion.proofs.add_adjacent.Statement.{statement}
 use Rattle.promotion.proofs.add_adjacent.Tie as tie
@@ -131,7 +131,7 @@ returns-2 c =
     record {
       within = in-front x;
       are = parts.second (a .role) (a .pitch) (a .b) ms first (a .left .0) _ (x .before .before .before .before .before .adjacent-lane .ensures) near _
-          (ap (λ (l : List Float). listing l 0) (parts.first-kept (xs-of x) (n-of x) (in-front x) (ys-of x) _)
+          (ap second-spent (parts.first-kept (xs-of x) (n-of x) (in-front x) (ys-of x) _)
           ∙ ap (λ (r : Listed). joined (a .role) first (told r (ys-of x))) (sym (c .enum-told .given .1)) ∙ ap (joined (a .role) first) (g .ensures .are));
     }
 
@@ -157,7 +157,7 @@ returns-3 c =
     record {
       within = omega (arith, p .ensures .within, parts.front-within (whole x) (n-of x + m-of k), whole-length x);
       are = parts.second (a .role) (a .pitch) (a .b) ms first (a .left .0) _ (x .before .before .before .before .before .adjacent-lane .ensures) near _
-          (ap (λ (l : List Float). listing l (k .before .g .given .0 .1 .0 .0))
+          (ap (λ (l : List Float). kept l (k .before .g .given .0 .1 .0 .0))
           (parts.front-in-order (a .role) ms (whole x) (p .last .1 .0) (n-of x + m-of k) (p .result) (p .kept .1 .0) (p .ensures)
           ∙ ap (in-order (a .role)) (parts.both-lists (xs-of x) (n-of x) (in-front x) (ys-of x) _ (m-of k) f))
           ∙ ap (λ (r : Listed). joined (a .role) first (told r (ys-of x))) (sym (k .before .g .given .1)) ∙ ap (joined (a .role) first) (g .ensures .are));

@@ -6,7 +6,7 @@ use borrow.Author.Needs.{needs}
 use lib.ListN.{length}
 use Rattle.search.specs.declared.Listed.{Listed}
 use Rattle.search.specs.Stretches.{members, routes}
-use Rattle.search.specs.Search.{Listing, told, Lists}
+use Rattle.search.specs.Search.{told}
 use Rattle.search.specs.Promotion.{then-adjacent}
 use Rattle.search.specs.Parts as parts
 use Rattle.promotion.proofs.promotion_candidates.Statement.{statement}
@@ -64,7 +64,7 @@ returns-2 c =
     let ms = members (a .role) (a .pitch) (routes (a .points .now) (a .starts .now) (a .counts .now)) in
     let r = d .add-adjacent in
     let l = ap (λ (r : Listed). then-adjacent (a .role) (a .pitch) (a .b) ms (told r (x .last .1 .1 .1 .1 .1 .1 .1 .0))) (sym (g .g .given .1)) ∙ ap (then-adjacent (a .role) (a .pitch) (a .b) ms) (x .ensures .are) in
-    record { within = parts.fits-in (r .result) _ _ (omega (arith, x .kept .1 .1 .1 .1 .1 .1 .1 .0)) (r .ensures .within); are = r .ensures .are ∙ l }
+    record { within = parts.promotion-fits-in (r .result) _ _ (omega (arith, x .kept .1 .1 .1 .1 .1 .1 .1 .0)) (r .ensures .within); are = r .ensures .are ∙ l }
 
 pub promotion-candidates-spec : {M : Type 1} → statement M
 promotion-candidates-spec =

@@ -21,30 +21,30 @@ use Rattle.search_lists.proofs.gather.Tie as tie
 abbrev from-member : List Float → Role → Float → List ℕ → List ℕ → ℕ → List Stretch
 from-member points role pitch starts counts m = all-runs (members role pitch (routes points (drop m starts) (drop m counts)))
 
-abbrev Inv-runs : tie.InvT-runs
+abbrev Inv-runs : tie.InvT-loop2
 Inv-runs points starts counts role pitch b xs₀ n₀ left₀ m at₀ rest₀ xs n left at rest =
     let tail = from-member points role pitch starts counts m in
     (length xs ≡ length xs₀) × (2 * (at + rest) ≤ length points) × (n + length (R points role pitch at rest ++ tail) ≤ length xs)
     × (gathered-onto role b (take n₀ xs₀) (R points role pitch at₀ rest₀ ++ tail) left₀
     ≡ gathered-onto role b (take n xs) (R points role pitch at rest ++ tail) left)
 
-abbrev μ-runs : tie.MeasureT-runs
+abbrev μ-runs : tie.MeasureT-loop2
 μ-runs points starts counts role pitch b xs₀ n₀ left₀ m at₀ rest₀ xs n left at rest = rest
 
-abbrev Inv-members : tie.InvT-members
+abbrev Inv-members : tie.InvT-loop
 Inv-members points starts counts role pitch b xs₀ n₀ left₀ m₀ xs n left m =
     (length xs ≡ length xs₀) × (n + length (from-member points role pitch starts counts m) ≤ length xs)
     × (gathered-onto role b (take n₀ xs₀) (all-runs (members role pitch (routes points starts counts))) left₀
     ≡ gathered-onto role b (take n xs) (from-member points role pitch starts counts m) left)
 
-abbrev μ-members : tie.MeasureT-members
+abbrev μ-members : tie.MeasureT-loop
 μ-members points starts counts role pitch b xs₀ n₀ left₀ m₀ xs n left m = length starts - m
 
 abbrev At-members : Type 0
-At-members = tie.At-members Inv-runs μ-runs Inv-members μ-members
+At-members = tie.At-loop Inv-runs μ-runs Inv-members μ-members
 
 abbrev At-runs : Type 0
-At-runs = tie.At-runs Inv-runs μ-runs Inv-members μ-members
+At-runs = tie.At-loop2 Inv-runs μ-runs Inv-members μ-members
 
 abbrev from : At-members → ℕ → List Stretch
 from s m =
@@ -55,49 +55,49 @@ from s m =
 whole : (s : At-members)
     → let a = s .before .before .before .before .before .args in
     gathered-onto (a .role) (a .b) (a .b .desired ∷ []) (all-runs (members (a .role) (a .pitch) (routes (a .points .now) (a .starts .now) (a .counts .now)))) (a .granted .0)
-    ≡ gathered-onto (a .role) (a .b) (take (s .members .n) (s .members .xs)) (from s (s .members .m)) (s .members .left)
+    ≡ gathered-onto (a .role) (a .b) (take (s .loop .n) (s .loop .xs)) (from s (s .loop .m)) (s .loop .left)
 whole s =
     let a = s .before .before .before .before .before .args in
     let h : 0 < length (a .xs .now) = omega arith in
     ap (λ (l : List Float). gathered-onto (a .role) (a .b) l (all-runs (members (a .role) (a .pitch) (routes (a .points .now) (a .starts .now) (a .counts .now)))) (a .granted .0)) (walk.stored (a .xs .now) 0 (a .b .desired) h)
-    ∙ s .members .inv .2
+    ∙ s .loop .inv .2
 
 next-member : (s : At-members)
     → let a = s .before .before .before .before .before .args in
-    s .members .m < length (a .starts .now)
-    → from s (s .members .m) ≡ R (a .points .now) (a .role) (a .pitch) (getD (a .starts .now) (s .members .m) 0) (getD (a .counts .now) (s .members .m) 0) ++ from s (s .members .m + 1)
+    s .loop .m < length (a .starts .now)
+    → from s (s .loop .m) ≡ R (a .points .now) (a .role) (a .pitch) (getD (a .starts .now) (s .loop .m) 0) (getD (a .counts .now) (s .loop .m) 0) ++ from s (s .loop .m + 1)
 next-member s h =
     let st = s .before .before .before .before .before in
     let a = st .args in
-    ap all-runs (walk.members-next (a .points .now) (a .role) (a .pitch) (a .starts .now) (a .counts .now) (st .pre .0 .paired) (s .members .m) h) ∙ walk.runs-next _ _
+    ap all-runs (walk.members-next (a .points .now) (a .role) (a .pitch) (a .starts .now) (a .counts .now) (st .pre .0 .paired) (s .loop .m) h) ∙ walk.runs-next _ _
 
 -- what is left of the pass at the members' loop, at the runs' loop
 part : (r : At-runs)
     → let s = r .before .before .before .before in
     let a = s .before .before .before .before .before .args in
-    gathered-onto (a .role) (a .b) (take (s .members .n) (s .members .xs)) (from s (s .members .m)) (s .members .left)
-    ≡ gathered-onto (a .role) (a .b) (take (r .runs .n) (r .runs .xs)) (R (a .points .now) (a .role) (a .pitch) (r .runs .at) (r .runs .rest) ++ from s (s .members .m + 1)) (r .runs .left)
-part r = rw (next-member (r .before .before .before .before) (r .before .before .before .members-test .taken)) (r .runs .inv .3)
+    gathered-onto (a .role) (a .b) (take (s .loop .n) (s .loop .xs)) (from s (s .loop .m)) (s .loop .left)
+    ≡ gathered-onto (a .role) (a .b) (take (r .loop2 .n) (r .loop2 .xs)) (R (a .points .now) (a .role) (a .pitch) (r .loop2 .at) (r .loop2 .rest) ++ from s (s .loop .m + 1)) (r .loop2 .left)
+part r = rw (next-member (r .before .before .before .before) (r .before .before .before .loop-test .taken)) (r .loop2 .inv .3)
 
 -- a run is left
-next-run : (c : tie.In-runs Inv-runs μ-runs Inv-members μ-members)
+next-run : (c : tie.In-loop2 Inv-runs μ-runs Inv-members μ-members)
     → let r = c .before in
     let s = r .before .before .before .before in
     let a = s .before .before .before .before .before .args in
-    R (a .points .now) (a .role) (a .pitch) (r .runs .at) (r .runs .rest) ++ from s (s .members .m + 1)
-    ≡ run (a .points .now) (a .role) (a .pitch) (r .runs .at) ∷ (R (a .points .now) (a .role) (a .pitch) (r .runs .at + 1) (r .runs .rest - 1) ++ from s (s .members .m + 1))
+    R (a .points .now) (a .role) (a .pitch) (r .loop2 .at) (r .loop2 .rest) ++ from s (s .loop .m + 1)
+    ≡ run (a .points .now) (a .role) (a .pitch) (r .loop2 .at) ∷ (R (a .points .now) (a .role) (a .pitch) (r .loop2 .at + 1) (r .loop2 .rest - 1) ++ from s (s .loop .m + 1))
 next-run c =
     let r = c .before in
     let s = r .before .before .before .before in
     let a = s .before .before .before .before .before .args in
-    ap (λ (l : List Stretch). l ++ from s (s .members .m + 1)) (walk.more (a .points .now) (a .role) (a .pitch) (r .runs .at) (r .runs .rest) (c .runs-test .taken))
+    ap (λ (l : List Stretch). l ++ from s (s .loop .m + 1)) (walk.more (a .points .now) (a .role) (a .pitch) (r .loop2 .at) (r .loop2 .rest) (c .loop2-test .taken))
 
-room : (c : tie.In-runs Inv-runs μ-runs Inv-members μ-members)
+room : (c : tie.In-loop2 Inv-runs μ-runs Inv-members μ-members)
     → let r = c .before in
     let s = r .before .before .before .before in
     let a = s .before .before .before .before .before .args in
-    r .runs .n + 1 + length (R (a .points .now) (a .role) (a .pitch) (r .runs .at + 1) (r .runs .rest - 1) ++ from s (s .members .m + 1)) ≤ length (r .runs .xs)
-room c = omega (arith, rw (next-run c) at (c .before .runs .inv .2))
+    r .loop2 .n + 1 + length (R (a .points .now) (a .role) (a .pitch) (r .loop2 .at + 1) (r .loop2 .rest - 1) ++ from s (s .loop .m + 1)) ≤ length (r .loop2 .xs)
+room c = omega (arith, rw (next-run c) at (c .before .loop2 .inv .2))
 
 -- a run's candidate is taken or missing
 stepped : (e : tie.After-candidate-of Inv-runs μ-runs Inv-members μ-members) (o : Candidate) → e .candidate-of .result ≡ o
@@ -105,21 +105,21 @@ stepped : (e : tie.After-candidate-of Inv-runs μ-runs Inv-members μ-members) (
     let r = t .before in
     let s = r .before .before .before .before in
     let a = s .before .before .before .before .before .args in
-    gathered-onto (a .role) (a .b) (take (r .runs .n) (r .runs .xs)) (R (a .points .now) (a .role) (a .pitch) (r .runs .at) (r .runs .rest) ++ from s (s .members .m + 1)) (r .runs .left)
-    ≡ gathered-onto (a .role) (a .b) (onto (take (r .runs .n) (r .runs .xs)) o) (R (a .points .now) (a .role) (a .pitch) (r .runs .at + 1) (r .runs .rest - 1) ++ from s (s .members .m + 1)) (r .runs .left - 1)
+    gathered-onto (a .role) (a .b) (take (r .loop2 .n) (r .loop2 .xs)) (R (a .points .now) (a .role) (a .pitch) (r .loop2 .at) (r .loop2 .rest) ++ from s (s .loop .m + 1)) (r .loop2 .left)
+    ≡ gathered-onto (a .role) (a .b) (onto (take (r .loop2 .n) (r .loop2 .xs)) o) (R (a .points .now) (a .role) (a .pitch) (r .loop2 .at + 1) (r .loop2 .rest - 1) ++ from s (s .loop .m + 1)) (r .loop2 .left - 1)
 stepped e o g =
     let t = e .before .before .before in
     let r = t .before in
     let s = r .before .before .before .before in
     let a = s .before .before .before .before .before .args in
-    let v : 0 < r .runs .left = omega arith in
-    let k : candidate (a .role) (a .b) (run (a .points .now) (a .role) (a .pitch) (r .runs .at)) ≡ o = ap (candidate (a .role) (a .b)) (sym (e .before .run-stretch .ensures)) ∙ sym (e .candidate-of .ensures) ∙ g in
-    rw (next-run t) (walk.gather-step (a .role) (a .b) (take (r .runs .n) (r .runs .xs)) (run (a .points .now) (a .role) (a .pitch) (r .runs .at)) (R (a .points .now) (a .role) (a .pitch) (r .runs .at + 1) (r .runs .rest - 1) ++ from s (s .members .m + 1)) (r .runs .left) o v k)
+    let v : 0 < r .loop2 .left = omega arith in
+    let k : candidate (a .role) (a .b) (run (a .points .now) (a .role) (a .pitch) (r .loop2 .at)) ≡ o = ap (candidate (a .role) (a .b)) (sym (e .before .run-stretch .ensures)) ∙ sym (e .candidate-of .ensures) ∙ g in
+    rw (next-run t) (walk.gather-step (a .role) (a .b) (take (r .loop2 .n) (r .loop2 .xs)) (run (a .points .now) (a .role) (a .pitch) (r .loop2 .at)) (R (a .points .now) (a .role) (a .pitch) (r .loop2 .at + 1) (r .loop2 .rest - 1) ++ from s (s .loop .m + 1)) (r .loop2 .left) o v k)
 
 slice-write-xs : tie.Need-slice-write-xs Inv-runs μ-runs Inv-members μ-members
 slice-write-xs c = search needs
 
-members-holds : tie.Need-members-holds Inv-runs μ-runs Inv-members μ-members
+members-holds : tie.Need-loop-holds Inv-runs μ-runs Inv-members μ-members
 members-holds c =
     let a = c .before .before .before .before .args in
     (refl, omega (arith, length-set (a .xs .now) 0 (a .b .desired)), refl)
@@ -139,39 +139,39 @@ shared-slice-read-rest c = search needs
 add-m : tie.Need-add-m Inv-runs μ-runs Inv-members μ-members
 add-m c = search needs
 
-runs-holds : tie.Need-runs-holds Inv-runs μ-runs Inv-members μ-members
+runs-holds : tie.Need-loop2-holds Inv-runs μ-runs Inv-members μ-members
 runs-holds c =
     let s = c .before .before .before in
     let st = s .before .before .before .before .before in (
       refl,
-      st .pre .0 .inside (s .members .m) (c .before .before .members-test .taken),
-      rw (next-member s (c .before .before .members-test .taken)) at (s .members .inv .1),
+      st .pre .0 .inside (s .loop .m) (c .before .before .loop-test .taken),
+      rw (next-member s (c .before .before .loop-test .taken)) at (s .loop .inv .1),
       refl,
     )
 
-members-less : tie.Need-members-less Inv-runs μ-runs Inv-members μ-members
+members-less : tie.Need-loop-less Inv-runs μ-runs Inv-members μ-members
 members-less c = search needs
 
-members-again : tie.Need-members-again Inv-runs μ-runs Inv-members μ-members
+members-again : tie.Need-loop-again Inv-runs μ-runs Inv-members μ-members
 members-again c =
     let r = c .before in
     let s = r .before .before .before .before in
     let a = s .before .before .before .before .before .args in
-    let e : R (a .points .now) (a .role) (a .pitch) (r .runs .at) (r .runs .rest) ++ from s (s .members .m + 1) ≡ from s (s .members .m + 1) = ap (λ (l : List Stretch). l ++ from s (s .members .m + 1)) (walk.none (a .points .now) (a .role) (a .pitch) (r .runs .at) (r .runs .rest) (c .runs-test .left)) in
-    (r .runs .inv .0 ∙ s .members .inv .0, rw e at (r .runs .inv .2), s .members .inv .2 ∙ part r ∙ rw e)
+    let e : R (a .points .now) (a .role) (a .pitch) (r .loop2 .at) (r .loop2 .rest) ++ from s (s .loop .m + 1) ≡ from s (s .loop .m + 1) = ap (λ (l : List Stretch). l ++ from s (s .loop .m + 1)) (walk.none (a .points .now) (a .role) (a .pitch) (r .loop2 .at) (r .loop2 .rest) (c .loop2-test .left)) in
+    (r .loop2 .inv .0 ∙ s .loop .inv .0, rw e at (r .loop2 .inv .2), s .loop .inv .2 ∙ part r ∙ rw e)
 
 same-length : tie.Need-same-length Inv-runs μ-runs Inv-members μ-members
 same-length c =
     let r = c .before .before in
     let s = r .before .before .before .before in
-    r .runs .inv .0 ∙ s .members .inv .0 ∙ simp length-set
+    r .loop2 .inv .0 ∙ s .loop .inv .0 ∙ simp length-set
 
 returns : tie.Need-returns Inv-runs μ-runs Inv-members μ-members
 returns c =
     let r = c .before .before in
     let s = r .before .before .before .before in
     let a = s .before .before .before .before .before .args in
-    record { within = tt; are = sym (whole s ∙ part r ∙ rw (next-run (c .before)) (walk.gather-spent (a .role) (a .b) _ _ _ (r .runs .left) (c .if1 .taken))) }
+    record { within = tt; are = sym (whole s ∙ part r ∙ rw (next-run (c .before)) (walk.gather-spent (a .role) (a .b) _ _ _ (r .loop2 .left) (c .if1 .taken))) }
 
 sub-left : tie.Need-sub-left Inv-runs μ-runs Inv-members μ-members
 sub-left c = search needs
@@ -196,7 +196,7 @@ mul-xs c =
     let h = room (c .before .before .before .before .before .before) in
     let r = c .before .before .before .before .before .before .before in
     let s = r .before .before .before .before in
-    let e = r .runs .inv .0 ∙ s .members .inv .0 ∙ length-set (s .before .before .before .before .before .args .xs .now) 0 _ in
+    let e = r .loop2 .inv .0 ∙ s .loop .inv .0 ∙ length-set (s .before .before .before .before .before .args .xs .now) 0 _ in
     omega (arith, s .before .before .before .before .before .good)
 
 slice-write-xs-2 : tie.Need-slice-write-xs-2 Inv-runs μ-runs Inv-members μ-members
@@ -209,50 +209,50 @@ add-n c =
     let h = room (c .before .before .before .before .before .before) in
     let r = c .before .before .before .before .before .before .before in
     let s = r .before .before .before .before in
-    let e = r .runs .inv .0 ∙ s .members .inv .0 ∙ length-set (s .before .before .before .before .before .args .xs .now) 0 _ in
+    let e = r .loop2 .inv .0 ∙ s .loop .inv .0 ∙ length-set (s .before .before .before .before .before .args .xs .now) 0 _ in
     omega (arith, s .before .before .before .before .before .good)
 
-runs-less : tie.Need-runs-less Inv-runs μ-runs Inv-members μ-members
+runs-less : tie.Need-loop2-less Inv-runs μ-runs Inv-members μ-members
 runs-less c = search needs
 
-runs-again : tie.Need-runs-again Inv-runs μ-runs Inv-members μ-members
+runs-again : tie.Need-loop2-again Inv-runs μ-runs Inv-members μ-members
 runs-again c =
     let x = c .before .c .given .0 .0 in
     let t = c .before .before .before .before .before .before in
     let r = t .before in
     let room′ = room t in
-    let h : r .runs .n < length (r .runs .xs) = omega arith in (
-      length-set (r .runs .xs) (r .runs .n) x ∙ r .runs .inv .0,
+    let h : r .loop2 .n < length (r .loop2 .xs) = omega arith in (
+      length-set (r .loop2 .xs) (r .loop2 .n) x ∙ r .loop2 .inv .0,
       omega arith,
-      omega (arith, length-set (r .runs .xs) (r .runs .n) x),
-      r .runs .inv .3 ∙ stepped (c .before .before .before) (At x) (c .before .c .given .1) ∙ rw (walk.stored (r .runs .xs) (r .runs .n) x h),
+      omega (arith, length-set (r .loop2 .xs) (r .loop2 .n) x),
+      r .loop2 .inv .3 ∙ stepped (c .before .before .before) (At x) (c .before .c .given .1) ∙ rw (walk.stored (r .loop2 .xs) (r .loop2 .n) x h),
     )
 
 enum-told : tie.Need-enum-told Inv-runs μ-runs Inv-members μ-members
 enum-told c = search needs
 
-runs-less-2 : tie.Need-runs-less-2 Inv-runs μ-runs Inv-members μ-members
+runs-less-2 : tie.Need-loop2-less-2 Inv-runs μ-runs Inv-members μ-members
 runs-less-2 c = search needs
 
-runs-again-2 : tie.Need-runs-again-2 Inv-runs μ-runs Inv-members μ-members
+runs-again-2 : tie.Need-loop2-again-2 Inv-runs μ-runs Inv-members μ-members
 runs-again-2 c =
     let t = c .before .before .before .before .before in
     let r = t .before in
     let room′ = room t in
-    (r .runs .inv .0, omega arith, omega arith, r .runs .inv .3 ∙ stepped (c .before .before) Missing (c .enum-told .given .1))
+    (r .loop2 .inv .0, omega arith, omega arith, r .loop2 .inv .3 ∙ stepped (c .before .before) Missing (c .enum-told .given .1))
 
 same-length-2 : tie.Need-same-length-2 Inv-runs μ-runs Inv-members μ-members
 same-length-2 c =
-    c .before .members .inv .0 ∙ simp length-set
+    c .before .loop .inv .0 ∙ simp length-set
 
 returns-2 : tie.Need-returns-2 Inv-runs μ-runs Inv-members μ-members
 returns-2 c =
     let s = c .before in
     let st = s .before .before .before .before .before in
     let a = st .args in
-    let end : from s (s .members .m) ≡ [] = ap all-runs (walk.members-end (a .points .now) (a .role) (a .pitch) (a .starts .now) (a .counts .now) (st .pre .0 .paired) (s .members .m) (c .members-test .left)) ∙ walk.runs-end in
+    let end : from s (s .loop .m) ≡ [] = ap all-runs (walk.members-end (a .points .now) (a .role) (a .pitch) (a .starts .now) (a .counts .now) (st .pre .0 .paired) (s .loop .m) (c .loop-test .left)) ∙ walk.runs-end in
     record {
-      within = omega (arith, s .members .inv .0 ∙ length-set (a .xs .now) 0 (a .b .desired));
+      within = omega (arith, s .loop .inv .0 ∙ length-set (a .xs .now) 0 (a .b .desired));
       are = sym (whole s ∙ rw end (walk.gather-end (a .role) (a .b) _ _));
     }
 

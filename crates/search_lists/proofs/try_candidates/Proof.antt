@@ -21,11 +21,11 @@ use Rattle.search_lists.proofs.try_candidates.Tie as tie
 abbrev from-member : List Float → Role → Float → List ℕ → List ℕ → ℕ → List (List Stretch)
 from-member points role pitch starts counts m = members role pitch (routes points (drop m starts) (drop m counts))
 
-abbrev Inv-runs : tie.InvT-runs
+abbrev Inv-runs : tie.InvT-loop
 Inv-runs points starts counts role pitch xs left₀ n i x m at₀ rest₀ left at rest =
     (2 * (at + rest) ≤ length points) × (tried-on x (R points role pitch at₀ rest₀) left₀ ≡ tried-on x (R points role pitch at rest) left)
 
-abbrev μ-runs : tie.MeasureT-runs
+abbrev μ-runs : tie.MeasureT-loop
 μ-runs points starts counts role pitch xs left₀ n i x m at₀ rest₀ left at rest = rest
 
 abbrev Inv-members : tie.InvT-members
@@ -47,7 +47,7 @@ abbrev At-members : Type 0
 At-members = tie.At-members Inv-runs μ-runs Inv-members μ-members Inv-candidates μ-candidates
 
 abbrev At-runs : Type 0
-At-runs = tie.At-runs Inv-runs μ-runs Inv-members μ-members Inv-candidates μ-candidates
+At-runs = tie.At-loop Inv-runs μ-runs Inv-members μ-members Inv-candidates μ-candidates
 
 -- the whole pass, at the members' loop: what follows from the members that are left
 whole : (c : At-members)
@@ -63,8 +63,9 @@ whole c =
     let a = s .before .before .before .before .before .args in
     let ms = members (a .role) (a .pitch) (routes (a .points .now) (a .starts .now) (a .counts .now)) in
     let x = getD (s .candidates .xs) (s .candidates .i) nan in
+    let h : s .candidates .i < length (s .candidates .xs) = omega (arith, s .candidates .inv .1, s .candidates .inv .2, c .before .before .if1 .left) in
     s .candidates .inv .3
-    ∙ walk.candidate-next ms (take (s .candidates .n) (s .candidates .xs)) (s .candidates .left) (s .candidates .xs) (s .candidates .i) (c .before .before .candidates-test .taken)
+    ∙ walk.candidate-next ms (take (s .candidates .n) (s .candidates .xs)) (s .candidates .left) (s .candidates .xs) (s .candidates .i) h
     ∙ ap (walk.next ms (take (s .candidates .n) (s .candidates .xs)) (s .candidates .left) (drop (s .candidates .i + 1) (s .candidates .xs)) x) (c .members .inv)
 
 -- the members from m on, at the runs' loop: what follows from the runs that are left
@@ -75,7 +76,7 @@ member : (c : At-runs)
     let x = getD (t .candidates .xs) (t .candidates .i) nan in
     let from = from-member (a .points .now) (a .role) (a .pitch) (a .starts .now) (a .counts .now) in
     tried-on-all x (from (s .members .m)) (s .members .left)
-    ≡ after (tried-on x (R (a .points .now) (a .role) (a .pitch) (c .runs .at) (c .runs .rest)) (c .runs .left)) (tried-on-all x (from (s .members .m + 1))) lacked unpaid
+    ≡ after (tried-on x (R (a .points .now) (a .role) (a .pitch) (c .loop .at) (c .loop .rest)) (c .loop .left)) (tried-on-all x (from (s .members .m + 1))) lacked unpaid
 member c =
     let s = c .before .before .before .before in
     let t = s .before .before .before in
@@ -85,21 +86,35 @@ member c =
     let from = from-member (a .points .now) (a .role) (a .pitch) (a .starts .now) (a .counts .now) in
     ap (λ (ms : List (List Stretch)). tried-on-all x ms (s .members .left)) (walk.members-next (a .points .now) (a .role) (a .pitch) (a .starts .now) (a .counts .now) (start .pre .paired) (s .members .m) (c .before .before .before .members-test .taken))
     ∙ walk.try-member x _ (from (s .members .m + 1)) (s .members .left)
-    ∙ ap (λ (o : Tried). after o (tried-on-all x (from (s .members .m + 1))) lacked unpaid) (c .runs .inv .1)
+    ∙ ap (λ (o : Tried). after o (tried-on-all x (from (s .members .m + 1))) lacked unpaid) (c .loop .inv .1)
 
 -- a run is left
-next-run : (c : tie.In-runs Inv-runs μ-runs Inv-members μ-members Inv-candidates μ-candidates)
+next-run : (c : tie.In-loop Inv-runs μ-runs Inv-members μ-members Inv-candidates μ-candidates)
     → let r = c .before in
     let a = r .before .before .before .before .before .before .before .before .before .before .before .before .args in
-    R (a .points .now) (a .role) (a .pitch) (r .runs .at) (r .runs .rest) ≡ run (a .points .now) (a .role) (a .pitch) (r .runs .at) ∷ R (a .points .now) (a .role) (a .pitch) (r .runs .at + 1) (r .runs .rest - 1)
+    R (a .points .now) (a .role) (a .pitch) (r .loop .at) (r .loop .rest) ≡ run (a .points .now) (a .role) (a .pitch) (r .loop .at) ∷ R (a .points .now) (a .role) (a .pitch) (r .loop .at + 1) (r .loop .rest - 1)
 next-run c =
     let r = c .before in
     let a = r .before .before .before .before .before .before .before .before .before .before .before .before .args in
-    walk.more (a .points .now) (a .role) (a .pitch) (r .runs .at) (r .runs .rest) (c .runs-test .taken)
+    walk.more (a .points .now) (a .role) (a .pitch) (r .loop .at) (r .loop .rest) (c .loop-test .taken)
 
 candidates-holds :
     tie.Need-candidates-holds Inv-runs μ-runs Inv-members μ-members Inv-candidates μ-candidates
 candidates-holds c = search needs
+
+same-length :
+    tie.Need-same-length Inv-runs μ-runs Inv-members μ-members Inv-candidates μ-candidates
+same-length c = search needs
+
+returns : tie.Need-returns Inv-runs μ-runs Inv-members μ-members Inv-candidates μ-candidates
+returns c =
+    let t = c .before in
+    let a = t .before .before .before .before .before .args in
+    let ms = members (a .role) (a .pitch) (routes (a .points .now) (a .starts .now) (a .counts .now)) in
+    record {
+      within = omega arith;
+      are = sym (t .candidates .inv .3 ∙ walk.candidates-end ms (take (t .candidates .n) (t .candidates .xs)) (t .candidates .left) (t .candidates .xs) (t .candidates .i) (omega (arith, c .if1 .taken)));
+    }
 
 mul-x : tie.Need-mul-x Inv-runs μ-runs Inv-members μ-members Inv-candidates μ-candidates
 mul-x c = search needs
@@ -138,24 +153,10 @@ shared-slice-read-rest c = search needs
 add-m : tie.Need-add-m Inv-runs μ-runs Inv-members μ-members Inv-candidates μ-candidates
 add-m c = search needs
 
-runs-holds : tie.Need-runs-holds Inv-runs μ-runs Inv-members μ-members Inv-candidates μ-candidates
+runs-holds : tie.Need-loop-holds Inv-runs μ-runs Inv-members μ-members Inv-candidates μ-candidates
 runs-holds c =
     let start = c .before .before .before .before .before .before .before .before .before .before .before in
     (start .pre .inside (c .before .before .before .members .m) (c .before .before .members-test .taken), refl)
-
-same-length :
-    tie.Need-same-length Inv-runs μ-runs Inv-members μ-members Inv-candidates μ-candidates
-same-length c =
-    c .before .before .before .before .before .before .before .before .before .candidates .inv .2
-
-returns : tie.Need-returns Inv-runs μ-runs Inv-members μ-members Inv-candidates μ-candidates
-returns c =
-    let r = c .before .before in
-    let s = r .before .before .before .before in
-    let t = s .before .before .before in
-    let a = t .before .before .before .before .before .args in
-    let x = getD (t .candidates .xs) (t .candidates .i) nan in
-    record { within = tt; are = sym (whole s ∙ rw (member r, next-run (c .before), walk.try-unpaid x _ _ (r .runs .left) (c .if1 .taken))) }
 
 sub-left : tie.Need-sub-left Inv-runs μ-runs Inv-members μ-members Inv-candidates μ-candidates
 sub-left c = search needs
@@ -176,9 +177,9 @@ members-again c =
     let t = s .before .before .before in
     let a = t .before .before .before .before .before .args in
     let x = getD (t .candidates .xs) (t .candidates .i) nan in
-    let h : 0 < r .runs .left = omega arith in
+    let h : 0 < r .loop .left = omega arith in
     s .members .inv ∙ member r
-    ∙ rw (next-run (c .before .before .before), walk.try-look x _ _ (r .runs .left) true h (sym (c .before .run-holds .ensures) ∙ c .if2 .taken))
+    ∙ rw (next-run (c .before .before .before), walk.try-look x _ _ (r .loop .left) true h (sym (c .before .run-holds .ensures) ∙ c .if3 .taken))
 
 add-at : tie.Need-add-at Inv-runs μ-runs Inv-members μ-members Inv-candidates μ-candidates
 add-at c = search needs
@@ -186,20 +187,20 @@ add-at c = search needs
 sub-rest : tie.Need-sub-rest Inv-runs μ-runs Inv-members μ-members Inv-candidates μ-candidates
 sub-rest c = search needs
 
-runs-less : tie.Need-runs-less Inv-runs μ-runs Inv-members μ-members Inv-candidates μ-candidates
+runs-less : tie.Need-loop-less Inv-runs μ-runs Inv-members μ-members Inv-candidates μ-candidates
 runs-less c = search needs
 
-runs-again : tie.Need-runs-again Inv-runs μ-runs Inv-members μ-members Inv-candidates μ-candidates
+runs-again : tie.Need-loop-again Inv-runs μ-runs Inv-members μ-members Inv-candidates μ-candidates
 runs-again c =
     let r = c .before .before .before .before in
     let s = r .before .before .before .before in
     let t = s .before .before .before in
     let a = t .before .before .before .before .before .args in
     let x = getD (t .candidates .xs) (t .candidates .i) nan in
-    let h : 0 < r .runs .left = omega arith in (
+    let h : 0 < r .loop .left = omega arith in (
       omega arith,
-      r .runs .inv .1
-          ∙ rw (next-run (c .before .before .before), walk.try-look x _ _ (r .runs .left) false h (sym (c .before .run-holds .ensures) ∙ c .if2 .left)),
+      r .loop .inv .1
+          ∙ rw (next-run (c .before .before .before), walk.try-look x _ _ (r .loop .left) false h (sym (c .before .run-holds .ensures) ∙ c .if3 .left)),
     )
 
 candidates-less :
@@ -217,7 +218,7 @@ candidates-again c =
       omega arith,
       omega arith,
       t .candidates .inv .2,
-      whole s ∙ rw (member r, walk.none (a .points .now) (a .role) (a .pitch) (r .runs .at) (r .runs .rest) (omega arith), walk.try-end x (r .runs .left)),
+      whole s ∙ rw (member r, walk.none (a .points .now) (a .role) (a .pitch) (r .loop .at) (r .loop .rest) (omega arith), walk.try-end x (r .loop .left)),
     )
 
 mul-xs : tie.Need-mul-xs Inv-runs μ-runs Inv-members μ-members Inv-candidates μ-candidates
@@ -253,17 +254,17 @@ candidates-again-2 c =
 
 same-length-2 :
     tie.Need-same-length-2 Inv-runs μ-runs Inv-members μ-members Inv-candidates μ-candidates
-same-length-2 c = search needs
+same-length-2 c =
+    c .before .before .before .before .before .before .before .before .before .candidates .inv .2
 
 returns-2 : tie.Need-returns-2 Inv-runs μ-runs Inv-members μ-members Inv-candidates μ-candidates
 returns-2 c =
-    let t = c .before in
+    let r = c .before .before in
+    let s = r .before .before .before .before in
+    let t = s .before .before .before in
     let a = t .before .before .before .before .before .args in
-    let ms = members (a .role) (a .pitch) (routes (a .points .now) (a .starts .now) (a .counts .now)) in
-    record {
-      within = omega arith;
-      are = sym (t .candidates .inv .3 ∙ walk.candidates-end ms (take (t .candidates .n) (t .candidates .xs)) (t .candidates .left) (t .candidates .xs) (t .candidates .i) (c .candidates-test .left));
-    }
+    let x = getD (t .candidates .xs) (t .candidates .i) nan in
+    record { within = tt; are = sym (whole s ∙ rw (member r, next-run (c .before), walk.try-unpaid x _ _ (r .loop .left) (c .if2 .taken))) }
 
 pub try-candidates-spec : {M : Type 1} → statement M
 try-candidates-spec =
@@ -276,6 +277,8 @@ try-candidates-spec =
     Inv-candidates
     μ-candidates
     candidates-holds
+    same-length
+    returns
     mul-x
     slice-read-x
     add-i
@@ -286,8 +289,6 @@ try-candidates-spec =
     shared-slice-read-rest
     add-m
     runs-holds
-    same-length
-    returns
     sub-left
     run-holds-requires
     members-less
