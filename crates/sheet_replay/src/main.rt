@@ -90,7 +90,7 @@ fn put_page(
     requires { ⌜ Windows (drawn .count) (drawn .rows) (members .count) × (2 * members .count ≤ length (now taps)) ⌝ }
     requires { ⌜ MembersOn table members × (448772 ≤ length (now page)) ⌝ }
 {
-    let t = stage::tap_rows(table, members, taps);
+    let t = draw_job::tap_rows(table, members, taps);
     let n = answer::write_answer(&mut page[..], f, nodes, table, points, counts, drawn, t);
     put_bytes(&page[..], n, &mut out[..], at)
 }
