@@ -9,6 +9,7 @@ ghost use mathlib.Core.Path.{_≡_};
 ghost use mathlib.Core.List.{[], map};
 ghost use Prim.Native.Nat.{suc, _+_, _*_, _-_, _<_, _≤_};
 ghost use lib.ListN.{length, getD, take};
+ghost use Rattle.limits.specs.Limits.{max-bundles, max-lane, slot-points, slot-numbers};
 ghost use Rattle.geometry.specs.Points.{points-from};
 ghost use Rattle.route.specs.Slots.{routes-of, Held};
 ghost use Rattle.route.specs.Contract.{Leaves};
@@ -31,6 +32,7 @@ use drawing::Verdict;
 use geometry::Point;
 use geometry::Role;
 use geometry::Segment;
+use limits::SLOT_POINTS;
 use plan::Bound;
 use route::Crossing;
 use route::Rewritten;
@@ -44,14 +46,14 @@ pub struct Reach {
 // ---- rewrite_member_routes
 
 fn lane_number(lane: u32) -> f64
-    requires { ⌜ lane ≤ 255 ⌝ }
+    requires { ⌜ lane ≤ max-lane ⌝ }
     ensures { λ r. ⌜ r ≡ number (suc lane) ⌝ }
 {
     (lane + 1) as f64
 }
 
 fn corridor_depth(offset: f64, pitch: f64, lane: u32) -> f64
-    requires { ⌜ lane ≤ 255 ⌝ }
+    requires { ⌜ lane ≤ max-lane ⌝ }
     ensures { λ r. ⌜ r ≡ depth-at offset pitch lane ⌝ }
 {
     offset + lane_number(lane) * pitch
@@ -116,7 +118,7 @@ fn rewrite_member(
     counts: &mut [usize],
     scratch: &mut [f64],
 ) -> bool
-    requires { ⌜ (e < length (now counts)) × (136 * length (now counts) ≤ length (now points)) × Held (now counts) × (getD (now counts) e 0 ≤ 66) × (136 ≤ length (now scratch)) ⌝ }
+    requires { ⌜ (e < length (now counts)) × (slot-numbers * length (now counts) ≤ length (now points)) × Held (now counts) × (getD (now counts) e 0 ≤ slot-points - 2) × (slot-numbers ≤ length (now scratch)) ⌝ }
     ensures told { λ r. ⌜ routes-in r (now (points .exit)) (now (counts .exit)) ≡ put-route (rewrite-with inside role pitch depth tap (route-at (routes-of (now (points .entry)) (now (counts .entry))) e)) e (routes-of (now (points .entry)) (now (counts .entry))) ⌝ }
     ensures kept { λ r. ⌜ CountsKept (now (counts .entry)) (now (counts .exit)) e ⌝ }
 {
@@ -131,7 +133,7 @@ fn rewrite_member(
         depth,
         tap,
         &points[..],
-        68 * e,
+        SLOT_POINTS * e,
         n,
         &mut scratch[..],
     );
@@ -163,7 +165,7 @@ pub fn rewrite_member_routes(
     counts: &mut [usize],
     scratch: &mut [f64],
 ) -> bool
-    requires { ⌜ Tabled first count (now edges) (now taps) × Laned first count (now lanes) × Roomy (now edges) first 0 count (now points) (now counts) × (136 ≤ length (now scratch)) ⌝ }
+    requires { ⌜ Tabled first count (now edges) (now taps) × Laned first count (now lanes) × Roomy (now edges) first 0 count (now points) (now counts) × (slot-numbers ≤ length (now scratch)) ⌝ }
     ensures told { λ r. ⌜ routes-in r (now (points .exit)) (now (counts .exit)) ≡ rewrite-all inside role pitch offset (taps-from (now (edges .entry)) (now (taps .entry)) first count) (members-from (now (edges .entry)) (now (lanes .entry)) first count) (routes-of (now (points .entry)) (now (counts .entry))) ⌝ }
     ensures hold { λ r. ⌜ Held (now (counts .exit)) ⌝ }
 {
@@ -223,7 +225,7 @@ fn trunk_taps(
     let mut i: usize = 0;
     while i < count {
         let e = edges[first + i];
-        let c = trunk_tap(role, pitch, x, points, 68 * e, counts[e]);
+        let c = trunk_tap(role, pitch, x, points, SLOT_POINTS * e, counts[e]);
         match c {
             Crossing::Nowhere => {
                 return false;
@@ -559,7 +561,7 @@ pub fn verify_bundle(
     mask: &mut [bool],
     visits: GeometryVisits,
 ) -> Verdict
-    requires { ⌜ (2 * length (now counts) ≤ length (now ends)) × (priors .count ≤ 32) × AllTabled (take (priors .count) (priors .rows)) (now edges) (now taps) × Tabled (new .first) (new .count) (now edges) (now taps) × Slotted (now points) (now counts) (now mask) × Known (now edges) (new .first) (new .count) (length (now mask)) ⌝ }
+    requires { ⌜ (2 * length (now counts) ≤ length (now ends)) × (priors .count ≤ max-bundles) × AllTabled (take (priors .count) (priors .rows)) (now edges) (now taps) × Tabled (new .first) (new .count) (now edges) (now taps) × Slotted (now points) (now counts) (now mask) × Known (now edges) (new .first) (new .count) (length (now mask)) ⌝ }
     ensures { λ r. ⌜ r ≡ then-walk (walk 12 (over-routes (inside-route (now (boxes .entry)) (now (ends .entry))) (among (members-from (now (edges .entry)) [] (new .first) (new .count))) (routes-of (now (points .entry)) (now (counts .entry))) 0) (visits .0)) (λ k. walk 11 (contact-tests o allow (drawn-of (now (edges .entry)) (now (taps .entry)) new) (among (members-from (now (edges .entry)) [] (new .first) (new .count))) (map (drawn-of (now (edges .entry)) (now (taps .entry))) (take (priors .count) (priors .rows))) (routes-of (now (points .entry)) (now (counts .entry)))) k) ⌝ }
 {
     mark_members(edges, new.first, new.count, &mut mask[..]);

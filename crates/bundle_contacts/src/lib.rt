@@ -14,6 +14,7 @@ ghost use mathlib.Core.Bool.{false};
 ghost use mathlib.Core.List.{[], _∷_, _++_, map};
 ghost use Prim.Native.Nat.{_+_, _*_, _≤_};
 ghost use lib.ListN.{length, take};
+ghost use Rattle.limits.specs.Limits.{max-bundles};
 ghost use Rattle.geometry.specs.declared.Tap.the-variants.{Absent};
 ghost use Rattle.geometry.specs.Apart.{trunk};
 ghost use Rattle.geometry.specs.Points.{points-from, runs};
@@ -29,6 +30,7 @@ use drawing::Finding;
 use geometry::Segment;
 use geometry::Tap;
 use geometry::Trunk;
+use limits::SLOT_POINTS;
 
 // ---- verify_new_bundle_route_contacts
 
@@ -162,7 +164,7 @@ fn bus_on_routes(
                 count,
                 k,
                 points,
-                68 * k,
+                SLOT_POINTS * k,
                 counts[k],
                 &mut *left,
             );
@@ -297,7 +299,7 @@ pub fn verify_priors(
     counts: &[usize],
     left: &mut u32,
 ) -> Finding
-    requires { ⌜ (priors .count ≤ 32) × AllTabled (take (priors .count) (priors .rows)) (now edges) (now taps) × Slotted (now points) (now counts) (now changed) ⌝ }
+    requires { ⌜ (priors .count ≤ max-bundles) × AllTabled (take (priors .count) (priors .rows)) (now edges) (now taps) × Slotted (now points) (now counts) (now changed) ⌝ }
     ensures { λ r. ⌜ told r (now (left .exit)) ≡ walk 11 (prior-tests o allow (drawn-of (now (edges .entry)) (now (taps .entry)) new) (chosen-by false (now (changed .entry))) (map (drawn-of (now (edges .entry)) (now (taps .entry))) (take (priors .count) (priors .rows))) (routes-of (now (points .entry)) (now (counts .entry)))) (now (left .entry)) ⌝ }
 {
     let n = priors.count;

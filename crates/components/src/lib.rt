@@ -8,6 +8,7 @@ ghost use mathlib.Core.Bool.{false};
 ghost use mathlib.Core.List.{List, map};
 ghost use Prim.Native.Nat.{ℕ, _≤_, _<_};
 ghost use lib.ListN.{getD, take, drop, replicate};
+ghost use Rattle.limits.specs.Limits.{max-bundles};
 ghost use Rattle.binary64.specs.Accepted.{zero64};
 ghost use Rattle.geometry.specs.Points.{Route};
 ghost use Rattle.board.specs.Board.{Board};
@@ -18,6 +19,8 @@ ghost use Rattle.plan.specs.Plan.{Ranged, if-between, drop-all, input-split, ex
 ghost use Rattle.plan.specs.Prepared.{Listing, Searchable, AllAmong, RangesAmong, passed, plan-in};
 ghost use Rattle.components.specs.Settled.{ranges-in, step-in, Chosen, inputs-extent, outputs-extent, Known, Neighboured, AllEdges, settled};
 use geometry::Role;
+use limits::BUNDLE_PAIRS;
+use limits::MAX_BUNDLES;
 use plan::Bound;
 use plan::Planned;
 use plan::Planning;
@@ -28,7 +31,7 @@ use search::CollectorBounds;
 
 // Places in a table of bundles, in order.
 pub struct Places {
-    pub rows: [usize; 32],
+    pub rows: [usize; MAX_BUNDLES],
     pub count: usize,
 }
 
@@ -50,10 +53,10 @@ pub struct Step {
 
 // The bundles of a role among the first n of order, in order.
 fn of_role(role: Role, t: Ranges, order: &[usize], n: usize) -> Places
-    requires { ⌜ (n ≤ 32) × Listing (now order) n 32 ⌝ }
+    requires { ⌜ (n ≤ max-bundles) × Listing (now order) n max-bundles ⌝ }
     ensures { λ r. ⌜ ((m : ℕ) → Listing (now (order .entry)) n m → Chosen role (ranges-in m t) (take n (now (order .entry))) m r) ⌝ }
 {
-    let mut rows = [0; 32];
+    let mut rows = [0; MAX_BUNDLES];
     let mut count: usize = 0;
     let mut k: usize = 0;
     while k < n {
@@ -102,7 +105,7 @@ fn maximum_of(b: CollectorBounds) -> f64
 
 // The inputs' largest minimum and largest x found.
 fn inputs_extent(t: Ranges, which: &[usize], count: usize) -> Extent
-    requires { ⌜ (0 < count) × Listing (now which) count 32 ⌝ }
+    requires { ⌜ (0 < count) × Listing (now which) count max-bundles ⌝ }
     ensures { λ r. ⌜ ((m : ℕ) → Listing (now (which .entry)) count m → r ≡ inputs-extent (ranges-in m t) (getD (now (which .entry)) 0 0) (drop 1 (take count (now (which .entry))))) ⌝ }
 {
     let first = which[0];
@@ -127,7 +130,7 @@ fn inputs_extent(t: Ranges, which: &[usize], count: usize) -> Extent
 
 // The outputs' smallest maximum and smallest x found.
 fn outputs_extent(t: Ranges, which: &[usize], count: usize) -> Extent
-    requires { ⌜ (0 < count) × Listing (now which) count 32 ⌝ }
+    requires { ⌜ (0 < count) × Listing (now which) count max-bundles ⌝ }
     ensures { λ r. ⌜ ((m : ℕ) → Listing (now (which .entry)) count m → r ≡ outputs-extent (ranges-in m t) (getD (now (which .entry)) 0 0) (drop 1 (take count (now (which .entry))))) ⌝ }
 {
     let first = which[0];
@@ -152,7 +155,7 @@ fn outputs_extent(t: Ranges, which: &[usize], count: usize) -> Extent
 
 // The bundles in a list are given up.
 fn drop_all(which: &[usize], count: usize, p: Planning) -> Planning
-    requires { ⌜ Listing (now which) count 32 ⌝ }
+    requires { ⌜ Listing (now which) count max-bundles ⌝ }
     ensures { λ r. ⌜ ((m : ℕ) → Listing (now (which .entry)) count m → plan-in m r ≡ record { xs = drop-all (take count (now (which .entry))) (plan-in m p .xs); left = p .left .0 }) ⌝ }
 {
     let mut rows = p.rows;
@@ -451,7 +454,7 @@ fn treat(
 ) -> Step
     requires { ⌜ Searchable (now points) (now starts) (now counts) (now xs) (now scratch) ⌝ }
     requires { ⌜ AllAmong (now starts) t ⌝ }
-    requires { ⌜ (count ≤ 32) × Listing (now order) count (t .count) ⌝ }
+    requires { ⌜ (count ≤ max-bundles) × Listing (now order) count (t .count) ⌝ }
     ensures { λ r. ⌜ ((b : Board) (given : List Route) → Known b given (now (points .entry)) (now (starts .entry)) (now (counts .entry)) rail pitch t (ranges-in (t .count) ranges) → step-in (t .count) r ≡ treated search-of b given (ranges-in (t .count) ranges) (take count (now (order .entry))) (plan-in (t .count) p)) ⌝ }
 {
     let i = of_role(Role::Input, ranges, order, count);
@@ -507,10 +510,10 @@ fn initial_x(b: CollectorBounds) -> Bound
 
 // The plan of the first pass.
 fn initial(t: Ranges, n: usize) -> Planning
-    requires { ⌜ n ≤ 32 ⌝ }
+    requires { ⌜ n ≤ max-bundles ⌝ }
     ensures { λ r. ⌜ plan-in n r ≡ record { xs = map initial-x (ranges-in n t); left = t .left .0 } ⌝ }
 {
-    let mut rows = [Planned { x: Bound::None }; 32];
+    let mut rows = [Planned { x: Bound::None }; MAX_BUNDLES];
     let mut at: usize = 0;
     while at < n {
         let s = t.rows[at];
@@ -531,7 +534,7 @@ fn components(
     points: &[f64],
     starts: &[usize],
     counts: &[usize],
-    adjacent: &[bool; 1024],
+    adjacent: &[bool; BUNDLE_PAIRS],
     rail: f64,
     pitch: f64,
     t: Reaches,
@@ -545,7 +548,7 @@ fn components(
     ensures { λ r. ⌜ ((b : Board) (given : List Route) → Known b given (now (points .entry)) (now (starts .entry)) (now (counts .entry)) rail pitch t (ranges-in (t .count) ranges) → Neighboured b given (ranges-in (t .count) ranges) (t .count) (now (adjacent .entry)) → step-in (t .count) r ≡ components search-of b given (ranges-in (t .count) ranges) (indices-from 0 (ranges-in (t .count) ranges)) (replicate (t .count) false) (plan-in (t .count) before)) ⌝ }
 {
     let n = t.count;
-    let mut seen = [false; 32];
+    let mut seen = [false; MAX_BUNDLES];
     let mut p = before;
     let mut i: usize = 0;
     while i < n {

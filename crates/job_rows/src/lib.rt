@@ -2,6 +2,7 @@
 ghost use mathlib.Core.Path.{_≡_};
 ghost use Prim.Native.Nat.{_+_, _*_, _<_, _≤_};
 ghost use lib.ListN.{length, drop};
+ghost use Rattle.limits.specs.Limits.{max-nodes, max-ports, max-edges, max-route-points, max-points, max-bundles, key-room, point-numbers};
 ghost use Rattle.wire.specs.Read.{many};
 ghost use Rattle.geometry.specs.Points.{points-from};
 ghost use Rattle.job.specs.Job.{point, push};
@@ -28,6 +29,12 @@ use job::NodesRead;
 use job::PointRead;
 use job::PortRead;
 use job::PortsRead;
+use limits::KEY_ROOM;
+use limits::MAX_BUNDLES;
+use limits::MAX_EDGES;
+use limits::MAX_MEMBERS;
+use limits::MAX_NODES;
+use limits::MAX_PORTS;
 
 // ---- tables
 //
@@ -35,7 +42,7 @@ use job::PortsRead;
 // second column is one of zeros. An id is looked up in the columns of the tables before.
 
 pub fn read_nodes(s: &[u8], from: usize, count: usize, ids: &mut [u64]) -> NodesRead
-    requires { ⌜ (from < 1024) × (count ≤ 128) × (length (now ids) ≡ 256) ⌝ }
+    requires { ⌜ (from < 1024) × (count ≤ max-nodes) × (length (now ids) ≡ key-room) ⌝ }
     ensures { λ r. ⌜ NodesTold (now (s .entry)) from count (now (ids .exit)) r ⌝ }
 {
     let corner = Point { x: 0.0, y: 0.0 };
@@ -49,7 +56,7 @@ pub fn read_nodes(s: &[u8], from: usize, count: usize, ids: &mut [u64]) -> Nodes
         ok: false,
         refusal: 0,
         at: from,
-        rows: [none; 128],
+        rows: [none; MAX_NODES],
     };
     let mut at = from;
     let mut i: usize = 0;
@@ -77,14 +84,14 @@ pub fn read_ports(
     s: &[u8],
     from: usize,
     count: usize,
-    node_ids: &[u64; 256],
-    zeros: &[u64; 256],
+    node_ids: &[u64; KEY_ROOM],
+    zeros: &[u64; KEY_ROOM],
     n: usize,
     nodes: &mut [u64],
     ids: &mut [u64],
 ) -> PortsRead
-    requires { ⌜ (from < 8192) × (count ≤ 256) × (n ≤ 256) ⌝ }
-    requires { ⌜ (length (now «node_ids») ≡ 256) × (length (now zeros) ≡ 256) × (length (now nodes) ≡ 256) × (length (now ids) ≡ 256) ⌝ }
+    requires { ⌜ (from < 8192) × (count ≤ max-ports) × (n ≤ key-room) ⌝ }
+    requires { ⌜ (length (now «node_ids») ≡ key-room) × (length (now zeros) ≡ key-room) × (length (now nodes) ≡ key-room) × (length (now ids) ≡ key-room) ⌝ }
     ensures { λ r. ⌜ PortsTold (now (s .entry)) from count (first-keys (now («node_ids» .entry)) (now (zeros .entry)) n) (now (nodes .exit)) (now (ids .exit)) r ⌝ }
 {
     let none = Port {
@@ -98,7 +105,7 @@ pub fn read_ports(
         refusal: 0,
         at: from,
         known: false,
-        rows: [none; 256],
+        rows: [none; MAX_PORTS],
     };
     let mut known = true;
     let mut at = from;
@@ -135,7 +142,7 @@ pub fn read_ports(
 
 // The points of one route, total points standing before them.
 fn read_points(s: &[u8], from: usize, count: usize, total: usize, points: &mut [f64]) -> Ended
-    requires { ⌜ (from < 60000) × (count ≤ 64) × (total + count ≤ 2048) × (length (now points) ≡ 4096) ⌝ }
+    requires { ⌜ (from < 60000) × (count ≤ max-route-points) × (total + count ≤ max-points) × (length (now points) ≡ point-numbers) ⌝ }
     ensures { λ r. ⌜ ended-as r (points-from (now (points .exit)) 0 (total + count)) (drop (from + 16 * count) (now (s .entry))) ≡ many count (push point) (points-from (now (points .entry)) 0 total) (drop from (now (s .entry))) ⌝ }
 {
     let mut at = from;
@@ -159,14 +166,14 @@ pub fn read_edges(
     s: &[u8],
     from: usize,
     count: usize,
-    node_ids: &[u64; 256],
-    zeros: &[u64; 256],
+    node_ids: &[u64; KEY_ROOM],
+    zeros: &[u64; KEY_ROOM],
     n: usize,
     points: &mut [f64],
     ids: &mut [u64],
 ) -> EdgesRead
-    requires { ⌜ (from < 16384) × (count ≤ 256) × (n ≤ 256) × (length (now points) ≡ 4096) ⌝ }
-    requires { ⌜ (length (now «node_ids») ≡ 256) × (length (now zeros) ≡ 256) × (length (now ids) ≡ 256) ⌝ }
+    requires { ⌜ (from < 16384) × (count ≤ max-edges) × (n ≤ key-room) × (length (now points) ≡ point-numbers) ⌝ }
+    requires { ⌜ (length (now «node_ids») ≡ key-room) × (length (now zeros) ≡ key-room) × (length (now ids) ≡ key-room) ⌝ }
     ensures { λ r. ⌜ EdgesTold (now (s .entry)) from count (first-keys (now («node_ids» .entry)) (now (zeros .entry)) n) (now (points .exit)) (now (ids .exit)) r ⌝ }
 {
     let none = Edge {
@@ -181,7 +188,7 @@ pub fn read_edges(
         refusal: 0,
         at: from,
         known: false,
-        rows: [none; 256],
+        rows: [none; MAX_EDGES],
         total: 0,
     };
     let mut known = true;
@@ -230,21 +237,21 @@ pub fn read_bundles(
     s: &[u8],
     from: usize,
     count: usize,
-    node_ids: &[u64; 256],
+    node_ids: &[u64; KEY_ROOM],
     n: usize,
-    port_nodes: &[u64; 256],
-    port_ids: &[u64; 256],
+    port_nodes: &[u64; KEY_ROOM],
+    port_ids: &[u64; KEY_ROOM],
     p: usize,
-    edge_ids: &[u64; 256],
+    edge_ids: &[u64; KEY_ROOM],
     e: usize,
-    zeros: &[u64; 256],
+    zeros: &[u64; KEY_ROOM],
     ids: &mut [u64],
     edges: &mut [u64],
     roles: &mut [u64],
 ) -> BundlesRead
-    requires { ⌜ (from < 60000) × (count ≤ 32) × (n ≤ 256) × (p ≤ 256) × (e ≤ 256) ⌝ }
-    requires { ⌜ (length (now «node_ids») ≡ 256) × (length (now «port_nodes») ≡ 256) × (length (now «port_ids») ≡ 256) × (length (now «edge_ids») ≡ 256) × (length (now zeros) ≡ 256) ⌝ }
-    requires { ⌜ (length (now ids) ≡ 256) × (length (now edges) ≡ 256) × (length (now roles) ≡ 256) ⌝ }
+    requires { ⌜ (from < 60000) × (count ≤ max-bundles) × (n ≤ key-room) × (p ≤ key-room) × (e ≤ key-room) ⌝ }
+    requires { ⌜ (length (now «node_ids») ≡ key-room) × (length (now «port_nodes») ≡ key-room) × (length (now «port_ids») ≡ key-room) × (length (now «edge_ids») ≡ key-room) × (length (now zeros) ≡ key-room) ⌝ }
+    requires { ⌜ (length (now ids) ≡ key-room) × (length (now edges) ≡ key-room) × (length (now roles) ≡ key-room) ⌝ }
     ensures { λ r. ⌜ BundlesTold (now (s .entry)) from count (first-keys (now («node_ids» .entry)) (now (zeros .entry)) n) (first-keys (now («port_nodes» .entry)) (now («port_ids» .entry)) p) (first-keys (now («edge_ids» .entry)) (now (zeros .entry)) e) (now (ids .exit)) (now (edges .exit)) (now (roles .exit)) r ⌝ }
 {
     let none = Bundle {
@@ -260,11 +267,11 @@ pub fn read_bundles(
         tap_lane: 0,
     };
     let mut t = Bundles {
-        rows: [none; 32],
+        rows: [none; MAX_BUNDLES],
         count: count,
     };
     let mut m = Members {
-        rows: [nobody; 256],
+        rows: [nobody; MAX_MEMBERS],
         count: 0,
     };
     let mut known = true;

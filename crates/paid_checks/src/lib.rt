@@ -19,6 +19,7 @@ use board::Options;
 use drawing::Finding;
 use drawing::GeometryVisits;
 use drawing::Verdict;
+use limits::SLOT_POINTS;
 
 // How a check ended, with the visits that it left.
 fn with_left(f: Finding, visits: GeometryVisits) -> Verdict
@@ -164,7 +165,7 @@ fn node_interiors(
                 boxes,
                 edge,
                 points,
-                68 * k,
+                SLOT_POINTS * k,
                 counts[k],
                 &mut *left,
             );

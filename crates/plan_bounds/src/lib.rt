@@ -4,6 +4,7 @@
 // (Apache-2.0, see NOTICE).
 ghost use mathlib.Core.Path.{_≡_};
 ghost use mathlib.Core.List.{List};
+ghost use Rattle.limits.specs.Limits.{max-edges, max-members};
 ghost use Rattle.geometry.specs.declared.Role.the-variants.{Input, Output};
 ghost use Prim.Native.Nat.{ℕ, _+_, _*_, _≤_};
 ghost use lib.ListN.{length};
@@ -16,6 +17,8 @@ ghost use Rattle.plan.specs.Bounds.{reach-all, bounds-of, tighter, reach-x, map
 ghost use Rattle.plan.specs.Prepared.{other, end-x, Inside, Below, Rowed, Windowed, Cornered, Tells};
 use board::Bundle;
 use geometry::Role;
+use limits::MAX_EDGES;
+use limits::MAX_MEMBERS;
 use plan::Bound;
 use plan::Reached;
 use search::Bounds;
@@ -90,16 +93,16 @@ pub fn reach_all(
     role: Role,
     reserve: f64,
     points: &[f64],
-    starts: &[usize; 256],
-    counts: &[usize; 256],
-    edges: &[usize; 256],
-    in_marks: &[bool; 256],
-    in_xs: &[f64; 256],
-    out_marks: &[bool; 256],
-    out_xs: &[f64; 256],
+    starts: &[usize; MAX_MEMBERS],
+    counts: &[usize; MAX_MEMBERS],
+    edges: &[usize; MAX_MEMBERS],
+    in_marks: &[bool; MAX_EDGES],
+    in_xs: &[f64; MAX_EDGES],
+    out_marks: &[bool; MAX_EDGES],
+    out_xs: &[f64; MAX_EDGES],
     u: Bundle,
 ) -> Bound
-    requires { ⌜ Below (now edges) u × Inside (now points) (now starts) (now counts) 256 ⌝ }
+    requires { ⌜ Below max-edges (now edges) u × Inside (now points) (now starts) (now counts) max-members ⌝ }
     ensures { λ r. ⌜ ((b : Board) (given : List Route) (lanes : List ℕ) → reserve ≡ b .options .«member_endpoint_reserve» → Rowed b (now (edges .entry)) lanes → u .first + u .count ≤ length (b .members) → Windowed b given (now (points .entry)) (now (starts .entry)) (now (counts .entry)) → Cornered b Input (now («in_marks» .entry)) (now («in_xs» .entry)) → Cornered b Output (now («out_marks» .entry)) (now («out_xs» .entry)) → r ≡ reach-all b given role None (members-in b u)) ⌝ }
 {
     let across = other(role);

@@ -13,6 +13,7 @@ ghost use Rattle.plan.specs.Plan.{seek-in, seek, narrowed, first-pass, Ranged, 
 ghost use Rattle.search.specs.Search.{search-of};
 use board::Bundle;
 use geometry::Role;
+use limits::MAX_BUNDLES;
 use plan::Bound;
 use plan::Planned;
 use plan::Planning;
@@ -191,7 +192,7 @@ pub fn first_pass(
     let mut rows = [Range {
         bundle: none,
         bounds: CollectorBounds::Absent,
-    }; 32];
+    }; MAX_BUNDLES];
     let mut left = granted;
     let n = t.count;
     let mut i: usize = 0;

@@ -6,6 +6,7 @@ ghost use mathlib.Core.Path.{_≡_};
 ghost use mathlib.Core.List.{List, [], _∷_, _++_, map};
 ghost use Prim.Native.Nat.{ℕ, _+_, _≤_, _<_};
 ghost use lib.ListN.{length, take};
+ghost use Rattle.limits.specs.Limits.{max-bundles};
 ghost use Rattle.geometry.specs.Points.{Route};
 ghost use Rattle.board.specs.Board.{Board};
 ghost use Rattle.search.specs.Search.{search-of};
@@ -15,6 +16,7 @@ ghost use Rattle.plan.specs.Plan.{clear, smallest-of, largest-of, moved, cut-to
 ghost use Rattle.plan.specs.Prepared.{Searchable, Among, Routed, ranged-from, x-of, plan-in};
 ghost use Rattle.separation.specs.Taken.{taken, lanes-in, cut-past, none-taken, RangesTell, RangesFit};
 use geometry::Role;
+use limits::MAX_BUNDLES;
 use plan::Bound;
 use plan::Planned;
 use plan::Planning;
@@ -28,7 +30,7 @@ use search::TapVisits;
 
 // The x taken so far by bundles of one role.
 pub struct Taken {
-    pub xs: [f64; 32],
+    pub xs: [f64; MAX_BUNDLES],
     pub count: usize,
 }
 
@@ -238,7 +240,7 @@ fn if_clear(pitch: f64, x: Bound, used: &[f64], count: usize) -> Bound
 fn lanes_of(role: Role, l: Lanes) -> Taken
     ensures told { λ r. ⌜ taken r ≡ lanes-of role (lanes-in l) ⌝ }
     ensures few { λ r. ⌜ ((n : ℕ) → l .input .count ≤ n → l .output .count ≤ n → r .count ≤ n) ⌝ }
-    ensures size { λ r. ⌜ length (r .xs) ≡ 32 ⌝ }
+    ensures size { λ r. ⌜ length (r .xs) ≡ max-bundles ⌝ }
 {
     match role {
         Role::Input => l.input,
@@ -248,7 +250,7 @@ fn lanes_of(role: Role, l: Lanes) -> Taken
 
 // An x more among those taken.
 fn taken_with(t: Taken, x: f64) -> Taken
-    requires { ⌜ t .count < 32 ⌝ }
+    requires { ⌜ t .count < max-bundles ⌝ }
     ensures told { λ r. ⌜ taken r ≡ taken t ++ (x ∷ []) ⌝ }
     ensures one { λ r. ⌜ r .count ≡ t .count + 1 ⌝ }
 {
@@ -262,7 +264,7 @@ fn taken_with(t: Taken, x: f64) -> Taken
 }
 
 fn add_lane(role: Role, x: Bound, l: Lanes) -> Lanes
-    requires { ⌜ (l .input .count < 32) × (l .output .count < 32) ⌝ }
+    requires { ⌜ (l .input .count < max-bundles) × (l .output .count < max-bundles) ⌝ }
     ensures told { λ r. ⌜ lanes-in r ≡ add-lane role x (lanes-in l) ⌝ }
     ensures few { λ r. ⌜ (r .input .count ≤ l .input .count + 1) × (r .output .count ≤ l .output .count + 1) ⌝ }
 {
@@ -306,7 +308,7 @@ pub fn separate(
     ensures { λ r. ⌜ ((b : Board) (given : List Route) → RangesTell b given (now (points .entry)) (now (starts .entry)) (now (counts .entry)) pitch t n → plan-in n r ≡ separated search-of b given (map ranged-from (take n (t .rows))) (map x-of (take n (p .rows))) none-taken (p .left .0)) ⌝ }
 {
     let none = Taken {
-        xs: [0.0; 32],
+        xs: [0.0; MAX_BUNDLES],
         count: 0,
     };
     let mut lanes = Lanes {

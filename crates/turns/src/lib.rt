@@ -10,6 +10,7 @@ ghost use mathlib.Core.Path.{_≡_};
 ghost use mathlib.Core.List.{[], _∷_, _++_, map};
 ghost use Prim.Native.Nat.{_+_, _*_, _-_, _<_, _≤_};
 ghost use lib.ListN.{length, getD, take};
+ghost use Rattle.limits.specs.Limits.{max-nodes, max-bundles, max-members, slot-numbers};
 ghost use Rattle.route.specs.Slots.{routes-of, Held};
 ghost use Rattle.board.specs.Board.{Board};
 ghost use Rattle.plan.specs.BoardTables.{board-of, given-routes, Sound, RoutesIn};
@@ -32,6 +33,9 @@ use drawing::GeometryVisits;
 use drawing::Verdict;
 use geometry::Point;
 use geometry::Segment;
+use limits::MAX_BUNDLES;
+use limits::MAX_EDGES;
+use limits::MAX_NODES;
 use plan::Bound;
 use plan::Offsets;
 use plan::Planned;
@@ -71,7 +75,7 @@ fn draw_bundle(
     scratch: &mut [f64],
     visits: GeometryVisits,
 ) -> Turned
-    requires { ⌜ (2 * length (now counts) ≤ length (now ends)) × Ready u priors (now edges) (now lanes) (now taps) (now points) (now counts) (now mask) × (136 ≤ length (now scratch)) ⌝ }
+    requires { ⌜ (2 * length (now counts) ≤ length (now ends)) × Ready u priors (now edges) (now lanes) (now taps) (now points) (now counts) (now mask) × (slot-numbers ≤ length (now scratch)) ⌝ }
     ensures told { λ r. ⌜ ((b : Board) → Faced b o (now (boxes .entry)) (now (ends .entry)) u end (members-from (now (edges .entry)) (now (lanes .entry)) (u .first) (u .count)) → ends-as (r .verdict) (routes-of (now (points .exit)) (now (counts .exit))) (drawn-in (now (edges .entry)) (now (taps .exit)) priors ++ (drawn-of (now (edges .entry)) (now (taps .exit)) (r .row) ∷ [])) ≡ turn b allow (turn-of u planned offset) (standing (routes-of (now (points .entry)) (now (counts .entry))) (drawn-in (now (edges .entry)) (now (taps .entry)) priors) (visits .0))) ⌝ }
     ensures row { λ r. ⌜ Row u (r .row) ⌝ }
     ensures hold { λ r. ⌜ Held (now (counts .exit)) ⌝ }
@@ -130,7 +134,7 @@ fn draw_bundle(
 
 // The four numbers of each node: corner x, corner y, width, height.
 fn node_boxes(nodes: Nodes, boxes: &mut [f64])
-    requires { ⌜ (nodes .count ≤ 128) × (4 * nodes .count ≤ length (now boxes)) ⌝ }
+    requires { ⌜ (nodes .count ≤ max-nodes) × (4 * nodes .count ≤ length (now boxes)) ⌝ }
     ensures { λ _. ⌜ Boxed (now (boxes .exit)) (nodes .rows) (nodes .count) ⌝ }
 {
     let n = nodes.count;
@@ -181,7 +185,7 @@ fn store_edges(
     points: &mut [f64],
     counts: &mut [usize],
 )
-    requires { ⌜ GivenIn (now given) table × (2 * table .count ≤ length (now ends)) × (length (now counts) ≡ table .count) × (136 * length (now counts) ≤ length (now points)) ⌝ }
+    requires { ⌜ GivenIn (now given) table × (2 * table .count ≤ length (now ends)) × (length (now counts) ≡ table .count) × (slot-numbers * length (now counts) ≤ length (now points)) ⌝ }
     ensures ends { λ _. ⌜ Ended (now (ends .exit)) (table .rows) (table .count) ⌝ }
     ensures routes { λ _. ⌜ routes-of (now (points .exit)) (now (counts .exit)) ≡ given-routes (now (given .entry)) table ⌝ }
     ensures short { λ _. ⌜ Short (now (counts .exit)) ⌝ }
@@ -199,7 +203,7 @@ fn store_edges(
 
 // The edge and the tap lane of each member.
 fn member_rows(members: Members, edges: &mut [usize], lanes: &mut [u32])
-    requires { ⌜ (members .count ≤ 256) × (length (now edges) ≡ members .count) × (length (now lanes) ≡ members .count) ⌝ }
+    requires { ⌜ (members .count ≤ max-members) × (length (now edges) ≡ members .count) × (length (now lanes) ≡ members .count) ⌝ }
     ensures { λ _. ⌜ Listed (now (edges .exit)) (now (lanes .exit)) (members .rows) (members .count) ⌝ }
 {
     let n = members.count;
@@ -228,14 +232,14 @@ fn none_drawn() -> DrawnBundles
         count: 0,
     };
     DrawnBundles {
-        rows: [d; 32],
+        rows: [d; MAX_BUNDLES],
         count: 0,
     }
 }
 
 // What the plan says of bundle i.
-fn planned_of(plan: [Planned; 32], i: usize) -> Bound
-    requires { ⌜ i < 32 ⌝ }
+fn planned_of(plan: [Planned; MAX_BUNDLES], i: usize) -> Bound
+    requires { ⌜ i < max-bundles ⌝ }
     ensures { λ r. ⌜ r ≡ getD plan i no-planned .x ⌝ }
 {
     let p = plan[i];
@@ -250,7 +254,7 @@ fn draw_bundles(
     ends: &[usize],
     spots: &[f64],
     bundles: Bundles,
-    plan: [Planned; 32],
+    plan: [Planned; MAX_BUNDLES],
     offsets: Offsets,
     edges: &[usize],
     lanes: &[u32],
@@ -261,7 +265,7 @@ fn draw_bundles(
     scratch: &mut [f64],
     granted: GeometryVisits,
 ) -> Drawing
-    requires tables { ⌜ (bundles .count ≤ 32) × (2 * bundles .count ≤ length (now spots)) × (2 * length (now counts) ≤ length (now ends)) ⌝ }
+    requires tables { ⌜ (bundles .count ≤ max-bundles) × (2 * bundles .count ≤ length (now spots)) × (2 * length (now counts) ≤ length (now ends)) ⌝ }
     requires lists { ⌜ Lists (take (bundles .count) (bundles .rows)) (now edges) (now lanes) (length (now counts)) ⌝ }
     requires room { ⌜ Room (length (now edges)) (now taps) (now points) (now counts) (now mask) (now scratch) × Short (now counts) ⌝ }
     ensures told { λ r. ⌜ ((b : Board) → Shows b o (now (boxes .entry)) (now (ends .entry)) (now (spots .entry)) bundles (members-all (now (edges .entry)) (now (lanes .entry))) → ends-as (r .verdict) (routes-of (now (points .exit)) (now (counts .exit))) (drawn-in (now (edges .entry)) (now (taps .exit)) (r .drawn)) ≡ sheet-of b allow (turns-from (take (bundles .count) (bundles .rows)) (map x-of (take (bundles .count) plan)) (take (bundles .count) (offsets .rows))) (blank (routes-of (now (points .entry)) (now (counts .entry))) (granted .0))) ⌝ }
@@ -333,7 +337,7 @@ pub fn draw_sheet(
     table: Edges,
     bundles: Bundles,
     members: Members,
-    plan: [Planned; 32],
+    plan: [Planned; MAX_BUNDLES],
     offsets: Offsets,
     given: &[f64],
     edges: &mut [usize],
@@ -355,9 +359,9 @@ pub fn draw_sheet(
     ensures full { λ r. ⌜ Full (r .verdict) (r .drawn .count) (bundles .count) ⌝ }
     ensures hold { λ r. ⌜ Held (now (counts .exit)) ⌝ }
 {
-    let mut boxes = [0.0; 512];
-    let mut ends = [0; 512];
-    let mut spots = [0.0; 64];
+    let mut boxes = [0.0; 4 * MAX_NODES];
+    let mut ends = [0; 2 * MAX_EDGES];
+    let mut spots = [0.0; 2 * MAX_BUNDLES];
     let n = 4 * nodes.count;
     let m = 2 * table.count;
     member_rows(members, &mut edges[..], &mut lanes[..]);

@@ -5,6 +5,7 @@ use mathlib.Core.List.{map}
 use Prim.Native.Nat.{_≤_, _-_}
 use lib.ListN.{length, take}
 use denote.Ref.{now}
+use Rattle.limits.specs.Limits.{max-bundles}
 use Rattle.route.specs.Slots.{routes-of}
 use Rattle.drawing.specs.Check.{walk, prior-tests}
 use Rattle.checks.specs.CheckRows.{drawn-of, chosen-by, AllTabled, Slotted}
@@ -18,14 +19,14 @@ use Rattle.bundle_contacts.proofs.verify_prior.Reads as verify-prior-re
 
 abbrev Inv-loop : tie.InvT-loop
 Inv-loop o allow new edges taps changed points counts left₀ priors n i₀ left i =
-    (i ≤ n) × (n ≤ 32) × AllTabled (take n (priors .rows)) edges taps × Slotted points counts changed
+    (i ≤ n) × (n ≤ max-bundles) × AllTabled (take n (priors .rows)) edges taps × Slotted points counts changed
     × (walk 11 (priors-at o allow new (chosen-by false changed) edges taps (routes-of points counts) (priors .rows) n i) left
     ≡ walk 11 (prior-tests o allow (drawn-of edges taps new) (chosen-by false changed) (map (drawn-of edges taps) (take n (priors .rows))) (routes-of points counts)) left₀)
 
 abbrev μ-loop : tie.MeasureT-loop
 μ-loop o allow new edges taps changed points counts left₀ priors n i₀ left i = n - i
 
-rows : (s : tie.Start Inv-loop μ-loop) → length (s .args .t4 .rows) ≡ 32
+rows : (s : tie.Start Inv-loop μ-loop) → length (s .args .t4 .rows) ≡ max-bundles
 rows s = search (needs, length-mapped)
 
 loop-holds : tie.Need-loop-holds Inv-loop μ-loop

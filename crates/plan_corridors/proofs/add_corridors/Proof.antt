@@ -7,6 +7,7 @@ use native.Mathlib.Omega.{arith}
 use lib.ListN.{length, getD, take, drop, length-set}
 use lib.Ieee as Ieee
 use lib.Ieee.{Float, binary64}
+use Rattle.limits.specs.Limits.{max-edges}
 use Rattle.geometry.specs.declared.Role.{Role}
 use Rattle.board.specs.declared.Bundle.{Bundle}
 use Rattle.board.specs.declared.Member.{Member}
@@ -23,7 +24,7 @@ use Rattle.plan_corridors.proofs.add_corridors.Tie as tie
 
 abbrev Inv-loop : tie.InvT-loop
 Inv-loop tap offset pitch edges lanes marks₀ xs₀ role first n i₀ marks xs i =
-    (i ≤ n) × (length marks ≡ 256) × (length xs ≡ 256)
+    (i ≤ n) × (length marks ≡ max-edges) × (length xs ≡ max-edges)
     × ((b : Board) (u : Bundle) (e : ℕ) → u .role ≡ role → u .first ≡ first → u .count ≡ n → Rowed b edges lanes → u .first + u .count ≤ length (b .members) → tap ≡ inward (u .role) (endpoint-of b u .x) (rail-depth (b .options)) → pitch ≡ pitch-of b u
     → first-of (corridor-in marks xs e) (corridor-among b u offset e (drop i (members-in b u))) ≡ first-of (corridor-in marks₀ xs₀ e) (corridor-among b u offset e (members-in b u)))
 
@@ -86,7 +87,7 @@ loop-again c =
     let h = c .before .before .before .before .before .loop-test .taken in
     let x = c .before .before .corridor-x in
     let at = getD (a .edges .now) (a .u .first + l .i) 0 in
-    let low : at < 256 = s .pre .0 .0 .low (l .i) h in (
+    let low : at < max-edges = s .pre .0 .0 .low (l .i) h in (
       omega (arith, h),
       length-set (l .marks) at true ∙ l .inv .1,
       length-set (l .xs) at (x .result) ∙ l .inv .2,

@@ -5,6 +5,7 @@ use Prim.Native.Nat.{ℕ, _+_, _-_, _≤_, _<_}
 use native.Mathlib.Omega.{arith}
 use lib.ListN.{length, getD, take, drop}
 use lib.Ieee.{Float, nan}
+use Rattle.limits.specs.Limits.{max-edges, max-bundles}
 use Rattle.board.specs.declared.Options.{Options}
 use Rattle.board.specs.declared.Bundle.{Bundle}
 use Rattle.board.specs.Board.{Board, bundle-pitch, rail-depth}
@@ -19,7 +20,7 @@ use Rattle.plan_corridors.proofs.fallback_corridors_by_edge.Tie as tie
 
 abbrev Inv-loop : tie.InvT-loop
 Inv-loop role o edges lanes marks₀ xs₀ bundles ends offsets rail n i₀ marks xs i =
-    (i ≤ n) × (length marks ≡ 256) × (length xs ≡ 256)
+    (i ≤ n) × (length marks ≡ max-edges) × (length xs ≡ max-edges)
     × ((b : Board) (e : ℕ) → Rowed b edges lanes → Ended b o bundles (ends .rows)
     → first-of (corridor-in marks xs e) (corridor-from b role e (drop i (take n (bundles .rows))) (drop i (take n (offsets .rows))))
     ≡ first-of (corridor-in marks₀ xs₀ e) (corridor-from b role e (take n (bundles .rows)) (take n (offsets .rows))))
@@ -27,10 +28,10 @@ Inv-loop role o edges lanes marks₀ xs₀ bundles ends offsets rail n i₀ mark
 abbrev μ-loop : tie.MeasureT-loop
 μ-loop role o edges lanes marks₀ xs₀ bundles ends offsets rail n i₀ marks xs i = n - i
 
-bundles-length : (s : tie.Start Inv-loop μ-loop) → length (s .args .t3 .rows) ≡ 32
+bundles-length : (s : tie.Start Inv-loop μ-loop) → length (s .args .t3 .rows) ≡ max-bundles
 bundles-length s = search (needs, laws.length-mapped)
 
-offsets-length : (s : tie.Start Inv-loop μ-loop) → length (s .args .t7 .rows) ≡ 32
+offsets-length : (s : tie.Start Inv-loop μ-loop) → length (s .args .t7 .rows) ≡ max-bundles
 offsets-length s = search (needs, laws.length-mapped)
 
 boundary-bundle-rail-depth-requires : tie.Need-boundary-bundle-rail-depth-requires Inv-loop μ-loop

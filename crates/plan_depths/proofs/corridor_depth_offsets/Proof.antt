@@ -4,6 +4,7 @@ use mathlib.Core.List.{List, [], _∷_, _++_}
 use Prim.Native.Nat.{ℕ, _+_, _-_, _≤_, _<_}
 use native.Mathlib.Omega.{arith}
 use lib.ListN.{length, getD, take, drop, length-take, length-set}
+use Rattle.limits.specs.Limits.{max-nodes, max-ports, max-bundles, max-members}
 use Rattle.board.specs.declared.Edge.{Edge}
 use Rattle.board.specs.declared.Bundle.{Bundle}
 use Rattle.board.specs.declared.Port.{Port}
@@ -17,23 +18,23 @@ use Rattle.plan_depths.proofs.corridor_depth_offsets.Tie as tie
 
 abbrev Inv-loop : tie.InvT-loop
 Inv-loop o nodes ports bundles members rail rows₀ w₀ n i₀ rows w i =
-    (i ≤ n) × (length rows ≡ 32)
+    (i ≤ n) × (length rows ≡ max-bundles)
     × ((edges : List Edge) → take i rows ++ offsets-from (board-of o nodes ports edges bundles members) (drop i (take n (bundles .rows))) w
     ≡ offsets-from (board-of o nodes ports edges bundles members) (take n (bundles .rows)) w₀)
 
 abbrev μ-loop : tie.MeasureT-loop
 μ-loop o nodes ports bundles members rail rows₀ w₀ n i₀ rows w i = n - i
 
-bundles-length : (s : tie.Start Inv-loop μ-loop) → length (s .args .t4 .rows) ≡ 32
+bundles-length : (s : tie.Start Inv-loop μ-loop) → length (s .args .t4 .rows) ≡ max-bundles
 bundles-length s = search (needs, laws.length-mapped)
 
-ports-length : (s : tie.Start Inv-loop μ-loop) → length (s .args .t3 .rows) ≡ 256
+ports-length : (s : tie.Start Inv-loop μ-loop) → length (s .args .t3 .rows) ≡ max-ports
 ports-length s = search (needs, laws.length-mapped)
 
-nodes-length : (s : tie.Start Inv-loop μ-loop) → length (s .args .t2 .rows) ≡ 128
+nodes-length : (s : tie.Start Inv-loop μ-loop) → length (s .args .t2 .rows) ≡ max-nodes
 nodes-length s = search (needs, laws.length-mapped)
 
-members-length : (s : tie.Start Inv-loop μ-loop) → length (s .args .t5 .rows) ≡ 256
+members-length : (s : tie.Start Inv-loop μ-loop) → length (s .args .t5 .rows) ≡ max-members
 members-length s = search (needs, laws.length-mapped)
 
 abbrev bundle : tie.Start Inv-loop μ-loop → ℕ → Bundle

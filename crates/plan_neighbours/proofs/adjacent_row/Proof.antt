@@ -5,6 +5,7 @@ use mathlib.Core.List.{List}
 use Prim.Native.Nat.{ℕ, _+_, _-_, _*_, _≤_, _<_}
 use native.Mathlib.Omega.{arith}
 use lib.ListN.{length, getD, length-set}
+use Rattle.limits.specs.Limits.{max-bundles, bundle-pairs}
 use Rattle.geometry.specs.Points.{Route}
 use Rattle.board.specs.Board.{Board}
 use Rattle.plan.specs.Plan.{joined}
@@ -17,8 +18,8 @@ use Rattle.plan_neighbours.proofs.adjacent_row.Tie as tie
 
 abbrev Inv-loop : tie.InvT-loop
 Inv-loop edges n i t s rows₀ j₀ rows j =
-    (j ≤ n) × (length rows ≡ 1024) × ((m : ℕ) → m < i * 32 → getD rows m false ≡ getD rows₀ m false)
-    × ((b : Board) (given : List Route) (k : ℕ) → k < j → EdgesOf b edges (s .bundle) × EdgesOf b edges (range-at t k .bundle) → getD rows (i * 32 + k) false ≡ joined b given (ranged-from s) (ranged-from (range-at t k)))
+    (j ≤ n) × (length rows ≡ bundle-pairs) × ((m : ℕ) → m < i * max-bundles → getD rows m false ≡ getD rows₀ m false)
+    × ((b : Board) (given : List Route) (k : ℕ) → k < j → EdgesOf b edges (s .bundle) × EdgesOf b edges (range-at t k .bundle) → getD rows (i * max-bundles + k) false ≡ joined b given (ranged-from s) (ranged-from (range-at t k)))
 
 abbrev μ-loop : tie.MeasureT-loop
 μ-loop edges n i t s rows₀ j₀ rows j = n - j
@@ -67,9 +68,9 @@ loop-again c =
     let l = c .before .before .before .loop in
     let h = c .before .before .loop-test .taken in
     let f = c .is-joined in
-    let p : a .i * 32 + l .j < length (l .rows) = omega (arith, s .pre .0 .bundles-few, s .pre .1, h, l .inv .1) in (
+    let p : a .i * max-bundles + l .j < length (l .rows) = omega (arith, s .pre .0 .bundles-few, s .pre .1, h, l .inv .1) in (
       omega (arith, h),
-      length-set (l .rows) (a .i * 32 + l .j) (f .result) ∙ l .inv .1,
+      length-set (l .rows) (a .i * max-bundles + l .j) (f .result) ∙ l .inv .1,
       λ m q. laws.set-before (l .rows) (a .i) (l .j) m (f .result) q ∙ l .inv .2 m q,
       λ b given k q e.
           laws.set-next (λ (z : ℕ). joined b given (ranged-from (range-at (a .t2) (a .i))) (ranged-from (range-at (a .t2) z))) (λ (z : ℕ). EdgesOf b (a .edges .now) (range-at (a .t2) (a .i) .bundle) × EdgesOf b (a .edges .now) (range-at (a .t2) z .bundle))

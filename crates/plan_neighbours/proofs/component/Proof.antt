@@ -6,6 +6,7 @@ use Prim.Native.Nat.{ℕ, _+_, _-_, _*_, _≤_, _<_}
 use native.Mathlib.Omega.{arith}
 use borrow.Author.Needs.{needs}
 use lib.ListN.{length, getD, take, set, length-set, replicate, length-replicate}
+use Rattle.limits.specs.Limits.{max-bundles}
 use Rattle.plan.specs.Plan.{walk, push-all, Walk}
 use Rattle.plan.specs.Stack.{down-from, unseen, row-from, row-of, room, walk-of}
 use Rattle.plan_neighbours.proofs.Walks as laws
@@ -14,7 +15,7 @@ use Rattle.plan_neighbours.proofs.component.Tie as tie
 
 abbrev Inv-loop : tie.InvT-loop
 Inv-loop adjacent n start s₀ order₀ count₀ s order count =
-    (count + room n s ≤ n) × (length order ≡ 32) × laws.Below n (down-from (s .pending) (s .top))
+    (count + room n s ≤ n) × (length order ≡ max-bundles) × laws.Below n (down-from (s .pending) (s .top))
     × (laws.joined (take count order) (walk (row-of adjacent n) (n - count) (take n (s .seen)) (down-from (s .pending) (s .top))) ≡ walk (row-of adjacent n) n (take n (s₀ .seen)) (down-from (s₀ .pending) (s₀ .top)))
 
 abbrev μ-loop : tie.MeasureT-loop
@@ -30,7 +31,7 @@ loop-holds : tie.Need-loop-holds Inv-loop μ-loop
 loop-holds c =
     let a = c .args in
     let zs : List ℕ = replicate 31 0 in
-    let k : length (a .before) ≡ 32 = search needs in
+    let k : length (a .before) ≡ max-bundles = search needs in
     let h : a .start < a .n = omega arith in
     let near : ℕ → List ℕ = row-of (a .adjacent .now) (a .n) in (
       omega (arith, laws.marked-room (a .before) (a .n) (a .start) h (omega arith)),

@@ -6,6 +6,7 @@ use Prim.Native.Nat.{ℕ, _+_, _-_, _*_, _≤_, _<_}
 use native.Mathlib.Omega.{arith}
 use borrow.Author.Needs.{needs}
 use lib.ListN.{length, getD, take, set, length-set}
+use Rattle.limits.specs.Limits.{max-bundles}
 use Rattle.plan.specs.Plan.{push-all}
 use Rattle.plan.specs.Stack.{down-from, unseen, row-from, row-of}
 use Rattle.plan_neighbours.proofs.Walks as laws
@@ -14,7 +15,7 @@ use Rattle.plan_neighbours.proofs.push_near.Tie as tie
 
 abbrev Inv-loop : tie.InvT-loop
 Inv-loop adjacent n i pending₀ top₀ seen₀ j₀ pending top seen j =
-    (j ≤ n) × (length pending ≡ 32) × (length seen ≡ 32) × (top + unseen (take n seen) ≡ top₀ + unseen (take n seen₀))
+    (j ≤ n) × (length pending ≡ max-bundles) × (length seen ≡ max-bundles) × (top + unseen (take n seen) ≡ top₀ + unseen (take n seen₀))
     × (push-all (row-from adjacent i j (n - j)) (record { seen = take n seen; pending = down-from pending top }) ≡ push-all (row-of adjacent n i) (record { seen = take n seen₀; pending = down-from pending₀ top₀ }))
 
 abbrev μ-loop : tie.MeasureT-loop
@@ -68,7 +69,7 @@ loop-again c =
     let i = st .args .i in
     let n = st .args .n in
     let t : l .j < n = c .before .before .before .loop-test .taken in
-    let e : getD a (i * 32 + l .j) false ≡ true = c .before .if1 .taken in
+    let e : getD a (i * max-bundles + l .j) false ≡ true = c .before .if1 .taken in
     let f : getD (l .seen) (l .j) true ≡ false = laws.was-new (l .seen) (l .j) (omega arith) (c .if2 .taken) in
     let r = laws.room-left (l .seen) n (l .j) t (omega arith) f in
     let h : l .top < length (l .pending) = omega arith in (
@@ -87,7 +88,7 @@ loop-again-2 c =
     let st = c .before .before .before .before .before .before .before in
     let l = c .before .before .before .before .loop in
     let t : l .j < st .args .n = c .before .before .before .loop-test .taken in
-    let e : getD (st .args .adjacent .now) (st .args .i * 32 + l .j) false ≡ true = c .before .if1 .taken in
+    let e : getD (st .args .adjacent .now) (st .args .i * max-bundles + l .j) false ≡ true = c .before .if1 .taken in
     let f : getD (l .seen) (l .j) true ≡ true = laws.was-old (l .seen) (l .j) (omega arith) (c .if2 .left) in
     (omega arith, l .inv .1, l .inv .2, l .inv .3, laws.passed (st .args .adjacent .now) (st .args .i) (st .args .n) (l .j) (l .seen) (down-from (l .pending) (l .top)) t e f ∙ l .inv .4)
 
@@ -99,7 +100,7 @@ loop-again-3 c =
     let st = c .before .before .before .before .before .before in
     let l = c .before .before .before .loop in
     let t : l .j < st .args .n = c .before .before .loop-test .taken in
-    let e : getD (st .args .adjacent .now) (st .args .i * 32 + l .j) false ≡ false = c .if1 .left in
+    let e : getD (st .args .adjacent .now) (st .args .i * max-bundles + l .j) false ≡ false = c .if1 .left in
     (omega arith, l .inv .1, l .inv .2, l .inv .3, laws.left-out (st .args .adjacent .now) (st .args .i) (st .args .n) (l .j) (record { seen = take (st .args .n) (l .seen); pending = down-from (l .pending) (l .top) }) t e ∙ l .inv .4)
 
 returns : tie.Need-returns Inv-loop μ-loop

@@ -5,6 +5,7 @@ use Prim.Native.Nat.{ℕ, _+_, _-_, _≤_, _<_}
 use native.Mathlib.Omega.{arith}
 use lib.ListN.{length, getD, take, drop, length-set}
 use lib.Ieee.{Float}
+use Rattle.limits.specs.Limits.{max-bundles}
 use Rattle.geometry.specs.Points.{Route}
 use Rattle.board.specs.declared.Bundle.{Bundle}
 use Rattle.board.specs.Board.{Board}
@@ -31,7 +32,7 @@ abbrev μ-loop : tie.MeasureT-loop
 below : (s : tie.Start Inv-loop μ-loop) (k : ℕ) → k < s .args .count → getD (s .args .which .now) k 0 < s .args .t5 .count
 below s k h = s .pre .1 .1 .1 .each k h
 
-low : (s : tie.Start Inv-loop μ-loop) (k : ℕ) → k < s .args .count → getD (s .args .which .now) k 0 < 32
+low : (s : tie.Start Inv-loop μ-loop) (k : ℕ) → k < s .args .count → getD (s .args .which .now) k 0 < max-bundles
 low s k h = omega (arith, below s k h, s .pre .1 .1 .0 .bundles-few)
 
 loop-holds : tie.Need-loop-holds Inv-loop μ-loop

@@ -4,6 +4,7 @@ use mathlib.Core.List.{List, map}
 use Prim.Native.Nat.{ℕ, _+_, _-_, _≤_, _<_}
 use native.Mathlib.Omega.{arith}
 use lib.ListN.{length, getD, take, drop, length-set}
+use Rattle.limits.specs.Limits.{max-bundles}
 use Rattle.geometry.specs.Points.{Route}
 use Rattle.board.specs.declared.Bundle.{Bundle}
 use Rattle.board.specs.Board.{Board}
@@ -19,14 +20,14 @@ use Rattle.plan_searches.proofs.first_pass.Tie as tie
 
 abbrev Inv-loop : tie.InvT-loop
 Inv-loop points starts counts rail pitch xs₀ scratch₀ t rows₀ left₀ n i₀ xs scratch rows left i =
-    (i ≤ n) × (length rows ≡ 32) × (length xs ≡ length xs₀) × (length scratch ≡ length scratch₀)
+    (i ≤ n) × (length rows ≡ max-bundles) × (length xs ≡ length xs₀) × (length scratch ≡ length scratch₀)
     × ((b : Board) (given : List Route) → AllTell b given points starts counts rail pitch t
     → laws.behind (map ranged-from (take i rows)) (first-pass search-of b given (map bundle-of (drop i (take n (t .rows)))) (left .0)) ≡ first-pass search-of b given (map bundle-of (take n (t .rows))) (left₀ .0))
 
 abbrev μ-loop : tie.MeasureT-loop
 μ-loop points starts counts rail pitch xs₀ scratch₀ t rows₀ left₀ n i₀ xs scratch rows left i = n - i
 
-rows-length : (s : tie.Start Inv-loop μ-loop) → length (s .args .t6 .rows) ≡ 32
+rows-length : (s : tie.Start Inv-loop μ-loop) → length (s .args .t6 .rows) ≡ max-bundles
 rows-length s = search (needs, rows.length-mapped)
 
 loop-holds : tie.Need-loop-holds Inv-loop μ-loop

@@ -5,6 +5,7 @@ use Prim.Native.Nat.{ℕ, _+_, _-_, _≤_, _<_}
 use native.Mathlib.Omega.{arith}
 use lib.ListN.{length, getD, take, drop, set, length-set}
 use lib.Ieee.{Float}
+use Rattle.limits.specs.Limits.{max-bundles}
 use Rattle.geometry.specs.Points.{Route}
 use Rattle.board.specs.declared.Bundle.{Bundle}
 use Rattle.board.specs.Board.{Board}
@@ -21,7 +22,7 @@ use Rattle.plan_searches.proofs.search_again.Tie as tie
 
 abbrev Inv-loop : tie.InvT-loop
 Inv-loop points starts counts rail pitch which count lower upper xs₀ scratch₀ t rows₀ left₀ k₀ xs scratch rows left k =
-    (k ≤ count) × (length rows ≡ 32) × (length xs ≡ length xs₀) × (length scratch ≡ length scratch₀)
+    (k ≤ count) × (length rows ≡ max-bundles) × (length xs ≡ length xs₀) × (length scratch ≡ length scratch₀)
     × ((b : Board) (given : List Route) (ranges : List Ranged) → AllTell b given points starts counts rail pitch t → SameBundles ranges t
     → again search-of b given ranges (λ x. lower) (upper-at pitch upper) (drop k (take count which)) (plan-in (t .count) (record { rows = rows; left = left }))
     ≡ again search-of b given ranges (λ x. lower) (upper-at pitch upper) (take count which) (plan-in (t .count) (record { rows = rows₀; left = left₀ })))
@@ -32,7 +33,7 @@ abbrev μ-loop : tie.MeasureT-loop
 below : (s : tie.Start Inv-loop μ-loop) (k : ℕ) → k < s .args .count → getD (s .args .which .now) k 0 < s .args .t6 .count
 below s k h = s .pre .1 .1 .each k h
 
-low : (s : tie.Start Inv-loop μ-loop) (k : ℕ) → k < s .args .count → getD (s .args .which .now) k 0 < 32
+low : (s : tie.Start Inv-loop μ-loop) (k : ℕ) → k < s .args .count → getD (s .args .which .now) k 0 < max-bundles
 low s k h = omega (arith, below s k h, s .pre .1 .0 .bundles-few)
 
 loop-holds : tie.Need-loop-holds Inv-loop μ-loop

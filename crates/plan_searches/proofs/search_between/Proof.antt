@@ -3,6 +3,7 @@ use mathlib.Core.Path.{_≡_, sym, _∙_, ap}
 use Prim.Native.Nat.{ℕ, _+_, _-_, _≤_}
 use native.Mathlib.Omega.{arith}
 use lib.ListN.{length}
+use Rattle.limits.specs.Limits.{max-bundle-members}
 use Rattle.search.specs.declared.CollectorBounds.{CollectorBounds}
 use Rattle.search.specs.Search.{search-of}
 use Rattle.plan.specs.Plan.{seek-in}
@@ -51,7 +52,7 @@ common-horizontal-collector-x-requires c κs =
     let k : ℕ = a .u .first + a .u .count - a .u .first in
     let e : k ≡ a .u .count = omega arith in
     let h : a .u .first + k ≤ length (a .starts .now) = omega (arith, s .pre .1 .fits) in
-    let few : k ≤ 64 = omega (arith, s .pre .1 .few) in (
+    let few : k ≤ max-bundle-members = omega (arith, s .pre .1 .few) in (
       laws.part-windows (a .points .now) (a .starts .now) (a .counts .now) (a .xs .now) (a .scratch .now) (s .pre .0) (a .u .first) k h few,
       (laws.part-runs (a .points .now) (a .starts .now) (a .counts .now) (a .xs .now) (a .scratch .now) (s .pre .0) (a .u .first) k h few (a .u .role) (a .pitch), s .pre .0 .scratch-room),
     )

@@ -6,6 +6,7 @@ use Prim.Native.Nat.{ℕ, _≤_, _<_, _+_, _-_}
 use lib.Ieee.{nan}
 use lib.ListN.{length, getD, take, drop, set, length-set}
 use denote.Ref.{now}
+use Rattle.limits.specs.Limits.{max-bundles}
 use Rattle.route.specs.Slots.{routes-of}
 use Rattle.board.specs.declared.Bundle.{Bundle}
 use Rattle.board.specs.declared.DrawnBundle.{DrawnBundle}
@@ -37,18 +38,18 @@ Inv-loop o allow boxes ends spots plan edges lanes taps₀ points₀ counts₀ m
     × ((b : Board) → Shows b o boxes ends spots bundles (members-all edges lanes)
     → sheet-of b allow (turns-at (bundles .rows) plan (offsets .rows) n i) (standing (routes-of points counts) (map (drawn-of edges taps) (take (drawn .count) (drawn .rows))) (left .0))
     ≡ sheet-of b allow (turns-at (bundles .rows) plan (offsets .rows) n 0) (standing (routes-of points₀ counts₀) [] (left₀ .0)))
-    × (length (drawn .rows) ≡ 32)
+    × (length (drawn .rows) ≡ max-bundles)
 
 abbrev μ-loop : tie.MeasureT-loop
 μ-loop o allow boxes ends spots plan edges lanes taps₀ points₀ counts₀ mask₀ scratch₀ bundles offsets drawn₀ left₀ n i₀ taps points counts mask scratch drawn left i = n - i
 
-bundles-length : (s : tie.Start Inv-loop μ-loop) → length (s .args .t6 .rows) ≡ 32
+bundles-length : (s : tie.Start Inv-loop μ-loop) → length (s .args .t6 .rows) ≡ max-bundles
 bundles-length s = search (needs, length-mapped)
 
-plan-length : (s : tie.Start Inv-loop μ-loop) → length (s .args .plan) ≡ 32
+plan-length : (s : tie.Start Inv-loop μ-loop) → length (s .args .plan) ≡ max-bundles
 plan-length s = search (needs, length-mapped)
 
-offsets-length : (s : tie.Start Inv-loop μ-loop) → length (s .args .t8 .rows) ≡ 32
+offsets-length : (s : tie.Start Inv-loop μ-loop) → length (s .args .t8 .rows) ≡ max-bundles
 offsets-length s = search (needs, length-mapped)
 
 -- the bundle of turn i, and the turns from it on

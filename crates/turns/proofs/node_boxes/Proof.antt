@@ -3,6 +3,7 @@ use native.Mathlib.Omega.{arith}
 use mathlib.Core.Path.{_≡_, refl}
 use Prim.Native.Nat.{_≤_, _-_}
 use lib.ListN.{length}
+use Rattle.limits.specs.Limits.{max-nodes}
 use Rattle.plan.specs.Depths.{no-node}
 use Rattle.plan.specs.TableReads.{length-mapped, null-node, getD-any}
 use Rattle.turns.specs.TurnTables.{Boxed}
@@ -19,7 +20,7 @@ Inv-loop boxes₀ nodes n i₀ boxes i = (i ≤ n) × (length boxes ≡ length b
 abbrev μ-loop : tie.MeasureT-loop
 μ-loop boxes₀ nodes n i₀ boxes i = n - i
 
-rows-length : (s : tie.Start Inv-loop μ-loop) → length (s .args .t1 .rows) ≡ 128
+rows-length : (s : tie.Start Inv-loop μ-loop) → length (s .args .t1 .rows) ≡ max-nodes
 rows-length s = search (needs, length-mapped)
 
 loop-holds : tie.Need-loop-holds Inv-loop μ-loop

@@ -4,6 +4,7 @@ use mathlib.Core.Path.{_≡_, refl, sym, subst}
 use Prim.Native.Nat.{ℕ, _≤_, _<_, _+_, _*_, _-_}
 use lib.ListN.{length, getD}
 use denote.Ref.{now}
+use Rattle.limits.specs.Limits.{max-ports}
 use Rattle.board.specs.declared.Port.{Port}
 use Rattle.plan.specs.Depths.{no-port}
 use Rattle.plan.specs.BoardTables.{no-bundle}
@@ -23,7 +24,7 @@ Inv-loop boxes spots₀ ports bundles n i₀ spots i = (i ≤ n) × (length spot
 abbrev μ-loop : tie.MeasureT-loop
 μ-loop boxes spots₀ ports bundles n i₀ spots i = n - i
 
-ports-length : (s : tie.Start Inv-loop μ-loop) → length (s .args .t2 .rows) ≡ 256
+ports-length : (s : tie.Start Inv-loop μ-loop) → length (s .args .t2 .rows) ≡ max-ports
 ports-length s = search (needs, length-mapped)
 
 -- the port of bundle i is in the table

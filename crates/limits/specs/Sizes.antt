@@ -1,0 +1,12 @@
+-- The two sizes that document 01 states follow from the limits, and both fit their buffers. Assumes nothing.
+use Prim.Native.Nat.{_≤_}
+use mathlib.Core.Path.{_≡_, refl}
+use native.Mathlib.Omega.{arith}
+use Rattle.limits.specs.Limits.{job-room, answer-room, largest-job, largest-answer}
+
+-- "The largest job is 49,566 bytes"; an answer has "At most 52,484 bytes"
+pub sizes : (largest-job ≡ 49566) × (largest-answer ≡ 52484)
+sizes = (refl, refl)
+
+pub fits : (largest-job ≤ job-room) × (largest-answer ≤ answer-room)
+fits = (omega arith, omega arith)
