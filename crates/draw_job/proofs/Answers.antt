@@ -23,7 +23,7 @@ use Rattle.planner.proofs.MemberTurns.{window-cons}
 use Rattle.drawing.specs.Build.{TapOn}
 use Rattle.drawing.specs.Check.{no-edge}
 use Rattle.checks.specs.CheckRows.{taps-from, drawn-of}
-use Rattle.building.specs.MemberSlices.{Row}
+use Rattle.checks.specs.MemberSlices.{Row}
 use Rattle.turns.specs.TurnTables.{Rows}
 use Rattle.route.specs.Slots.{routes-of}
 use Rattle.board.specs.declared.DrawnBundles.{DrawnBundles}

@@ -17,7 +17,7 @@ ghost use Rattle.plan.specs.BoardTables.{board-of, given-routes, Sound, RoutesI
 ghost use Rattle.plan.specs.Prepared.{no-planned, x-of};
 ghost use Rattle.drawing.specs.Sheet.{turn, turns-from, sheet-of, blank};
 ghost use Rattle.checks.specs.CheckRows.{drawn-of};
-ghost use Rattle.building.specs.MemberSlices.{members-from, Row};
+ghost use Rattle.checks.specs.MemberSlices.{members-from, Row};
 ghost use Rattle.turns.specs.TurnTables.{turn-of, standing, ends-as, drawn-in, spot-of, Faced, Ready, Longer, Shows, Named, Lists, Room, Short, Rows, Full, members-all, GivenIn, Listed, Boxed, Ended, Spotted, Follow, Once};
 use board::Bundle;
 use board::Bundles;
@@ -81,7 +81,7 @@ fn draw_bundle(
     ensures hold { λ r. ⌜ Held (now (counts .exit)) ⌝ }
     ensures longer { λ r. ⌜ Longer (r .verdict) (now (counts .entry)) (now (counts .exit)) (members-from (now (edges .entry)) (now (lanes .entry)) (u .first) (u .count)) ⌝ }
 {
-    let d = building::build_geometry(
+    let d = bundle_geometry::build_geometry(
         o,
         end,
         u,
@@ -94,7 +94,7 @@ fn draw_bundle(
     );
     let role = u.role;
     let pitch = board::pitch_of_bundle(o, u);
-    if !building::rewrite_member_routes(
+    if !member_rewriting::rewrite_member_routes(
         d.interior,
         role,
         pitch,
@@ -113,7 +113,7 @@ fn draw_bundle(
             row: d,
         };
     }
-    let v = building::verify_bundle(
+    let v = bundle_checks::verify_bundle(
         o,
         allow,
         boxes,
@@ -194,7 +194,7 @@ fn store_edges(
     let mut i: usize = 0;
     while i < n {
         let e = table.rows[i];
-        route::store_route(given, e.first, e.count, &mut points[..], &mut counts[..], i);
+        route_slots::store_route(given, e.first, e.count, &mut points[..], &mut counts[..], i);
         ends[2 * i] = e.source;
         ends[2 * i + 1] = e.target;
         i += 1;

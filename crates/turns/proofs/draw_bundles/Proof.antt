@@ -18,7 +18,7 @@ use Rattle.plan.specs.Prepared.{no-planned}
 use Rattle.plan.specs.TableReads.{length-mapped, part-cons}
 use Rattle.drawing.specs.Sheet.{Turn, turn, sheet-of}
 use Rattle.checks.specs.CheckRows.{drawn-of}
-use Rattle.building.specs.MemberSlices.{Row}
+use Rattle.checks.specs.MemberSlices.{Row}
 use Rattle.turns.specs.TurnTables.{turn-of, standing, Shows, Rows, members-all}
 use Rattle.turns.proofs.Resting.{Rest, rest-start, rest-ready, rest-next, faces, longer-clean, turns-at, turns-next, turns-end, sheet-on, sheet-off, sheet-end, drawn-more, rows-next, rows-none, full-off, full-on, drawn-next}
 use Rattle.turns.proofs.draw_bundles.Statement.{statement}
