@@ -92,9 +92,12 @@ bundle  role    place     collector x  y           taps
 6       output  rail      880          415 to 425  2
 
 ";
-    let left = "tap visits: 1999720 left\ngeometry visits: 19998994 left\n";
+    let left = "tap visits: 1999720 left\ngeometry visits: 19998994 left\n\
+                joints: not looked at, as that takes the job\n";
     let paid = "tap visits: 2000000 granted, 280 paid, 1999720 left\n\
-                geometry visits: 20000000 granted, 1006 paid, 19998994 left\n";
+                geometry visits: 20000000 granted, 1006 paid, 19998994 left\n\
+                joints: none is false on the sheet in the answer, looked at in exact numbers\n\
+                last shift: it subtracted nothing\n";
     assert_eq!(
         text(out(0, &["explain", &answer], b"")),
         format!("{table}{left}")

@@ -2,12 +2,13 @@
 
 use bundle_stage::{Endpoint, Node};
 
-use super::palette::{colour, mark};
+use super::field::moved;
+use super::palette::{WARNING, colour, mark};
 use super::paths::{line, marked, path};
 use super::pens::Pens;
-use super::scene::{Route, Scene, Tap};
+use super::scene::{MARK, Route, Scene, Tap};
 use super::stroke::{Stroke, halves};
-use super::xml::mm;
+use super::xml::{mm, wide_bold, words};
 
 fn name(endpoint: Endpoint) -> String {
     format!("{}:{}", endpoint.node, endpoint.port)
@@ -135,5 +136,40 @@ fn dot(tap: &Tap, pens: &Pens, colour: &str) -> String {
         mm(tap.at.x),
         mm(tap.at.y),
         mm(tap.radius)
+    )
+}
+
+/// A ring around each false joint, over everything else, and words beside it, inside the page.
+pub fn marks(scene: &Scene, width: f64) -> String {
+    let size = 2.6;
+    let mut svg = String::new();
+    for mark in &scene.marks {
+        let (side, anchor) = if mark.at.x + MARK + wide_bold(mark.name, size) < width {
+            (0.8, "start")
+        } else {
+            (-0.8, "end")
+        };
+        let beside = moved(mark.at, side * MARK, -0.8 * MARK);
+        let more = format!(
+            "text-anchor=\"{anchor}\" font-weight=\"bold\" fill=\"{WARNING}\" stroke=\"white\" \
+             stroke-width=\"0.6\" paint-order=\"stroke\""
+        );
+        svg.push_str(&format!(
+            "<g class=\"false-joint\"><title>{}</title>\n{}{}</g>\n",
+            mark.words,
+            ring(mark.at.x, mark.at.y, MARK),
+            words(beside, size, &more, mark.name)
+        ));
+    }
+    svg
+}
+
+pub fn ring(x: f64, y: f64, radius: f64) -> String {
+    format!(
+        "<circle cx=\"{}\" cy=\"{}\" r=\"{}\" fill=\"none\" stroke=\"{WARNING}\" \
+         stroke-width=\"0.5\"/>\n",
+        mm(x),
+        mm(y),
+        mm(radius)
     )
 }
