@@ -116,6 +116,22 @@ fn a_gap_that_the_shift_closes() {
     assert_eq!(sheet.false_joints(&near), Some(Vec::new()));
 }
 
+/// It takes no large numbers.
+#[test]
+fn a_gap_that_closes_among_thirds() {
+    let (board, sheet) = job("tests/data/gap-closed-among-thirds.job");
+    let meeting = Meeting::Route {
+        route: 1,
+        bundle: 1,
+    };
+    let Segment { start, end } = sheet.bundles[0].spine;
+    let (collector, spine) = (joint(meeting, end, end), joint(meeting, start, end));
+    assert_eq!(sheet.false_joints(&board), Some(vec![collector, spine]));
+    let LastShift { x, y } = sheet.last_shift(&board);
+    assert_eq!((x, y), (Shift::Nothing, Shift::Rounded));
+    assert!(sheet.width < 40.0 && sheet.height < 40.0);
+}
+
 #[test]
 fn a_far_side_that_the_shift_moves() {
     let (board, sheet) = job("tests/data/far-side-by-the-shift.job");
@@ -134,15 +150,18 @@ fn a_far_side_that_the_shift_moves() {
     assert_eq!(sheet.false_joints(&whole), Some(Vec::new()));
 }
 
+/// What is known of the shift of the board with a change.
+fn known(change: fn(&mut Board)) -> (Shift, Shift) {
+    let mut board = board();
+    change(&mut board);
+    let LastShift { x, y } = board.draw().expect("drawn").last_shift(&board);
+    (x, y)
+}
+
+use Shift::{Exact, NotKnown, Nothing, Rounded};
+
 #[test]
-fn what_is_known_of_the_shift() {
-    let known = |change: fn(&mut Board)| {
-        let mut board = board();
-        change(&mut board);
-        let LastShift { x, y } = board.draw().expect("drawn").last_shift(&board);
-        (x, y)
-    };
-    use Shift::{Exact, NotKnown, Nothing, Rounded};
+fn nothing_is_subtracted() {
     assert_eq!(known(|_| {}), (Nothing, Nothing));
     // Off the grid, but nothing is below 0: a known coordinate is 0, or none is.
     assert_eq!(known(|board| board.nodes[2].x = 100.1), (Nothing, Nothing));
@@ -152,7 +171,11 @@ fn what_is_known_of_the_shift() {
         points.for_each(|point| point.x += 0.1);
     };
     assert_eq!(known(right), (Nothing, Nothing));
-    // Below 0, on the grid and off it.
+}
+
+#[test]
+fn something_is_subtracted() {
+    // On the grid and off it.
     assert_eq!(known(|board| board.nodes[2].x = -3.25), (Exact, Nothing));
     assert_eq!(known(|board| board.nodes[2].x = -0.1), (Rounded, Nothing));
     assert_eq!(
@@ -305,7 +328,11 @@ fn two_bundles() {
         with(apart, crossing),
         [joint(meeting, point.start, point.start)]
     );
-    // The earlier ones have no length: they may share their point.
+}
+
+/// Segments of no length may share their point.
+#[test]
+fn two_bundles_of_no_length() {
     let mut board = board();
     board.options = Options::default();
     board.edges.clear();

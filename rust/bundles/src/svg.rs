@@ -68,7 +68,7 @@ pub fn svg(board: &Board, sheet: &Sheet, title: &str) -> String {
     picture(scene, &head, BLACK, Some(joints.line()))
 }
 
-/// No more false joints are named; the last line of the page counts them.
+/// No more false joints are named below the title. The line below the legend counts all.
 const MOST_NAMED: usize = 6;
 
 fn warnings(joints: &Joints) -> Vec<String> {
@@ -116,15 +116,8 @@ fn picture(scene: Scene, head: &Head, ink: &str, said: Option<String>) -> String
     } else {
         labels(&scene, &strokes, &pens, frame)
     };
-    let (width, height) = (mm(page.width), mm(page.height));
     let inner = page.width - 2.0 * MARGIN;
-    let mut svg = format!(
-        "<svg xmlns=\"http://www.w3.org/2000/svg\" width=\"{width}mm\" height=\"{height}mm\" \
-         viewBox=\"0 0 {width} {height}\" font-family=\"Helvetica, Arial, 'Liberation Sans', \
-         'DejaVu Sans', sans-serif\" fill=\"{BLACK}\">\n<title>{}</title>\n\
-         <rect width=\"{width}\" height=\"{height}\" fill=\"white\"/>\n",
-        escaped(&head.title)
-    );
+    let mut svg = opened(&page, &head.title);
     svg.push_str(&head.draw(corner(MARGIN, MARGIN), inner));
     svg.push_str(&nodes(&scene, &pens, ink));
     svg.push_str(&lines(&scene, &strokes, &pens, ink));
@@ -136,6 +129,18 @@ fn picture(scene: Scene, head: &Head, ink: &str, said: Option<String>) -> String
     let note = note(&scene, &labels.left_out, &page);
     svg.push_str(&legend.draw(corner(MARGIN, page.bottom), inner, &note));
     svg + "</svg>\n"
+}
+
+/// The start of the file, up to the white of the page.
+fn opened(page: &Page, title: &str) -> String {
+    let (width, height) = (mm(page.width), mm(page.height));
+    format!(
+        "<svg xmlns=\"http://www.w3.org/2000/svg\" width=\"{width}mm\" height=\"{height}mm\" \
+         viewBox=\"0 0 {width} {height}\" font-family=\"Helvetica, Arial, 'Liberation Sans', \
+         'DejaVu Sans', sans-serif\" fill=\"{BLACK}\">\n<title>{}</title>\n\
+         <rect width=\"{width}\" height=\"{height}\" fill=\"white\"/>\n",
+        escaped(title)
+    )
 }
 
 /// The last line of the page.

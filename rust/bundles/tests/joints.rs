@@ -56,6 +56,16 @@ fn in_words() {
              last shift: across, it rounded; down, it may have rounded\n"
         )
     );
+    let two = ONE.replace("1 is", "2 are");
+    assert_eq!(
+        said(&job("gap-closed-among-thirds")),
+        format!(
+            "{two}  route 1 touches bundle 1 at (4.666666666666666, 3.333333333333333)\n  \
+             route 1 touches bundle 1 from (2, 3.333333333333333) to (4.666666666666666, \
+             3.333333333333333)\n\
+             last shift: across, it subtracted nothing; down, it rounded\n"
+        )
+    );
     assert_eq!(
         said(&job("far-side-by-the-shift")),
         format!(

@@ -80,6 +80,11 @@ fn from_text_to_picture() {
     assert!(text(titled).contains("<title>Clocks &amp; pulses</title>"));
     let named = text(out(0, &["svg", "-", &answer], &read(&job)));
     assert!(named.contains("<title>sheet</title>"));
+}
+
+#[test]
+fn an_explanation() {
+    let (job, answer) = (example("clock-board.job"), example("clock-board.answer"));
     let table = "\
 a sheet of 1000 by 480: 8 nodes, 20 routes, 6 bundles
 
@@ -103,7 +108,11 @@ bundle  role    place     collector x  y           taps
         format!("{table}{left}")
     );
     assert_eq!(
-        text(out(0, &["explain", "-", &job], &read(&answer))),
+        text(out(
+            0,
+            &["explain", "-", &job],
+            &fs::read(&answer).expect("an example")
+        )),
         format!("{table}{paid}")
     );
 }

@@ -5,7 +5,7 @@ use bundle_stage::{Point, Role};
 use super::labels::{pill_at, pill_size};
 use super::palette::{BLACK, WARNING, colour, mark};
 use super::paths::marked;
-use super::scene::{Scene, Trunk};
+use super::scene::{Route, Scene, Trunk};
 use super::shapes::ring;
 use super::xml::{mm, wide, wide_bold, words};
 
@@ -213,67 +213,63 @@ fn bundle(place: usize, trunk: &Trunk, size: f64) -> Sign {
     }
 }
 
+/// Those that the sheet has.
 fn signs(scene: &Scene) -> Vec<Sign> {
-    let mut signs = Vec::new();
-    let mut sign = |sample: String, text: &str| {
-        signs.push(Sign {
-            sample,
-            start: SAMPLE + GAP,
-            size: TEXT,
-            text: text.to_string(),
-        });
-    };
-    let thin = |d: &str, colour: &str| {
-        format!("<path d=\"{d}\" fill=\"none\" stroke=\"{colour}\" stroke-width=\"0.35\"/>\n")
-    };
-    if !scene.trunks.is_empty() {
-        let first = colour(0);
-        sign(
-            marked("M5 -1.6V1.6", 1.1, first, mark(0))
-                + &thin("M5 0H10", first)
-                + &format!("<circle cx=\"5\" cy=\"0\" r=\"1\" fill=\"{first}\"/>\n"),
-            "joint: a tap on its collector",
-        );
-    }
-    sign(
-        thin("M5 -1.6V-1.2M5 -0.6V1.6", BLACK) + &thin("M0 0H4.1A0.9 0.9 0 0 1 5.9 0H10", BLACK),
-        "crossing: no joint",
-    );
-    if scene
-        .trunks
-        .iter()
-        .any(|trunk| trunk.taps.iter().any(|tap| !tap.held))
-    {
-        sign(
-            "<circle cx=\"5\" cy=\"0\" r=\"0.9\" fill=\"white\" stroke=\"#222222\" \
-             stroke-width=\"0.35\"/>\n"
-                .to_string(),
+    let bundled = !scene.trunks.is_empty();
+    let any = |test: fn(&Route) -> bool| bundled && scene.routes.iter().any(test);
+    let mut taps = scene.trunks.iter().flat_map(|trunk| &trunk.taps);
+    let halves = thin("M0 0H5", colour(0)) + &thin("M5 0H10", colour(1));
+    let all = [
+        (bundled, joint(), "joint: a tap on its collector"),
+        (true, crossing(), "crossing: no joint"),
+        (
+            taps.any(|tap| !tap.held),
+            OPEN_DOT.to_string(),
             "tap off its collector",
-        );
-    }
-    if !scene.trunks.is_empty() {
-        let plain = |route: &super::scene::Route| route.input.is_none() && route.output.is_none();
-        if scene.routes.iter().any(plain) {
-            sign(thin("M0 0H10", BLACK), "route in no bundle");
-        }
-        let both = |route: &super::scene::Route| route.input.is_some() && route.output.is_some();
-        if scene.routes.iter().any(both) {
-            sign(
-                thin("M0 0H5", colour(0)) + &thin("M5 0H10", colour(1)),
-                "route in two bundles",
-            );
-        }
-    }
-    if !scene.marks.is_empty() {
-        sign(ring(5.0, 0.0, 1.4), "false joint, or a route in a node");
-    }
-    if !scene.ports.is_empty() {
-        sign(
-            "<rect x=\"4.4\" y=\"-0.6\" width=\"1.2\" height=\"1.2\" fill=\"white\" \
-             stroke=\"#222222\" stroke-width=\"0.3\"/>\n"
-                .to_string(),
-            "port",
-        );
-    }
-    signs
+        ),
+        (
+            any(|route| route.input.is_none() && route.output.is_none()),
+            thin("M0 0H10", BLACK),
+            "route in no bundle",
+        ),
+        (
+            any(|route| route.input.is_some() && route.output.is_some()),
+            halves,
+            "route in two bundles",
+        ),
+        (
+            !scene.marks.is_empty(),
+            ring(5.0, 0.0, 1.4),
+            "false joint, or a route in a node",
+        ),
+        (!scene.ports.is_empty(), SQUARE.to_string(), "port"),
+    ];
+    let there = all.into_iter().filter(|(there, ..)| *there);
+    let signs = there.map(|(_, sample, text)| Sign {
+        sample,
+        start: SAMPLE + GAP,
+        size: TEXT,
+        text: text.to_string(),
+    });
+    signs.collect()
+}
+
+const OPEN_DOT: &str = "<circle cx=\"5\" cy=\"0\" r=\"0.9\" fill=\"white\" stroke=\"#222222\" \
+                        stroke-width=\"0.35\"/>\n";
+const SQUARE: &str = "<rect x=\"4.4\" y=\"-0.6\" width=\"1.2\" height=\"1.2\" fill=\"white\" \
+                      stroke=\"#222222\" stroke-width=\"0.3\"/>\n";
+
+fn thin(d: &str, colour: &str) -> String {
+    format!("<path d=\"{d}\" fill=\"none\" stroke=\"{colour}\" stroke-width=\"0.35\"/>\n")
+}
+
+fn joint() -> String {
+    let first = colour(0);
+    marked("M5 -1.6V1.6", 1.1, first, mark(0))
+        + &thin("M5 0H10", first)
+        + &format!("<circle cx=\"5\" cy=\"0\" r=\"1\" fill=\"{first}\"/>\n")
+}
+
+fn crossing() -> String {
+    thin("M5 -1.6V-1.2M5 -0.6V1.6", BLACK) + &thin("M0 0H4.1A0.9 0.9 0 0 1 5.9 0H10", BLACK)
 }
