@@ -2,7 +2,7 @@
 
 use bundle_stage::{Endpoint, Node};
 
-use super::field::moved;
+use super::field::{Rect, moved};
 use super::palette::{WARNING, colour, mark};
 use super::paths::{line, marked, path};
 use super::pens::Pens;
@@ -139,26 +139,33 @@ fn dot(tap: &Tap, pens: &Pens, colour: &str) -> String {
     )
 }
 
-/// A ring around each false joint, over everything else, and words beside it, inside the page.
+/// A ring around each false joint, over everything else, and words beside it, inside the page. Where
+/// words would lie over others, the ring stands alone.
 pub fn marks(scene: &Scene, width: f64) -> String {
     let size = 2.6;
     let mut svg = String::new();
+    let mut taken: Vec<Rect> = Vec::new();
     for mark in &scene.marks {
-        let (side, anchor) = if mark.at.x + MARK + wide_bold(mark.name, size) < width {
-            (0.8, "start")
+        let long = wide_bold(mark.name, size);
+        let (side, anchor) = if mark.at.x + MARK + long < width {
+            (1.0, "start")
         } else {
-            (-0.8, "end")
+            (-1.0, "end")
         };
-        let beside = moved(mark.at, side * MARK, -0.8 * MARK);
+        let beside = moved(mark.at, 0.8 * side * MARK, -0.8 * MARK);
         let more = format!(
             "text-anchor=\"{anchor}\" font-weight=\"bold\" fill=\"{WARNING}\" stroke=\"white\" \
              stroke-width=\"0.6\" paint-order=\"stroke\""
         );
+        let rect = Rect::of(beside, moved(beside, side * long, -size), 0.0);
+        let mut inside = ring(mark.at.x, mark.at.y, MARK);
+        if !taken.iter().any(|other| other.meets(&rect)) {
+            inside.push_str(&words(beside, size, &more, mark.name));
+            taken.push(rect);
+        }
+        let title = &mark.words;
         svg.push_str(&format!(
-            "<g class=\"false-joint\"><title>{}</title>\n{}{}</g>\n",
-            mark.words,
-            ring(mark.at.x, mark.at.y, MARK),
-            words(beside, size, &more, mark.name)
+            "<g class=\"false-joint\"><title>{title}</title>\n{inside}</g>\n"
         ));
     }
     svg
