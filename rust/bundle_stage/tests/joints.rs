@@ -271,6 +271,8 @@ fn a_route_on_a_bundle() {
     assert_eq!(moved(at(180.0, 60.0), at(200.0, 60.0)).len(), 1);
     // Beside it, and a run of no length.
     assert_eq!(moved(at(180.0, 60.0_f64.next_up()), at(180.0, 90.0)), []);
+    let below = 50.0_f64.next_up();
+    assert_eq!(moved(at(60.0, below), at(100.0, below)), []);
     assert_eq!(moved(at(180.0, 50.0), at(180.0, 50.0)), []);
 }
 
@@ -294,6 +296,10 @@ fn a_member_beside_its_tap() {
     // The tap is inside the run.
     let tap = at(180.0, 40.0);
     assert_eq!(started(179.0, 40.0), [joint(meeting, tap, tap)]);
+    // It starts at the tap, but runs along the collector.
+    let down = at(180.0, 45.0);
+    let along = joints(|sheet| sheet.routes[0].points = vec![tap, down]);
+    assert_eq!(along, [joint(meeting, tap, down)]);
     // Nothing is listed with this route.
     let unlisted = joints(|sheet| sheet.bundles[0].taps[0].edge = 9);
     assert_eq!(unlisted, [joint(meeting, tap, tap)]);
@@ -354,7 +360,8 @@ fn a_member_in_a_node() {
         moved(185.0, 35.0),
         [joint(meeting, at(185.0, 40.0), at(195.0, 40.0))]
     );
-    assert_eq!(moved(185.0, 30.0), [], "along its side");
+    assert_eq!(moved(185.0, 30.0), [], "along its lower side");
+    assert_eq!(moved(185.0, 40.0), [], "along its upper side");
     assert_eq!(moved(170.0, 35.0), [], "up to its side");
     // Route 3 is no member.
     assert_eq!(moved(100.0, 115.0), []);
@@ -369,7 +376,9 @@ fn slanted_ones_and_numbers_that_are_no_places() {
     let slanted = joints(|sheet| sheet.routes[2].points = vec![a, b]);
     assert_eq!(slanted, [joint(route, a, b)]);
     for number in [f64::NAN, f64::INFINITY] {
-        let found = joints(|sheet| sheet.routes[2].points[1].y = number);
+        // From the same x, so that only the number tells.
+        let ends = vec![at(0.0, 120.0), at(0.0, number)];
+        let found = joints(|sheet| sheet.routes[2].points = ends);
         assert_eq!(found.len(), 1);
         assert_eq!(found[0].meeting, route);
     }
