@@ -4,6 +4,10 @@
 //! The stage itself is proved, and linked as a static library: it does not trap, ends, and draws no
 //! false joint, whatever the board (README of the repository). Buffers are this crate's business.
 //!
+//! That there is no false joint is proved of the sheet before its last shift, which rounds, and of
+//! the sheet in the answer where that shift is exact: [`Sheet::false_joints`] looks for them in the
+//! sheet as it stands, and [`Sheet::last_shift`] says what is known of the shift.
+//!
 //! ```
 //! use bundle_stage::*;
 //!
@@ -66,8 +70,10 @@
 #![forbid(unsafe_code)]
 
 mod board;
+mod joints;
 mod refusal;
 mod sheet;
+mod shift;
 mod wire;
 
 use bundle_stage_sys::BUFFER;
@@ -76,8 +82,10 @@ pub use board::{
     Board, Bundle, Edge, Endpoint, Flags, Id, Member, Node, Options, Point, Port, Role, Side,
     Visits,
 };
+pub use joints::{FalseJoint, Meeting};
 pub use refusal::{Cause, Refusal};
 pub use sheet::{Answer, DrawnBundle, PlacedNode, Route, Segment, Sheet, Tap};
+pub use shift::{LastShift, Shift};
 pub use wire::{Fault, Malformed, TooMany};
 
 /// The answer to a job's bytes, whatever they are: the bytes that the program `sheet` writes.

@@ -12,7 +12,8 @@ pub mod c {
         // bits on x86-64, for which alone the library is made. It exports no other name.
         /// # Safety
         ///
-        /// Job and answer have as many bytes as is said, and do not overlap.
+        /// Job and answer have as many bytes as is said. They must not overlap, not by one byte: what
+        /// is proved of the stage is proved of slices that do not.
         pub fn stage(
             job: *const u8,
             job_length: usize,

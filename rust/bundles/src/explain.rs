@@ -2,10 +2,11 @@
 
 use bundle_stage::{Answer, Board, DrawnBundle, Role, Sheet};
 
+use crate::joints::Joints;
 use crate::text::number;
 
-/// A table of the bundles and the visits, or the refusal. A job's board adds what only the job
-/// says: what was granted, and a role that no spine shows.
+/// A table of the bundles, the visits and the joints, or the refusal. A job's board adds what only
+/// the job says: what was granted, a role that no spine shows, and whether joints are false.
 pub fn explain(answer: &Answer, board: Option<&Board>) -> String {
     match answer {
         Answer::Refused(refusal) => format!("{refusal}\n"),
@@ -41,6 +42,10 @@ fn drawn(sheet: &Sheet, board: Option<&Board>) -> String {
         left.geometry,
         granted.map(|grant| grant.geometry),
     ));
+    text.push_str(&match board {
+        Some(board) => Joints::of(board, sheet).explained(),
+        None => "joints: not looked at, as that takes the job\n".to_string(),
+    });
     text
 }
 

@@ -49,7 +49,20 @@ The table has a line for each bundle: its id, its role, whether it stands inside
 (interior) or at the rail, the x of its collector, from which y to which it goes, and how many taps
 it has. Below it are the visits left. An answer does not have the role: it is read off the spine,
 which leads to the right for an input and to the left for an output. With the answer's JOB the role
-is the job's, and the visits granted and paid are said too.",
+is the job's, the visits granted and paid are said too, and what is known of the joints.
+
+Joints are looked at where crossings are forbidden, on the sheet in the answer, in exact numbers. None
+is false where a segment of a bundle and a run of some length share no point, or exactly one, which is
+that route's tap on the bundle and an end of the run; where segments of two bundles share none if the
+earlier one's has length; and where no member's route enters a node but its source and its target. All
+this is proved of every sheet before its last shift, which subtracts the least coordinates, where they
+are below 0, and rounds each difference. So a false joint in an answer is the work of that rounding.
+Each is named: bundle, route or node, and place.
+
+Of the last shift it is said, across and down, that it subtracted nothing; or that it was exact, as
+all numbers of the job are multiples of 1/64 up to 2^20; or that it rounded; or, where an answer does
+not tell, that it may have rounded. In the first two cases there is no false joint, which is proved
+too. All this is about the stage's own answer, so the job is drawn again to compare.",
     },
     Command {
         name: "svg",
@@ -62,7 +75,8 @@ Nodes are boxes with their ids, ports are squares, routes are thin lines and bun
 with a colour and a mark of its own. A dot is a joint: a tap on its collector. Where lines cross
 without a joint, the one goes over the other in an arch. Routes that lie over each other, or very near,
 are drawn side by side; a route in two bundles changes its colour half way. The legend has each
-bundle's id, role, place, members and width.
+bundle's id, role, place, members and width. Below it stands what `bundles explain` says of the joints
+and of the last shift; a false joint has a ring around it, and its words stand below the title.
 
 Lines and letters have their sizes in millimetres of the page; no letter is smaller than 1.8. Where
 lines would be too near to each other, the sheet is stretched across or down, and the last line of the

@@ -23,6 +23,7 @@ mod xml;
 use bundle_stage::{Board, Point, Refusal, Sheet};
 
 use crate::explain::counted;
+use crate::joints::{Joints, name, words};
 use crate::text::number;
 use drawn::strokes;
 use labels::{Labels, labels};
@@ -31,7 +32,7 @@ use page::{MARGIN, Page};
 use palette::{BLACK, GREY};
 use pens::Pens;
 use scene::Scene;
-use shapes::{lines, nodes, ports};
+use shapes::{lines, marks, nodes, ports};
 use xml::{escaped, mm};
 
 /// Above the limits of a job, so that only a refused one has more: it is then drawn without arches
@@ -56,26 +57,43 @@ pub fn svg(board: &Board, sheet: &Sheet, title: &str) -> String {
         sheet.visits_left.tap,
         sheet.visits_left.geometry,
     );
+    let joints = Joints::of(board, sheet);
+    let mut scene = Scene::of_sheet(board, sheet);
+    scene.mark(joints.found());
     let head = Head {
         title: title.to_string(),
-        lines: vec![about],
-        refused: false,
+        about: Some(about),
+        warnings: warnings(&joints),
     };
-    picture(Scene::of_sheet(board, sheet), &head)
+    picture(scene, &head, BLACK, Some(joints.line()))
+}
+
+/// No more false joints are named below the title. The line below the legend counts all.
+const MOST_NAMED: usize = 6;
+
+fn warnings(joints: &Joints) -> Vec<String> {
+    let named = joints.found().iter().take(MOST_NAMED);
+    let named = named.map(|joint| format!("{}: {}.", name(joint), words(joint)));
+    named.map(capital).collect()
+}
+
+fn capital(line: String) -> String {
+    line[..1].to_uppercase() + &line[1..]
 }
 
 /// The board alone, in grey, with the words of its refusal.
 pub fn svg_refused(board: &Board, refusal: Refusal, title: &str) -> String {
     let head = Head {
         title: title.to_string(),
-        lines: vec![refusal.to_string()],
-        refused: true,
+        about: None,
+        warnings: vec![refusal.to_string()],
     };
-    picture(Scene::of_board(board), &head)
+    picture(Scene::of_board(board), &head, GREY, None)
 }
 
-fn picture(scene: Scene, head: &Head) -> String {
-    let legend = Legend::of(&scene);
+/// `ink` is for what has no colour of its own; `said` stands below the legend.
+fn picture(scene: Scene, head: &Head, ink: &str, said: Option<String>) -> String {
+    let legend = Legend::of(&scene, said);
     let page = Page::of(
         &scene,
         |width| head.height(width),
@@ -84,7 +102,6 @@ fn picture(scene: Scene, head: &Head) -> String {
     let mut scene = scene.moved(|point| page.at(point));
     let busy = scene.lines().len() > MOST_LINES;
     let mut pens = if busy { Pens::thin() } else { Pens::of(&scene) };
-    let ink = if head.refused { GREY } else { BLACK };
     let strokes = strokes(&mut scene, &mut pens, busy);
     let corner = |x: f64, y: f64| Point { x, y };
     let frame = (
@@ -99,15 +116,8 @@ fn picture(scene: Scene, head: &Head) -> String {
     } else {
         labels(&scene, &strokes, &pens, frame)
     };
-    let (width, height) = (mm(page.width), mm(page.height));
     let inner = page.width - 2.0 * MARGIN;
-    let mut svg = format!(
-        "<svg xmlns=\"http://www.w3.org/2000/svg\" width=\"{width}mm\" height=\"{height}mm\" \
-         viewBox=\"0 0 {width} {height}\" font-family=\"Helvetica, Arial, 'Liberation Sans', \
-         'DejaVu Sans', sans-serif\" fill=\"{BLACK}\">\n<title>{}</title>\n\
-         <rect width=\"{width}\" height=\"{height}\" fill=\"white\"/>\n",
-        escaped(&head.title)
-    );
+    let mut svg = opened(&page, &head.title);
     svg.push_str(&head.draw(corner(MARGIN, MARGIN), inner));
     svg.push_str(&nodes(&scene, &pens, ink));
     svg.push_str(&lines(&scene, &strokes, &pens, ink));
@@ -115,9 +125,22 @@ fn picture(scene: Scene, head: &Head) -> String {
     svg.push_str("<g class=\"ids\" text-anchor=\"middle\">\n");
     svg.push_str(&labels.svg);
     svg.push_str("</g>\n");
+    svg.push_str(&marks(&scene, page.width));
     let note = note(&scene, &labels.left_out, &page);
     svg.push_str(&legend.draw(corner(MARGIN, page.bottom), inner, &note));
     svg + "</svg>\n"
+}
+
+/// The start of the file, up to the white of the page.
+fn opened(page: &Page, title: &str) -> String {
+    let (width, height) = (mm(page.width), mm(page.height));
+    format!(
+        "<svg xmlns=\"http://www.w3.org/2000/svg\" width=\"{width}mm\" height=\"{height}mm\" \
+         viewBox=\"0 0 {width} {height}\" font-family=\"Helvetica, Arial, 'Liberation Sans', \
+         'DejaVu Sans', sans-serif\" fill=\"{BLACK}\">\n<title>{}</title>\n\
+         <rect width=\"{width}\" height=\"{height}\" fill=\"white\"/>\n",
+        escaped(title)
+    )
 }
 
 /// The last line of the page.

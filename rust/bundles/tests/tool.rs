@@ -80,6 +80,11 @@ fn from_text_to_picture() {
     assert!(text(titled).contains("<title>Clocks &amp; pulses</title>"));
     let named = text(out(0, &["svg", "-", &answer], &read(&job)));
     assert!(named.contains("<title>sheet</title>"));
+}
+
+#[test]
+fn an_explanation() {
+    let (job, answer) = (example("clock-board.job"), example("clock-board.answer"));
     let table = "\
 a sheet of 1000 by 480: 8 nodes, 20 routes, 6 bundles
 
@@ -92,15 +97,22 @@ bundle  role    place     collector x  y           taps
 6       output  rail      880          415 to 425  2
 
 ";
-    let left = "tap visits: 1999720 left\ngeometry visits: 19998994 left\n";
+    let left = "tap visits: 1999720 left\ngeometry visits: 19998994 left\n\
+                joints: not looked at, as that takes the job\n";
     let paid = "tap visits: 2000000 granted, 280 paid, 1999720 left\n\
-                geometry visits: 20000000 granted, 1006 paid, 19998994 left\n";
+                geometry visits: 20000000 granted, 1006 paid, 19998994 left\n\
+                joints: none is false on the sheet in the answer, looked at in exact numbers\n\
+                last shift: it subtracted nothing\n";
     assert_eq!(
         text(out(0, &["explain", &answer], b"")),
         format!("{table}{left}")
     );
     assert_eq!(
-        text(out(0, &["explain", "-", &job], &read(&answer))),
+        text(out(
+            0,
+            &["explain", "-", &job],
+            &fs::read(&answer).expect("an example")
+        )),
         format!("{table}{paid}")
     );
 }

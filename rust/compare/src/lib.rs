@@ -6,6 +6,7 @@ pub mod boards;
 pub mod check;
 pub mod fuzz;
 pub mod heap;
+pub mod joints;
 #[allow(unsafe_code)]
 pub mod outside;
 pub mod plot;

@@ -7,11 +7,13 @@ use std::process::ExitCode;
 
 use compare::fuzz::{self, Settings};
 use compare::time::Whose;
-use compare::{boards, heap, outside, report, stack, time};
+use compare::{boards, heap, joints, outside, report, stack, time};
 
 const USAGE: &str = "compare fuzz [--seed S] [--from I] [--jobs N] [--seconds T] [--workers W]
                                         same bytes on all families and mutated jobs
 compare heap [SEED [COUNT]]             same bytes, buffers of exact size on the heap; for memcheck
+compare joints [SEED [COUNT]]           false joints before and after the last shift, COUNT jobs of each
+                                        family
 compare stack [SEED [COUNT]]            bytes of stack, COUNT jobs of each family
 compare stack-of PAGES                  largest jobs on a stack of that many pages
 compare time [SEED [ROUNDS]]            microseconds a job, both stages
@@ -41,6 +43,10 @@ fn command(words: &[&str]) -> Result<bool, String> {
         ["heap", ref rest @ ..] => {
             let [seed, count] = numbers(rest, [1, 1_000])?;
             Ok(heap::heap(seed, count))
+        }
+        ["joints", ref rest @ ..] => {
+            let [seed, count] = numbers(rest, [1, 1_000])?;
+            Ok(joints::joints(seed, count))
         }
         ["stack", ref rest @ ..] => {
             let [seed, count] = numbers(rest, [1, 1_000])?;

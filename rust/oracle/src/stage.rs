@@ -37,10 +37,12 @@ pub enum Part {
 /// As `answer_of`; `enter` is called where another part begins, so that a clock can tell them
 /// apart. The first part is `Around`.
 pub fn answer_in_parts(job: &[u8], enter: impl FnMut(Part)) -> Vec<u8> {
-    match sheet(job, enter) {
-        Ok(bytes) => bytes,
-        Err(number) => answer::notice(number),
-    }
+    sheet(job, normalize, enter).unwrap_or_else(answer::notice)
+}
+
+/// As `answer_of`, but with the sheet before its last shift; width and height are 0.
+pub fn answer_before_shift(job: &[u8]) -> Vec<u8> {
+    sheet(job, |_| {}, |_| {}).unwrap_or_else(answer::notice)
 }
 
 /// The number in an answer or a notice.
@@ -54,7 +56,12 @@ pub fn visits_left(answer: &[u8]) -> (u32, u32) {
     (word(6), word(10))
 }
 
-fn sheet(bytes: &[u8], mut enter: impl FnMut(Part)) -> Result<Vec<u8>, u8> {
+/// The bytes of the answer, `last` being done at the end, or the number of the refusal.
+fn sheet(
+    bytes: &[u8],
+    last: impl FnOnce(&mut Layout),
+    mut enter: impl FnMut(Part),
+) -> Result<Vec<u8>, u8> {
     let board = Board::new(&job::read(bytes)?);
     let graph = board.graph();
     enter(Part::Named);
@@ -75,7 +82,7 @@ fn sheet(bytes: &[u8], mut enter: impl FnMut(Part)) -> Result<Vec<u8>, u8> {
         &mut geometry_visits,
     )
     .map_err(|refused| refused.number)?;
-    normalize(&mut layout);
+    last(&mut layout);
     enter(Part::Around);
     Ok(answer::write(
         &layout,

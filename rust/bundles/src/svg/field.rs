@@ -3,7 +3,7 @@
 use bundle_stage::Point;
 
 use super::pens::Pens;
-use super::scene::{Scene, corners};
+use super::scene::{MARK, Scene, corners};
 use super::stroke::Stroke;
 
 #[derive(Clone, Copy)]
@@ -173,7 +173,9 @@ pub fn field(scene: &Scene, strokes: &[Stroke], pens: &Pens, page: (Point, Point
     let dots = taps.map(|tap| Rect::of(tap.at, tap.at, tap.radius + 0.1));
     let ports = scene.ports.iter();
     let ports = ports.map(|port| Rect::of(port.low, port.high, pens.port / 2.0 + 0.1));
-    taken.extend(dots.chain(ports).map(|rect| (rect, None)));
+    let marks = scene.marks.iter();
+    let marks = marks.map(|mark| Rect::of(mark.at, mark.at, MARK));
+    taken.extend(dots.chain(ports).chain(marks).map(|rect| (rect, None)));
     let nodes = scene.nodes.iter().map(corners);
     Field {
         taken,

@@ -3,27 +3,29 @@
 use bundle_stage::{Point, Role};
 
 use super::labels::{pill_at, pill_size};
-use super::palette::{BLACK, colour, mark};
+use super::palette::{BLACK, WARNING, colour, mark};
 use super::paths::marked;
-use super::scene::{Scene, Trunk};
+use super::scene::{Route, Scene, Trunk};
+use super::shapes::ring;
 use super::xml::{mm, wide, wide_bold, words};
 
 const TITLE: f64 = 5.0;
 const TEXT: f64 = 2.6;
 /// For the bundles, where there are many.
 const SMALL: f64 = 2.2;
+/// For what stands below the legend.
+const NOTE: f64 = 0.85 * TEXT;
 const MANY: usize = 12;
 const LINE: f64 = 4.2;
 const SAMPLE: f64 = 10.0;
 const GAP: f64 = 2.0;
 
-/// The title, and lines of words below it.
+/// The title, and words below it. They are broken where they are too long.
 pub struct Head {
     pub title: String,
-    /// Each is broken where it is too long.
-    pub lines: Vec<String>,
-    /// They say why there is no sheet.
-    pub refused: bool,
+    pub about: Option<String>,
+    /// Why there is no sheet, or what is wrong with it.
+    pub warnings: Vec<String>,
 }
 
 impl Head {
@@ -31,10 +33,18 @@ impl Head {
         TITLE + 1.5 + LINE * self.broken(width).len() as f64
     }
 
-    fn broken(&self, width: f64) -> Vec<String> {
-        let wide = if self.refused { wide_bold } else { wide };
-        let lines = self.lines.iter();
-        lines.flat_map(|line| broken(line, width, wide)).collect()
+    /// Each line with how it is drawn.
+    fn broken(&self, width: f64) -> Vec<(String, String)> {
+        let warning = format!("class=\"warning\" font-weight=\"bold\" fill=\"{WARNING}\"");
+        let about = self
+            .about
+            .iter()
+            .flat_map(|line| broken(line, TEXT, width, wide));
+        let about = about.map(|line| (line, "class=\"about\"".to_string()));
+        let warnings = self.warnings.iter();
+        let warnings = warnings.flat_map(|line| broken(line, TEXT, width, wide_bold));
+        let warnings = warnings.map(|line| (line, warning.clone()));
+        about.chain(warnings).collect()
     }
 
     pub fn draw(&self, at: Point, width: f64) -> String {
@@ -42,25 +52,20 @@ impl Head {
         let bold = "class=\"title\" font-weight=\"bold\"";
         let mut svg = words(Point { x: at.x, y }, TITLE, bold, &self.title);
         y += 1.5;
-        let more = if self.refused {
-            "class=\"refusal\" font-weight=\"bold\" fill=\"#b03a00\""
-        } else {
-            "class=\"about\""
-        };
-        for line in self.broken(width) {
+        for (line, more) in self.broken(width) {
             y += LINE;
-            svg.push_str(&words(Point { x: at.x, y }, TEXT, more, &line));
+            svg.push_str(&words(Point { x: at.x, y }, TEXT, &more, &line));
         }
         svg
     }
 }
 
 /// A line as several that are not wider.
-fn broken(line: &str, width: f64, wide: fn(&str, f64) -> f64) -> Vec<String> {
+fn broken(line: &str, size: f64, width: f64, wide: fn(&str, f64) -> f64) -> Vec<String> {
     let mut lines: Vec<String> = Vec::new();
     for word in line.split(' ') {
         match lines.last_mut() {
-            Some(last) if wide(&format!("{last} {word}"), TEXT) < width => {
+            Some(last) if wide(&format!("{last} {word}"), size) < width => {
                 last.push(' ');
                 last.push_str(word);
             }
@@ -81,14 +86,16 @@ struct Sign {
     size: f64,
 }
 
-/// The legend: the signs of this sheet, a line for each bundle, and a line for notes.
+/// The legend: the signs of this sheet, a line for each bundle, what is said of the sheet, and a line
+/// for notes.
 pub struct Legend {
     signs: Vec<Sign>,
     bundles: Vec<Sign>,
+    said: Option<String>,
 }
 
 impl Legend {
-    pub fn of(scene: &Scene) -> Legend {
+    pub fn of(scene: &Scene, said: Option<String>) -> Legend {
         let size = if scene.trunks.len() > MANY {
             SMALL
         } else {
@@ -99,12 +106,19 @@ impl Legend {
         Legend {
             signs: signs(scene),
             bundles: bundles.collect(),
+            said,
         }
     }
 
     pub fn height(&self, width: f64) -> f64 {
         let rows = flow(&self.signs, width).1 + columns(&self.bundles, width).1;
-        LINE * rows as f64 + LINE + 2.0
+        LINE * (rows + self.said(width).len()) as f64 + LINE + 2.0
+    }
+
+    fn said(&self, width: f64) -> Vec<String> {
+        let said = self.said.iter();
+        said.flat_map(|line| broken(line, NOTE, width, wide))
+            .collect()
     }
 
     pub fn draw(&self, at: Point, width: f64, note: &str) -> String {
@@ -118,14 +132,12 @@ impl Legend {
                 svg.push_str(&sign.draw(at.x + x, y));
             }
         }
-        if !note.is_empty() {
-            let y = at.y + LINE * ((rows + more) as f64 + 0.5) + 0.35 * TEXT;
-            svg.push_str(&words(
-                Point { x: at.x, y },
-                0.85 * TEXT,
-                "class=\"note\"",
-                note,
-            ));
+        let mut y = at.y + LINE * ((rows + more) as f64 + 0.5) + 0.35 * TEXT;
+        let said = self.said(width);
+        let said = said.iter().map(|line| ("class=\"joints\"", line.as_str()));
+        for (more, line) in said.chain([("class=\"note\"", note)]) {
+            svg.push_str(&words(Point { x: at.x, y }, NOTE, more, line));
+            y += LINE;
         }
         svg + "</g>\n"
     }
@@ -201,64 +213,63 @@ fn bundle(place: usize, trunk: &Trunk, size: f64) -> Sign {
     }
 }
 
+/// Those that the sheet has.
 fn signs(scene: &Scene) -> Vec<Sign> {
-    let mut signs = Vec::new();
-    let mut sign = |sample: String, text: &str| {
-        signs.push(Sign {
-            sample,
-            start: SAMPLE + GAP,
-            size: TEXT,
-            text: text.to_string(),
-        });
-    };
-    let thin = |d: &str, colour: &str| {
-        format!("<path d=\"{d}\" fill=\"none\" stroke=\"{colour}\" stroke-width=\"0.35\"/>\n")
-    };
-    if !scene.trunks.is_empty() {
-        let first = colour(0);
-        sign(
-            marked("M5 -1.6V1.6", 1.1, first, mark(0))
-                + &thin("M5 0H10", first)
-                + &format!("<circle cx=\"5\" cy=\"0\" r=\"1\" fill=\"{first}\"/>\n"),
-            "joint: a tap on its collector",
-        );
-    }
-    sign(
-        thin("M5 -1.6V-1.2M5 -0.6V1.6", BLACK) + &thin("M0 0H4.1A0.9 0.9 0 0 1 5.9 0H10", BLACK),
-        "crossing: no joint",
-    );
-    if scene
-        .trunks
-        .iter()
-        .any(|trunk| trunk.taps.iter().any(|tap| !tap.held))
-    {
-        sign(
-            "<circle cx=\"5\" cy=\"0\" r=\"0.9\" fill=\"white\" stroke=\"#222222\" \
-             stroke-width=\"0.35\"/>\n"
-                .to_string(),
+    let bundled = !scene.trunks.is_empty();
+    let any = |test: fn(&Route) -> bool| bundled && scene.routes.iter().any(test);
+    let mut taps = scene.trunks.iter().flat_map(|trunk| &trunk.taps);
+    let halves = thin("M0 0H5", colour(0)) + &thin("M5 0H10", colour(1));
+    let all = [
+        (bundled, joint(), "joint: a tap on its collector"),
+        (true, crossing(), "crossing: no joint"),
+        (
+            taps.any(|tap| !tap.held),
+            OPEN_DOT.to_string(),
             "tap off its collector",
-        );
-    }
-    if !scene.trunks.is_empty() {
-        let plain = |route: &super::scene::Route| route.input.is_none() && route.output.is_none();
-        if scene.routes.iter().any(plain) {
-            sign(thin("M0 0H10", BLACK), "route in no bundle");
-        }
-        let both = |route: &super::scene::Route| route.input.is_some() && route.output.is_some();
-        if scene.routes.iter().any(both) {
-            sign(
-                thin("M0 0H5", colour(0)) + &thin("M5 0H10", colour(1)),
-                "route in two bundles",
-            );
-        }
-    }
-    if !scene.ports.is_empty() {
-        sign(
-            "<rect x=\"4.4\" y=\"-0.6\" width=\"1.2\" height=\"1.2\" fill=\"white\" \
-             stroke=\"#222222\" stroke-width=\"0.3\"/>\n"
-                .to_string(),
-            "port",
-        );
-    }
-    signs
+        ),
+        (
+            any(|route| route.input.is_none() && route.output.is_none()),
+            thin("M0 0H10", BLACK),
+            "route in no bundle",
+        ),
+        (
+            any(|route| route.input.is_some() && route.output.is_some()),
+            halves,
+            "route in two bundles",
+        ),
+        (
+            !scene.marks.is_empty(),
+            ring(5.0, 0.0, 1.4),
+            "false joint, or a route in a node",
+        ),
+        (!scene.ports.is_empty(), SQUARE.to_string(), "port"),
+    ];
+    let there = all.into_iter().filter(|(there, ..)| *there);
+    let signs = there.map(|(_, sample, text)| Sign {
+        sample,
+        start: SAMPLE + GAP,
+        size: TEXT,
+        text: text.to_string(),
+    });
+    signs.collect()
+}
+
+const OPEN_DOT: &str = "<circle cx=\"5\" cy=\"0\" r=\"0.9\" fill=\"white\" stroke=\"#222222\" \
+                        stroke-width=\"0.35\"/>\n";
+const SQUARE: &str = "<rect x=\"4.4\" y=\"-0.6\" width=\"1.2\" height=\"1.2\" fill=\"white\" \
+                      stroke=\"#222222\" stroke-width=\"0.3\"/>\n";
+
+fn thin(d: &str, colour: &str) -> String {
+    format!("<path d=\"{d}\" fill=\"none\" stroke=\"{colour}\" stroke-width=\"0.35\"/>\n")
+}
+
+fn joint() -> String {
+    let first = colour(0);
+    marked("M5 -1.6V1.6", 1.1, first, mark(0))
+        + &thin("M5 0H10", first)
+        + &format!("<circle cx=\"5\" cy=\"0\" r=\"1\" fill=\"{first}\"/>\n")
+}
+
+fn crossing() -> String {
+    thin("M5 -1.6V-1.2M5 -0.6V1.6", BLACK) + &thin("M0 0H4.1A0.9 0.9 0 0 1 5.9 0H10", BLACK)
 }

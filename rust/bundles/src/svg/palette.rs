@@ -25,6 +25,7 @@ pub enum Mark {
 
 pub const BLACK: &str = "#222222";
 pub const GREY: &str = "#8a8a8a";
+pub const WARNING: &str = "#b03a00";
 
 pub fn colour(place: usize) -> &'static str {
     COLOURS[place % COLOURS.len()]

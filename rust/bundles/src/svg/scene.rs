@@ -2,13 +2,18 @@
 
 use std::collections::HashMap;
 
-use bundle_stage::{Board, Edge, Endpoint, Id, Node, Point, Role, Segment, Sheet, Side};
+use bundle_stage::{
+    Board, Edge, Endpoint, FalseJoint, Id, Node, Point, Role, Segment, Sheet, Side,
+};
+
+use crate::joints::{name, words};
 
 pub struct Scene {
     pub nodes: Vec<Node>,
     pub ports: Vec<Port>,
     pub routes: Vec<Route>,
     pub trunks: Vec<Trunk>,
+    pub marks: Vec<Mark>,
     /// How many nodes, ports, routes and bundles have a number that no page can show.
     pub left_out: usize,
 }
@@ -55,6 +60,16 @@ pub struct Tap {
     /// The radius of its dot.
     pub radius: f64,
 }
+
+/// A false joint.
+pub struct Mark {
+    pub at: Point,
+    pub name: &'static str,
+    pub words: String,
+}
+
+/// The radius of the ring around it, in millimetres.
+pub const MARK: f64 = 2.4;
 
 impl Route {
     pub fn member_of(&self, place: usize) -> bool {
@@ -151,6 +166,7 @@ impl Scene {
             ports,
             routes: Vec::new(),
             trunks: Vec::new(),
+            marks: Vec::new(),
         }
     }
 
@@ -188,6 +204,20 @@ impl Scene {
         self.trunks.push(trunk);
     }
 
+    /// Marks false joints, in the middle of what is shared.
+    pub fn mark(&mut self, joints: &[FalseJoint]) {
+        let middle = |Segment { start, end }| Point {
+            x: start.x / 2.0 + end.x / 2.0,
+            y: start.y / 2.0 + end.y / 2.0,
+        };
+        let marks = joints.iter().map(|joint| Mark {
+            at: middle(joint.shared),
+            name: name(joint),
+            words: words(joint),
+        });
+        self.marks.extend(marks.filter(|mark| shown(mark.at)));
+    }
+
     /// Every point of it, nodes by two corners.
     pub fn points(&self) -> impl Iterator<Item = Point> {
         let nodes = self.nodes.iter().flat_map(corners);
@@ -217,6 +247,9 @@ impl Scene {
         }
         for point in self.routes.iter_mut().flat_map(|route| &mut route.points) {
             *point = to(*point);
+        }
+        for mark in &mut self.marks {
+            mark.at = to(mark.at);
         }
         for trunk in &mut self.trunks {
             trunk.collector = both(trunk.collector);

@@ -2,12 +2,13 @@
 
 use bundle_stage::{Endpoint, Node};
 
-use super::palette::{colour, mark};
+use super::field::{Rect, moved};
+use super::palette::{WARNING, colour, mark};
 use super::paths::{line, marked, path};
 use super::pens::Pens;
-use super::scene::{Route, Scene, Tap};
+use super::scene::{MARK, Route, Scene, Tap};
 use super::stroke::{Stroke, halves};
-use super::xml::mm;
+use super::xml::{mm, wide_bold, words};
 
 fn name(endpoint: Endpoint) -> String {
     format!("{}:{}", endpoint.node, endpoint.port)
@@ -135,5 +136,47 @@ fn dot(tap: &Tap, pens: &Pens, colour: &str) -> String {
         mm(tap.at.x),
         mm(tap.at.y),
         mm(tap.radius)
+    )
+}
+
+/// A ring around each false joint, over everything else, and words beside it, inside the page. Where
+/// words would lie over others, the ring stands alone.
+pub fn marks(scene: &Scene, width: f64) -> String {
+    let size = 2.6;
+    let mut svg = String::new();
+    let mut taken: Vec<Rect> = Vec::new();
+    for mark in &scene.marks {
+        let long = wide_bold(mark.name, size);
+        let (side, anchor) = if mark.at.x + MARK + long < width {
+            (1.0, "start")
+        } else {
+            (-1.0, "end")
+        };
+        let beside = moved(mark.at, 0.8 * side * MARK, -0.8 * MARK);
+        let more = format!(
+            "text-anchor=\"{anchor}\" font-weight=\"bold\" fill=\"{WARNING}\" stroke=\"white\" \
+             stroke-width=\"0.6\" paint-order=\"stroke\""
+        );
+        let rect = Rect::of(beside, moved(beside, side * long, -size), 0.0);
+        let mut inside = ring(mark.at.x, mark.at.y, MARK);
+        if !taken.iter().any(|other| other.meets(&rect)) {
+            inside.push_str(&words(beside, size, &more, mark.name));
+            taken.push(rect);
+        }
+        let title = &mark.words;
+        svg.push_str(&format!(
+            "<g class=\"false-joint\"><title>{title}</title>\n{inside}</g>\n"
+        ));
+    }
+    svg
+}
+
+pub fn ring(x: f64, y: f64, radius: f64) -> String {
+    format!(
+        "<circle cx=\"{}\" cy=\"{}\" r=\"{}\" fill=\"none\" stroke=\"{WARNING}\" \
+         stroke-width=\"0.5\"/>\n",
+        mm(x),
+        mm(y),
+        mm(radius)
     )
 }
