@@ -15,7 +15,8 @@ use Rattle.board.specs.Board as board
 use Rattle.wire.specs.All.{All}
 use Rattle.job.specs.declared.Job as code
 use Rattle.job.specs.Job.{Job, given-routes}
-use Rattle.job.specs.Sound.{GoodEdge, GoodBundle, starts}
+use Rattle.job.specs.GoodRecords.{GoodEdge, GoodBundle}
+use Rattle.job.specs.GoodTables.{starts}
 use Rattle.job.specs.Sound as sound
 use Rattle.plan.specs.BoardTables.{Sound, given-route}
 use Rattle.plan.specs.BoardTables as tables

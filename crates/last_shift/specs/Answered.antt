@@ -13,7 +13,7 @@ use Rattle.board.specs.declared.Edge.{Edge}
 use Rattle.board.specs.declared.Bundle.{Bundle}
 use Rattle.board.specs.declared.PlacedNode.{PlacedNode}
 use Rattle.board.specs.Board.{no-edge}
-use Rattle.plan.specs.Numbers.{Small}
+use Rattle.plan.specs.SmallNumbers.{Small}
 use Rattle.drawing.specs.Build.{Drawn, route-at, no-drawn}
 use Rattle.drawing.specs.CleanChecks.{every-both}
 use Rattle.drawing.specs.Normal.{sheet-after, moved, page-of}
