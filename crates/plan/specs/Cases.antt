@@ -7,11 +7,11 @@ use Prim.Native.Nat.{ℕ, zero, suc}
 use Rattle.plan.specs.Plan.{push-all, walk}
 
 -- 0 has the neighbours 1 and 2, and 1 has 3
-near : ℕ → List ℕ
+abbrev near : ℕ → List ℕ
 near zero = 1 ∷ 2 ∷ []
 near (suc zero) = 3 ∷ []
 near (suc (suc n)) = []
 
 pub walk-order : walk near 4 (true ∷ false ∷ false ∷ false ∷ []) (0 ∷ []) .order ≡ 0 ∷ 2 ∷ 1 ∷ 3 ∷ []
-unfolding walk push-all near
+unfolding walk push-all
 walk-order = refl
