@@ -1,4 +1,4 @@
--- Demand 3 of the sheet that stands in an answer: its own routes, bundles, taps and ids, in exact fractions. Definitions only.
+-- Document 01's "The words of demand 3", of the sheet in the answer, which "is what normalize_layout makes of it": its own routes, bundles, taps and ids, in exact fractions. Definitions only.
 -- Assumes nothing.
 use mathlib.Core.Path.{_≡_}
 use mathlib.Core.Logic.{_⊎_}

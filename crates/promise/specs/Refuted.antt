@@ -1,19 +1,20 @@
--- Demand 3 has force: for each of its first three sentences a small sheet that breaks it. The first sheet keeps them all; each other one is that sheet with one fault, and keeps the sentences that it does not break. Places.antt's sentence is in RefutedPlaces.
+-- Demand 3 has force: for each of its first three sentences a small sheet that breaks it. The first sheet keeps them all; each other one is that sheet with one fault, and keeps the sentences that it does not break. The last sentence is in RefutedPlaces.antt.
 -- Assumes nothing.
-use mathlib.Core.Path.{_≡_, refl}
-use mathlib.Core.Logic.{inl, inr}
+use mathlib.Core.Path.{_≡_, refl, ap}
+use mathlib.Core.Logic.{_⊎_, inl, inr}
 use mathlib.Core.Bool.{true, false, true≢false}
-use mathlib.Core.List.{List, [], _∷_, List·Memᴰ, List·Memᴰ·head}
-use Prim.Native.Nat.{ℕ, suc, _≤_}
+use mathlib.Core.List.{List, [], _∷_, List·Memᴰ, List·Memᴰ·head, List·Memᴰ·tail, List·Memᴰ·not-nil, List·Memᴰ·cases-cons}
+use Prim.Native.Nat.{ℕ, zero, suc, _≤_, _<_}
 use native.Mathlib.Nat.{zero-lt-suc}
 use native.Mathlib.Omega.{arith}
 use lib.IntN.{pos, negsuc}
 use lib.Dec.{T}
+use lib.ListN.{length}
 use lib.Ieee.{Float, binary64, ofInt, fin, lt, le, eq, add, sub, neg, ofBits, round}
 use lib.Ieee.Scale.{finite}
 use Rattle.binary64.specs.Order.{near, magnitude}
-use Rattle.binary64.specs.Rational.{Fraction, AtMostℚ}
-use Rattle.binary64.specs.Fraction.{cross-plus, cross-less, Sameℚ→eq}
+use Rattle.binary64.specs.Rational.{Fraction, AtMostℚ, value}
+use Rattle.binary64.specs.Fraction.{cross-plus, cross-less, Sameℚ→eq, le→AtMostℚ, AtMostℚ→le, at-most-trans}
 use Rattle.geometry.specs.declared.Point.{Point}
 use Rattle.geometry.specs.declared.Segment.{Segment}
 use Rattle.geometry.specs.declared.Role.the-variants.{Input}
@@ -22,8 +23,8 @@ use Rattle.geometry.specs.Points.{Route, runs}
 use Rattle.geometry.specs.Contact.{meet, contact}
 use Rattle.geometry.specs.Enters.{passes-inside}
 use Rattle.geometry.specs.Spacing.{too-close}
-use Rattle.exact.specs.Exact.{nought, unit, exact, near-exact, HasLength}
-use Rattle.exact.specs.Between.{at-most-refl}
+use Rattle.exact.specs.Exact.{nought, unit, Exact, exact, near-exact, HasLength}
+use Rattle.exact.specs.Between.{at-most-refl, Between, rising, falling, across-between}
 use Rattle.sorting.specs.Lists.{Every}
 use Rattle.board.specs.declared.Bundle.{Bundle}
 use Rattle.board.specs.Board.{Board}
@@ -33,15 +34,17 @@ use Rattle.drawing.specs.Check.{over-routes, among, run-tests, clash, drawn-tes
 use Rattle.drawing.specs.CleanChecks.{Clear}
 use Rattle.drawing.specs.Assembly.{Apart}
 use Rattle.drawing.specs.Promise.{every-mem}
-use Rattle.promise.specs.Demand3.{its-collector, its-spine, OnBoth, AllFinite, WithRoutes, WithBundles, MembersOut, NoFalseJoint}
+use Rattle.promise.specs.Demand3.{SegmentOf, its-collector, its-spine, OnBoth, OnlyAtTap, AllFinite, WithRoutes, WithBundles, MembersOut, NoFalseJoint, crossing-bit, Demand3}
+use Rattle.job.specs.Job.{read-job, lengths-fit}
+use Rattle.answer.specs.Stores.{answer-length}
 use Rattle.promise.specs.Joints.{finite-of, every-point, with-routes, with-bundles, members-out}
 
 -- ---- small numbers, points and lines
 
-abbrev num : ℕ → Float
+abbrev pub num : ℕ → Float
 num n = ofInt binary64 (pos n)
 
-abbrev at : ℕ → ℕ → Point
+abbrev pub at : ℕ → ℕ → Point
 at x y = pt (num x) (num y)
 
 abbrev line : ℕ → ℕ → ℕ → ℕ → Segment
@@ -240,7 +243,6 @@ two-bundles = (
 
 -- ---- the third sentence: member routes and nodes
 
--- a member's run at one point that no other test sees: the first bundle, its first member
 -- A MEMBER ROUTE ENTERS A FOREIGN NODE: node 1 stands in the way of edge 0's route
 pub node-entered : (NoFalseJoint (board 22) routes drawn → ⊥) × WithRoutes routes drawn × WithBundles drawn
 unfolding ofInt runs passes-inside lt le eq add
@@ -254,3 +256,72 @@ node-entered = (broken, keeps-routes, keeps-bundles)
 -- A MEMBER ROUTE IS SLANTED: edge 0's route goes on to (28, 11)
 abbrev slanting : List Route
 slanting = with-first (at 20 10 ∷ at 25 10 ∷ at 28 11 ∷ [])
+
+-- x from a low one on, and up to a high one
+from-x : (c : Fraction) (a p b : Fraction) → AtMostℚ c a → AtMostℚ c b → Between a p b → AtMostℚ c p
+from-x c a p b h k (rising l m) = at-most-trans c a p h l
+from-x c a p b h k (falling l m) = at-most-trans c b p k l
+
+up-to-x : (c : Fraction) (a p b : Fraction) → AtMostℚ a c → AtMostℚ b c → Between a p b → AtMostℚ p c
+up-to-x c a p b h k (rising l m) = at-most-trans p b c m k
+up-to-x c a p b h k (falling l m) = at-most-trans p a c m h
+
+-- a segment whose x are at most 20, or at least 38
+pub record Aside (s : Segment) : Type 0 where
+  pub start : T (finite (s .start .x))
+  pub end : T (finite (s .end .x))
+  pub side : (T (le (s .start .x) (num 20)) × T (le (s .end .x) (num 20))) ⊎ (T (le (num 38) (s .start .x)) × T (le (num 38) (s .end .x)))
+
+-- shares no point with the run from (25, 10) to (28, 11)
+beside : (s : Segment) (p : Exact) → Aside s → OnBoth s (line 25 10 28 11) p → ⊥
+unfolding ofInt le
+beside s p h on = elim (h .side) [
+  | inl k ↦ AtMostℚ→le (num 25) (num 20) tt tt
+      (at-most-trans (value (num 25)) (p .x) (value (num 20)) (from-x (value (num 25)) (value (num 25)) (p .x) (value (num 28)) (at-most-refl (value (num 25))) (le→AtMostℚ (num 25) (num 28) tt tt tt) (across-between (on .on-second)))
+      (up-to-x (value (num 20)) (value (s .start .x)) (p .x) (value (s .end .x)) (le→AtMostℚ (s .start .x) (num 20) (h .start) tt (k .0)) (le→AtMostℚ (s .end .x) (num 20) (h .end) tt (k .1)) (across-between (on .on-first))))
+  | inr k ↦ AtMostℚ→le (num 38) (num 28) tt tt
+      (at-most-trans (value (num 38)) (p .x) (value (num 28)) (from-x (value (num 38)) (value (s .start .x)) (p .x) (value (s .end .x)) (le→AtMostℚ (num 38) (s .start .x) tt (h .start) (k .0)) (le→AtMostℚ (num 38) (s .end .x) tt (h .end) (k .1)) (across-between (on .on-first)))
+      (up-to-x (value (num 28)) (value (num 25)) (p .x) (value (num 28)) (le→AtMostℚ (num 25) (num 28) tt tt tt) (at-most-refl (value (num 28))) (across-between (on .on-second))))
+]
+
+aside : (d : Drawn) → List·Memᴰ d drawn → (s : Segment) → SegmentOf d s → Aside s
+unfolding ofInt le
+aside d m s part = go (every-mem (λ (x : Drawn). Aside (x .collector) × Aside (x .spine)) drawn ((record { start = tt; end = tt; side = inl (tt, tt) }, record { start = tt; end = tt; side = inl (tt, tt) }), ((record { start = tt; end = tt; side = inr (tt, tt) }, record { start = tt; end = tt; side = inr (tt, tt) }), tt)) d m) part
+  where
+    go : Aside (d .collector) × Aside (d .spine) → SegmentOf d s → Aside s
+    go h (its-collector e) = rw e (h .0)
+    go h (its-spine e) = rw e (h .1)
+
+keeps-slanting : WithRoutes slanting drawn
+unfolding runs
+keeps-slanting d m s part zero run n l = elim (List·Memᴰ·cases-cons n) [
+  | inl e ↦ keeps-routes d m s part 0 run (List·Memᴰ·head e) l
+  | inr k ↦ elim (List·Memᴰ·cases-cons k) [ inl e ↦ none e | inr z ↦ absurd (List·Memᴰ·not-nil z) ]
+]
+  where
+    none : run ≡ line 25 10 28 11 → OnlyAtTap d 0 s run
+    none e = rw e (record { at-most-one = λ p q h k. absurd (beside s p (aside d m s part) h); only-there = λ p h. absurd (beside s p (aside d m s part) h) })
+keeps-slanting d m s part (suc i) run n l = keeps-routes d m s part (suc i) run n l
+
+pub slanted-member : (NoFalseJoint (board 60) slanting drawn → ⊥) × WithRoutes slanting drawn × WithBundles drawn
+unfolding ofInt runs eq
+slanted-member = (broken, keeps-slanting, keeps-bundles)
+  where
+    broken : NoFalseJoint (board 60) slanting drawn → ⊥
+    broken h = true≢false (h .members-out _ (List·Memᴰ·head refl) _ (List·Memᴰ·head refl) (line 25 10 28 11) (List·Memᴰ·tail (List·Memᴰ·head refl)) .straight)
+
+-- ---- the statement: bytes that are no answer to the job
+
+-- MORE THAN A NOTICE FOR A JOB THAT IS REFUSED, whatever the bytes: no bytes at all are no job
+pub refused-answered : (answer : List ℕ) → 6 < length answer → Demand3 [] answer → ⊥
+unfolding read-job lengths-fit
+refused-answered answer long h =
+    let e = h long refl .comes .is-read in
+    let z : _≡_ {A = ℕ} 0 1 = cc in
+    omega arith
+
+-- BYTES THAT ARE NO ANSWER, for every job without crossings: the shortest answer has 36
+pub short-answer : (bytes answer : List ℕ) → crossing-bit bytes ≡ 0 → 6 < length answer → length answer < 36 → Demand3 bytes answer → ⊥
+short-answer bytes answer clear long few h =
+    let k = h long clear in
+    omega (arith, ap length (k .is-written), answer-length (k .sheet))
