@@ -8,6 +8,7 @@ use native.Mathlib.Omega.{arith}
 use lib.ListN.{length, take}
 use lib.Seq.{sets}
 use lib.Ieee.{Float}
+use Rattle.limits.specs.Limits.{max-edges, max-members, answer-room, tap-numbers, slot-numbers}
 use Rattle.route.specs.Slots.{routes-of, Held}
 use Rattle.board.specs.declared.DrawnBundles.{DrawnBundles}
 use Rattle.board.specs.declared.DrawnTaps.{DrawnTaps}
@@ -55,13 +56,13 @@ notice-writes before after r n t e b c = record { bytes = rw e b; count = rw e (
 pub writes-as : (before after : List ℕ) (r : ℕ) (s t : Told) → s ≡ t → Writes before after r s → Writes before after r t
 writes-as before after r s t e w = subst (Writes before after r) e w
 
-pub short-stage : (bytes buffer : List ℕ) → length buffer < 65536 → buffer ≡ stage-of bytes buffer
+pub short-stage : (bytes buffer : List ℕ) → length buffer < answer-room → buffer ≡ stage-of bytes buffer
 short-stage bytes buffer h = sym (ap (sets buffer 0) (short bytes (length buffer) h))
 
-pub short-count : (bytes buffer : List ℕ) → length buffer < 65536 → 0 ≡ length (written bytes (length buffer))
+pub short-count : (bytes buffer : List ℕ) → length buffer < answer-room → 0 ≡ length (written bytes (length buffer))
 short-count bytes buffer h = sym (ap length (short bytes (length buffer) h))
 
-module _ (bytes buffer after : List ℕ) (r : ℕ) (h : 65536 ≤ length buffer) (w : Writes buffer after r (told bytes)) where
+module _ (bytes buffer after : List ℕ) (r : ℕ) (h : answer-room ≤ length buffer) (w : Writes buffer after r (told bytes)) where
   pub stage-written : after ≡ stage-of bytes buffer
   stage-written = w .bytes ∙ sym (ap (sets buffer 0) (roomy bytes (length buffer) h))
 
@@ -81,7 +82,7 @@ module _ (r : JobRead) (buffer : List Float) (bytes : List ℕ) (t : JobTold r b
   unfolding after-reading
   told-plan e = ap after-reading (read-accepted r buffer bytes t e)
 
-  pub plan-room : (room : ℕ) → 65536 ≤ room → r .ok ≡ true → length (told-bytes (after-plan (job-in (r .job) buffer) (planned (job-in (r .job) buffer)))) ≤ room
+  pub plan-room : (room : ℕ) → answer-room ≤ room → r .ok ≡ true → length (told-bytes (after-plan (job-in (r .job) buffer) (planned (job-in (r .job) buffer)))) ≤ room
   plan-room room h e = subst (λ (l : List ℕ). length l ≤ room) (roomy bytes room h ∙ ap told-bytes (told-plan e)) (written-size bytes room .1)
 
 -- ---- the plan
@@ -174,7 +175,7 @@ sheet-room t s room e h = rw e at h
 pub told-room : (s t : Told) (room : ℕ) → s ≡ t → length (told-bytes s) ≤ room → length (told-bytes t) ≤ room
 told-room s t room e h = subst (λ (z : Told). length (told-bytes z) ≤ room) e h
 
-pub room-for : (members n : ℕ) (taps points : List Float) (counts : List ℕ) (mask : List Bool) (scratch : List Float) → members ≤ 256 → n ≤ 256 → length taps ≡ 512 → 136 * n ≤ length points → length counts ≡ n → length mask ≡ 256 → length scratch ≡ 136
+pub room-for : (members n : ℕ) (taps points : List Float) (counts : List ℕ) (mask : List Bool) (scratch : List Float) → members ≤ max-members → n ≤ max-edges → length taps ≡ tap-numbers → slot-numbers * n ≤ length points → length counts ≡ n → length mask ≡ max-edges → length scratch ≡ slot-numbers
     → Room members taps points counts mask scratch
 room-for members n taps points counts mask scratch hm hn t p c m s = record { places = omega arith; slots = omega arith; masked = omega arith; spare = omega arith }
 

@@ -4,6 +4,7 @@
 // (Apache-2.0, see NOTICE).
 ghost use Prim.Native.Nat.{_*_, _≤_};
 ghost use lib.ListN.{length};
+ghost use Rattle.limits.specs.Limits.{max-edges, max-members, candidate-room};
 ghost use Rattle.promise.specs.Stage.{planned, after-plan, told-bytes};
 ghost use Rattle.job_tables.specs.Came.{job-in, Came};
 ghost use Rattle.draw_job.specs.JobTables.{Writes, TapsOf, MembersOn, Lent};
@@ -16,18 +17,20 @@ use drawing::GeometryVisits;
 use drawing::Verdict;
 use geometry::Point;
 use job::Job;
+use limits::CANDIDATE_ROOM;
+use limits::MAX_MEMBERS;
 use search::TapVisits;
 
 // ---- the sheet (10, 11, 12, 14) and the answer
 
 // A tap for each member, with the id of its edge.
 pub fn tap_rows(table: Edges, members: Members, taps: &[f64]) -> DrawnTaps
-    requires { ⌜ (members .count ≤ 256) × (table .count ≤ 256) × (2 * members .count ≤ length (now taps)) ⌝ }
+    requires { ⌜ (members .count ≤ max-members) × (table .count ≤ max-edges) × (2 * members .count ≤ length (now taps)) ⌝ }
     requires { ⌜ MembersOn table members ⌝ }
     ensures { λ r. ⌜ TapsOf table members (now (taps .entry)) r ⌝ }
 {
     let p = Point { x: 0.0, y: 0.0 };
-    let mut rows = [DrawnTap { edge: 0, point: p }; 256];
+    let mut rows = [DrawnTap { edge: 0, point: p }; MAX_MEMBERS];
     let n = members.count;
     let mut i: usize = 0;
     while i < n {
@@ -65,7 +68,7 @@ pub fn draw_in(
 ) -> usize
     requires { ⌜ Came j (now given) × (6 ≤ length (now answer)) ⌝ }
     requires { ⌜ length (told-bytes (after-plan (job-in j (now given)) (planned (job-in j (now given))))) ≤ length (now answer) ⌝ }
-    requires { ⌜ (4097 ≤ length (now points)) × (4097 ≤ length (now sorted)) ⌝ }
+    requires { ⌜ (candidate-room ≤ length (now points)) × (candidate-room ≤ length (now sorted)) ⌝ }
     requires { ⌜ Lent j (now edges) (now lanes) (now taps) (now points) (now counts) (now mask) (now scratch) ⌝ }
     ensures { λ r. ⌜ Writes (now (answer .entry)) (now (answer .exit)) r (after-plan (job-in j (now (given .entry))) (planned (job-in j (now (given .entry))))) ⌝ }
 {
@@ -87,7 +90,7 @@ pub fn draw_in(
         given,
         j.flags.separates_collectors,
         TapVisits(j.grants.tap_visits),
-        &mut points[..4097],
+        &mut points[..CANDIDATE_ROOM],
         &mut sorted[..],
     );
     if s.refused {

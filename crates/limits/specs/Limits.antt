@@ -1,5 +1,5 @@
--- The limits of a job, from document 01's section "The job", and the sizes of lists and buffers that follow from them. Each has the name of its const in src.
--- Definitions only. Assumes nothing.
+-- The limits of a job, from document 01's section "The job", and the sizes of lists and buffers that follow from them. Each has the name of its const in src. Definitions only.
+-- Assumes nothing.
 use Prim.Native.Nat.{ℕ, _+_, _*_}
 
 -- ---- "Limits: 128 nodes, 256 ports, 256 edges, 64 points a route, 2,048 points in all, 32 bundles, 64 members each, 256 members in all, lane 255, grants 2,000,000 and 20,000,000."
@@ -100,17 +100,20 @@ bundle-runs = max-bundle-members * max-route-points
 abbrev pub candidate-room : ℕ
 candidate-room = bundle-runs + 1
 
--- the list of a search that is called by itself: no more candidates than points
-abbrev pub search-room : ℕ
-search-room = max-points
+-- the longest list of a search that is called by itself: 2,048 points in routes of at most 64 have at most 2,016 runs, each with one candidate, and there is the desired x
+abbrev pub largest-list : ℕ
+largest-list = 2017
 
--- the lists of both searches of promotion
-abbrev pub promotion-room : ℕ
-promotion-room = 2 * search-room
+-- the scratch of such a search, and of both searches of a promotion
+abbrev pub search-scratch : ℕ
+search-scratch = max-points
 
--- promotion_collector_candidates "keeps at most 32"
-abbrev pub max-promoted : ℕ
-max-promoted = 32
+abbrev pub promotion-scratch : ℕ
+promotion-scratch = 2 * search-scratch
+
+-- promotion_collector_candidates "keeps at most 32": MAX_INTERIOR_PROMOTION_CANDIDATES
+abbrev pub most-kept : ℕ
+most-kept = 32
 
 -- ---- bytes, field by field as sections "The job" and "The answer" list them
 

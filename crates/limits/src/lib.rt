@@ -75,14 +75,16 @@ pub const BUNDLE_RUNS: usize = MAX_BUNDLE_MEMBERS * MAX_ROUTE_POINTS;
 // The plan's list of candidates: one for each run, and the desired x.
 pub const CANDIDATE_ROOM: usize = BUNDLE_RUNS + 1;
 
-// The list of a search that is called by itself: no more candidates than points.
-pub const SEARCH_ROOM: usize = MAX_POINTS;
+// The longest list of a search that is called by itself: a candidate for each run, and the desired x.
+pub const LARGEST_LIST: usize = 2017;
 
-// The lists of both searches of promotion.
-pub const PROMOTION_ROOM: usize = 2 * SEARCH_ROOM;
+// The scratch of such a search, and of both searches of a promotion.
+pub const SEARCH_SCRATCH: usize = MAX_POINTS;
 
-// The candidates that promotion keeps.
-pub const MAX_PROMOTED: usize = 32;
+pub const PROMOTION_SCRATCH: usize = 2 * SEARCH_SCRATCH;
+
+// The candidates that a promotion keeps.
+pub const MOST_KEPT: usize = 32;
 
 // ---- bytes, field by field as document 01 lists them
 

@@ -6,6 +6,7 @@ use Prim.Native.Nat.{ℕ}
 use native.Mathlib.Omega.{arith}
 use lib.ListN.{length, replicate}
 use lib.Ieee.{binary64, ofBits, toBits, lt, le, eq, ne}
+use Rattle.limits.specs.Limits.{answer-room}
 use Rattle.binary64.specs.Accepted.{minus-zero, accepted}
 use Rattle.wire.specs.Bytes.{number-on, bytes}
 use Rattle.wire.specs.Read.{after, field, limited, many}
@@ -24,16 +25,16 @@ abbrev smallest-job : List ℕ
 smallest-job = 0 ∷ 0 ∷ 0 ∷ 58 ∷ 1 ∷ 0 ∷ replicate 56 0
 
 -- gives 00 00 00 20 01 00 and 30 zero bytes
-pub smallest-answer : written smallest-job 65536 ≡ 0 ∷ 0 ∷ 0 ∷ 32 ∷ 1 ∷ 0 ∷ replicate 30 0
+pub smallest-answer : written smallest-job answer-room ≡ 0 ∷ 0 ∷ 0 ∷ 32 ∷ 1 ∷ 0 ∷ replicate 30 0
 unfolding written told-bytes after-reading read-job lengths-fit number-on outcome field version fields after flags-of taken number-of accepted minus-zero ofBits toBits lt le eq ne limited many within-total next-edge next-bundle ended settled some-twice twice or-nine resolved each known-then after-plan first-pass indices-from components offsets-from turns-from after-sheet sheet-of page-told page-of moved min-x min-y least-of greatest-of all-points route-points drawn-points width-of height-of lines-of bundles-told answer-bytes body-bytes head-bytes counts-bytes all-bytes bytes
 smallest-answer = refl
 
-pub smallest-notice : written [] 65536 ≡ 0 ∷ 0 ∷ 0 ∷ 2 ∷ 1 ∷ 1 ∷ []
+pub smallest-notice : written [] answer-room ≡ 0 ∷ 0 ∷ 0 ∷ 2 ∷ 1 ∷ 1 ∷ []
 unfolding written told-bytes after-reading read-job lengths-fit notice-bytes bytes
 smallest-notice = refl
 
-pub no-fixed-sheet : (w : List ℕ) → ((job : List ℕ) → written job 65536 ≡ w) → ⊥
+pub no-fixed-sheet : (w : List ℕ) → ((job : List ℕ) → written job answer-room ≡ w) → ⊥
 no-fixed-sheet w h =
-    let a : length (written smallest-job 65536) ≡ 36 = ap length smallest-answer in
-    let b : length (written [] 65536) ≡ 6 = ap length smallest-notice in
+    let a : length (written smallest-job answer-room) ≡ 36 = ap length smallest-answer in
+    let b : length (written [] answer-room) ≡ 6 = ap length smallest-notice in
     omega (arith, a, b, ap length (h smallest-job), ap length (h []))

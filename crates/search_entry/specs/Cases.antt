@@ -8,6 +8,7 @@ use lib.Dec.{leb}
 use lib.ListN.{replicate, length}
 use lib.Ieee.{Float, binary64, ofInt, toBits, ofBits, isNan, lt, le, eq, ne, neg, add, sub, mul}
 use lib.IntN.{pos}
+use Rattle.limits.specs.Limits.{max-bundle-members, max-points, max-tap-visits}
 use Rattle.binary64.specs.Accepted.{is-option}
 use Rattle.binary64.specs.Order.{keyOf, totalKey}
 use Rattle.geometry.specs.declared.Point.{Point}
@@ -18,7 +19,7 @@ use Rattle.search.specs.declared.Bounds.{Bounds}
 use Rattle.search.specs.declared.CollectorBounds.the-variants.{Between}
 use Rattle.search.specs.Stretches.{stretches, members, routes, all-runs}
 use Rattle.search.specs.Search.{gathered-onto, tried-on, tried-on-all, tried}
-use Rattle.search_entry.specs.Entry.{max-members, max-points, max-tap-visits, places-fit, counts-fit, routes-fit, bounds-fit, search-room, search-number, Said, promoted}
+use Rattle.search_entry.specs.Entry.{places-fit, counts-fit, routes-fit, bounds-fit, search-room, search-number, Said, promoted}
 
 -- ---- points are counted, not runs
 -- 63 members of 33 points have 2,079 points, and 2,016 runs
@@ -34,14 +35,14 @@ just-enough = refl
 module _ (xs candidates scratch points : List Float) (starts : List ℕ) (role : ℕ) (pitch : Float) (b : Bounds) (granted : ℕ) (roomy : search-room xs candidates scratch ≡ true) where
   -- they are refused with 5 whatever else the call has
   pub points-refused : places-fit points starts (replicate 63 33) ≡ true → search-number xs candidates scratch points starts (replicate 63 33) role pitch b granted ≡ 5
-  points-refused placed = rw (roomy, placed, too-many) (go (leb (length starts) max-members))
+  points-refused placed = rw (roomy, placed, too-many) (go (leb (length starts) max-bundle-members))
     where
       go : (t : Bool) → _≡_ {A = ℕ} (cond (not (t && false && leb granted max-tap-visits)) 5 (cond (not (leb role 1)) 6 (cond (not (routes-fit (routes points starts (replicate 63 33)) && is-option pitch && bounds-fit b)) 7 0))) 5
       go true = refl
       go false = refl
 
   -- they are not refused where nothing else is
-  pub points-accepted : places-fit points starts (replicate 32 64) ≡ true → leb (length starts) max-members ≡ true → leb granted max-tap-visits ≡ true → leb role 1 ≡ true
+  pub points-accepted : places-fit points starts (replicate 32 64) ≡ true → leb (length starts) max-bundle-members ≡ true → leb granted max-tap-visits ≡ true → leb role 1 ≡ true
       → (routes-fit (routes points starts (replicate 32 64)) && is-option pitch && bounds-fit b) ≡ true
       → search-number xs candidates scratch points starts (replicate 32 64) role pitch b granted ≡ 0
   points-accepted placed few paid side fit = rw (roomy, placed, just-enough, few, paid, side, fit)

@@ -9,6 +9,7 @@ use lib.Dec.{leb}
 use lib.ListN.{length, replicate, length-append}
 use lib.Ieee.{Float}
 use borrow.Author.Tests.{leb-true}
+use Rattle.limits.specs.Limits.{max-route-points, max-points, largest-list}
 use Rattle.geometry.specs.declared.Point.{Point}
 use Rattle.geometry.specs.declared.Role.{Role}
 use Rattle.geometry.specs.declared.Segment.{Segment}
@@ -19,7 +20,7 @@ use Rattle.search.specs.Stretches.{stretches, members, routes, all-runs, runs-i
 use Rattle.search.specs.Search.{listing, common-xs}
 use Rattle.search.specs.Freely.{candidates}
 use Rattle.search.specs.Cost.{candidates-few, listed-few}
-use Rattle.search_entry.specs.Entry.{max-route-points, max-points, counts-fit, largest-list}
+use Rattle.search_entry.specs.Entry.{counts-fit}
 
 pub both-true : (a b : Bool) → (a && b) ≡ true → (a ≡ true) × (b ≡ true)
 both-true true b e = (refl, e)

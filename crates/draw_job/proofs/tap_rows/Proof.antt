@@ -4,6 +4,7 @@ use Prim.Native.Nat.{ℕ, _+_, _-_, _*_, _≤_, _<_}
 use native.Mathlib.Omega.{arith}
 use lib.ListN.{length, getD, set, length-set}
 use lib.Ieee.{Float}
+use Rattle.limits.specs.Limits.{max-members}
 use Rattle.geometry.specs.declared.Point.{Point}
 use Rattle.geometry.specs.Points.{point-at}
 use Rattle.board.specs.declared.DrawnTap.{DrawnTap}
@@ -15,7 +16,7 @@ use Rattle.draw_job.proofs.tap_rows.Tie as tie
 
 abbrev Inv-loop : tie.InvT-loop
 Inv-loop taps table members rows₀ n i₀ rows i =
-    (i ≤ n) × (length rows ≡ 256) × ((k : ℕ) → k < i → (d : DrawnTap) → getD rows k d ≡ record { edge = edge-row table members k .id; point = point-at taps k })
+    (i ≤ n) × (length rows ≡ max-members) × ((k : ℕ) → k < i → (d : DrawnTap) → getD rows k d ≡ record { edge = edge-row table members k .id; point = point-at taps k })
 
 abbrev μ-loop : tie.MeasureT-loop
 μ-loop taps table members rows₀ n i₀ rows i = n - i
