@@ -4,12 +4,19 @@
 ghost use mathlib.Core.Path.{_≡_};
 ghost use Prim.Native.Nat.{ℕ, _+_, _≤_, _<_};
 ghost use lib.ListN.{length, getD};
+ghost use Rattle.limits.specs.Limits.{max-edges, max-bundles, max-members, point-numbers, bundle-runs};
 ghost use Rattle.plan.specs.BoardTables.{Sound, RoutesIn, no-member};
 ghost use Rattle.plan.specs.Prepared.{Inside, Searchable, AllAmong, Listing};
 use board::Bundle;
 use board::Members;
 use geometry::Role;
 use job::Job;
+use limits::CANDIDATE_ROOM;
+use limits::JOB_ROOM;
+use limits::MAX_BUNDLES;
+use limits::MAX_EDGES;
+use limits::MAX_MEMBERS;
+use limits::POINT_NUMBERS;
 use plan::Bound;
 use plan::Planned;
 use plan::Planning;
@@ -95,15 +102,15 @@ fn put_corridor(out: &mut [u8], at: usize, x: Bound) -> usize {
 fn put_members(
     u: Bundle,
     members: Members,
-    in_marks: &[bool; 256],
-    in_xs: &[f64; 256],
-    out_marks: &[bool; 256],
-    out_xs: &[f64; 256],
+    in_marks: &[bool; MAX_EDGES],
+    in_xs: &[f64; MAX_EDGES],
+    out_marks: &[bool; MAX_EDGES],
+    out_xs: &[f64; MAX_EDGES],
     out: &mut [u8],
     from: usize,
 ) -> usize
-    requires { ⌜ (members .count ≤ 256) × (u .first + u .count ≤ members .count) ⌝ }
-    requires { ⌜ ((i : ℕ) → i < members .count → getD (members .rows) i no-member .edge < 256) ⌝ }
+    requires { ⌜ (members .count ≤ max-members) × (u .first + u .count ≤ members .count) ⌝ }
+    requires { ⌜ ((i : ℕ) → i < members .count → getD (members .rows) i no-member .edge < max-edges) ⌝ }
 {
     let role = u.role;
     let first = u.first;
@@ -122,10 +129,10 @@ fn put_members(
 // The corridors of all bundles, from those of both roles.
 fn put_bundles(
     j: Job,
-    in_marks: &[bool; 256],
-    in_xs: &[f64; 256],
-    out_marks: &[bool; 256],
-    out_xs: &[f64; 256],
+    in_marks: &[bool; MAX_EDGES],
+    in_xs: &[f64; MAX_EDGES],
+    out_marks: &[bool; MAX_EDGES],
+    out_xs: &[f64; MAX_EDGES],
     out: &mut [u8],
     from: usize,
 ) -> usize
@@ -154,13 +161,13 @@ fn put_bundles(
 }
 
 fn put_corridors(j: Job, out: &mut [u8], at: usize) -> usize
-    requires { ⌜ Sound (j .nodes) (j .ports) (j .bundles) (j .members) × (j .edges .count ≤ 256) ⌝ }
+    requires { ⌜ Sound (j .nodes) (j .ports) (j .bundles) (j .members) × (j .edges .count ≤ max-edges) ⌝ }
     requires { ⌜ ((i : ℕ) → i < j .members .count → getD (j .members .rows) i no-member .edge < j .edges .count) ⌝ }
 {
-    let mut starts = [0; 256];
-    let mut counts = [0; 256];
-    let mut edges = [0; 256];
-    let mut lanes = [0; 256];
+    let mut starts = [0; MAX_MEMBERS];
+    let mut counts = [0; MAX_MEMBERS];
+    let mut edges = [0; MAX_MEMBERS];
+    let mut lanes = [0; MAX_MEMBERS];
     planner::member_rows(
         j.edges,
         j.members,
@@ -177,8 +184,8 @@ fn put_corridors(j: Job, out: &mut [u8], at: usize) -> usize
         j.members,
     );
     let ends = planner::bundle_ends(j.nodes, j.ports, j.bundles);
-    let mut in_marks = [false; 256];
-    let mut in_xs = [0.0; 256];
+    let mut in_marks = [false; MAX_EDGES];
+    let mut in_xs = [0.0; MAX_EDGES];
     plan_corridors::fallback_corridors_by_edge(
         Role::Input,
         j.options,
@@ -190,8 +197,8 @@ fn put_corridors(j: Job, out: &mut [u8], at: usize) -> usize
         &mut in_marks[..],
         &mut in_xs[..],
     );
-    let mut out_marks = [false; 256];
-    let mut out_xs = [0.0; 256];
+    let mut out_marks = [false; MAX_EDGES];
+    let mut out_xs = [0.0; MAX_EDGES];
     plan_corridors::fallback_corridors_by_edge(
         Role::Output,
         j.options,
@@ -217,7 +224,7 @@ fn put_all_bounds(
     out: &mut [u8],
     from: usize,
 ) -> usize
-    requires { ⌜ t .count ≤ 32 ⌝ }
+    requires { ⌜ t .count ≤ max-bundles ⌝ }
 {
     let n = t.count;
     let mut at = put_count(&mut out[..], from, n);
@@ -291,7 +298,7 @@ fn put_searches(
 // ---- 35: the plan
 
 fn put_planned(p: Planning, n: usize, out: &mut [u8], from: usize) -> usize
-    requires { ⌜ n ≤ 32 ⌝ }
+    requires { ⌜ n ≤ max-bundles ⌝ }
 {
     let mut at = put_count(&mut out[..], from, n);
     let mut i: usize = 0;
@@ -313,7 +320,7 @@ fn put_plan(
     at: usize,
 ) -> usize
     requires { ⌜ Sound (j .nodes) (j .ports) (j .bundles) (j .members) × RoutesIn (now points) (j .edges) (j .members) ⌝ }
-    requires { ⌜ (4096 < length (now xs)) × (length (now xs) ≤ length (now scratch)) ⌝ }
+    requires { ⌜ (bundle-runs < length (now xs)) × (length (now xs) ≤ length (now scratch)) ⌝ }
 {
     let bundles = j.bundles;
     let flags = j.flags;
@@ -356,10 +363,10 @@ fn bound_at(record: &[u8], at: usize) -> Bound {
 }
 
 fn plan_at(record: &[u8], from: usize) -> Planning {
-    let mut rows = [Planned { x: Bound::None }; 32];
+    let mut rows = [Planned { x: Bound::None }; MAX_BUNDLES];
     let mut at = from;
     let mut i: usize = 0;
-    while i < 32 {
+    while i < MAX_BUNDLES {
         let x = bound_at(record, at);
         rows[i] = Planned { x: x };
         at = records::plus(at, 9);
@@ -428,16 +435,16 @@ fn put_divergences(
 
 // The places of the inputs, in job order.
 struct Inputs {
-    rows: [usize; 32],
+    rows: [usize; MAX_BUNDLES],
     count: usize,
 }
 
 fn inputs_of(t: Reaches) -> Inputs
-    requires { ⌜ t .count ≤ 32 ⌝ }
+    requires { ⌜ t .count ≤ max-bundles ⌝ }
     ensures { λ r. ⌜ Listing (r .rows) (r .count) (t .count) ⌝ }
 {
     let n = t.count;
-    let mut rows = [0; 32];
+    let mut rows = [0; MAX_BUNDLES];
     let mut count: usize = 0;
     let mut i: usize = 0;
     while i < n {
@@ -566,12 +573,12 @@ fn put_routed(
     at: usize,
 ) -> usize
     requires { ⌜ Sound (j .nodes) (j .ports) (j .bundles) (j .members) × RoutesIn (now points) (j .edges) (j .members) ⌝ }
-    requires { ⌜ (4096 < length (now xs)) × (length (now xs) ≤ length (now scratch)) ⌝ }
+    requires { ⌜ (bundle-runs < length (now xs)) × (length (now xs) ≤ length (now scratch)) ⌝ }
 {
-    let mut starts = [0; 256];
-    let mut counts = [0; 256];
-    let mut edges = [0; 256];
-    let mut lanes = [0; 256];
+    let mut starts = [0; MAX_MEMBERS];
+    let mut counts = [0; MAX_MEMBERS];
+    let mut edges = [0; MAX_MEMBERS];
+    let mut lanes = [0; MAX_MEMBERS];
     planner::member_rows(
         j.edges,
         j.members,
@@ -634,7 +641,7 @@ fn put_all(
     at: usize,
 ) -> usize
     requires { ⌜ Sound (j .nodes) (j .ports) (j .bundles) (j .members) × RoutesIn (now points) (j .edges) (j .members) ⌝ }
-    requires { ⌜ (4096 < length (now xs)) × (length (now xs) ≤ length (now scratch)) ⌝ }
+    requires { ⌜ (bundle-runs < length (now xs)) × (length (now xs) ≤ length (now scratch)) ⌝ }
 {
     let a = put_offsets(j, &mut out[..], at);
     let b = put_corridors(j, &mut out[..], a);
@@ -663,7 +670,7 @@ fn call(
     out: &mut [u8],
 ) -> usize
     requires { ⌜ Sound (j .nodes) (j .ports) (j .bundles) (j .members) × RoutesIn (now points) (j .edges) (j .members) ⌝ }
-    requires { ⌜ (4096 < length (now xs)) × (length (now xs) ≤ length (now scratch)) ⌝ }
+    requires { ⌜ (bundle-runs < length (now xs)) × (length (now xs) ≤ length (now scratch)) ⌝ }
 {
     if op == 0x35 {
         return put_plan(j, points, &mut xs[..], &mut scratch[..], &mut out[..], 0);
@@ -723,7 +730,7 @@ fn answer(
     scratch: &mut [f64],
     out: &mut [u8],
 ) -> usize
-    requires { ⌜ (length (now points) ≡ 4096) × (4096 < length (now xs)) × (length (now xs) ≤ length (now scratch)) ⌝ }
+    requires { ⌜ (length (now points) ≡ point-numbers) × (bundle-runs < length (now xs)) × (length (now xs) ≤ length (now scratch)) ⌝ }
 {
     let op = records::u8_at(record, 0);
     let from = start_of(op);
@@ -756,7 +763,7 @@ fn replay_one(
     scratch: &mut [f64],
     out: &mut [u8],
 ) -> bool
-    requires { ⌜ (length (now points) ≡ 4096) × (4096 < length (now xs)) × (length (now xs) ≤ length (now scratch)) ⌝ }
+    requires { ⌜ (length (now points) ≡ point-numbers) × (bundle-runs < length (now xs)) × (length (now xs) ≤ length (now scratch)) ⌝ }
 {
     let r = records::next(&mut space[..]);
     match r {
@@ -778,10 +785,10 @@ fn replay_one(
 }
 
 fn main() {
-    let mut space = [0u8; 65536];
-    let mut points = [0.0; 4096];
-    let mut xs = [0.0; 4097];
-    let mut scratch = [0.0; 4097];
+    let mut space = [0u8; JOB_ROOM];
+    let mut points = [0.0; POINT_NUMBERS];
+    let mut xs = [0.0; CANDIDATE_ROOM];
+    let mut scratch = [0.0; CANDIDATE_ROOM];
     let mut out = [0u8; 65536];
     let mut turn: u32 = 0;
     while turn < 4000000000 {

@@ -4,6 +4,7 @@
 ghost use mathlib.Core.Path.{_≡_};
 ghost use Prim.Native.Nat.{_*_, _≤_};
 ghost use lib.ListN.{length};
+ghost use Rattle.limits.specs.Limits.{max-nodes, max-edges, max-bundles, max-members, point-numbers, slot-numbers, page-room};
 ghost use Rattle.route.specs.Slots.{Held};
 ghost use Rattle.answer.specs.SheetTables.{Windows};
 ghost use Rattle.job_tables.specs.Came.{Came};
@@ -16,6 +17,15 @@ use board::Nodes;
 use drawing::GeometryVisits;
 use drawing::Verdict;
 use job::Job;
+use limits::ALL_SLOT_NUMBERS;
+use limits::JOB_ROOM;
+use limits::MAX_BUNDLES;
+use limits::MAX_EDGES;
+use limits::MAX_MEMBERS;
+use limits::PAGE_ROOM;
+use limits::POINT_NUMBERS;
+use limits::SLOT_NUMBERS;
+use limits::TAP_NUMBERS;
 use plan::Bound;
 use plan::Planned;
 use plan::Planning;
@@ -32,10 +42,10 @@ fn bound_at(record: &[u8], at: usize) -> Bound {
 }
 
 fn plan_at(record: &[u8], from: usize, left: TapVisits) -> Planning {
-    let mut rows = [Planned { x: Bound::None }; 32];
+    let mut rows = [Planned { x: Bound::None }; MAX_BUNDLES];
     let mut at = from;
     let mut i: usize = 0;
-    while i < 32 {
+    while i < MAX_BUNDLES {
         let x = bound_at(record, at);
         rows[i] = Planned { x: x };
         at = records::plus(at, 9);
@@ -85,10 +95,10 @@ fn put_page(
     out: &mut [u8],
     at: usize,
 ) -> usize
-    requires { ⌜ (nodes .count ≤ 128) × (table .count ≤ 256) × (drawn .count ≤ 32) × (members .count ≤ 256) ⌝ }
-    requires { ⌜ (table .count ≤ length (now counts)) × (136 * table .count ≤ length (now points)) × Held (now counts) ⌝ }
+    requires { ⌜ (nodes .count ≤ max-nodes) × (table .count ≤ max-edges) × (drawn .count ≤ max-bundles) × (members .count ≤ max-members) ⌝ }
+    requires { ⌜ (table .count ≤ length (now counts)) × (slot-numbers * table .count ≤ length (now points)) × Held (now counts) ⌝ }
     requires { ⌜ Windows (drawn .count) (drawn .rows) (members .count) × (2 * members .count ≤ length (now taps)) ⌝ }
-    requires { ⌜ MembersOn table members × (448772 ≤ length (now page)) ⌝ }
+    requires { ⌜ MembersOn table members × (page-room ≤ length (now page)) ⌝ }
 {
     let t = draw_job::tap_rows(table, members, taps);
     let n = answer::write_answer(&mut page[..], f, nodes, table, points, counts, drawn, t);
@@ -109,7 +119,7 @@ fn put_pages(
     out: &mut [u8],
 ) -> usize
     requires { ⌜ OnSheet j (now edges) drawn (now points) (now counts) (now taps) ⌝ }
-    requires { ⌜ 448772 ≤ length (now page) ⌝ }
+    requires { ⌜ page-room ≤ length (now page) ⌝ }
 {
     let members = j.members;
     let n = members.count;
@@ -168,7 +178,7 @@ fn draw_in(
     page: &mut [u8],
     out: &mut [u8],
 ) -> usize
-    requires { ⌜ Came j (now given) × (448772 ≤ length (now page)) ⌝ }
+    requires { ⌜ Came j (now given) × (page-room ≤ length (now page)) ⌝ }
     requires { ⌜ Lent j (now edges) (now lanes) (now taps) (now points) (now counts) (now mask) (now scratch) ⌝ }
 {
     let flags = j.flags;
@@ -222,15 +232,15 @@ fn draw_in(
 
 // The same, in slices of its own.
 fn draw(j: Job, given: &[f64], p: Planning, page: &mut [u8], out: &mut [u8]) -> usize
-    requires { ⌜ Came j (now given) × (448772 ≤ length (now page)) ⌝ }
+    requires { ⌜ Came j (now given) × (page-room ≤ length (now page)) ⌝ }
 {
-    let mut edges = [0; 256];
-    let mut lanes = [0; 256];
-    let mut taps = [0.0; 512];
-    let mut points = [0.0; 34816];
-    let mut counts = [0; 256];
-    let mut mask = [false; 256];
-    let mut scratch = [0.0; 136];
+    let mut edges = [0; MAX_MEMBERS];
+    let mut lanes = [0; MAX_MEMBERS];
+    let mut taps = [0.0; TAP_NUMBERS];
+    let mut points = [0.0; ALL_SLOT_NUMBERS];
+    let mut counts = [0; MAX_EDGES];
+    let mut mask = [false; MAX_EDGES];
+    let mut scratch = [0.0; SLOT_NUMBERS];
     let members = j.members;
     let table = j.edges;
     let m = members.count;
@@ -266,7 +276,7 @@ fn size_of(record: &[u8], rest: usize) -> usize
 
 // The result of one record; answers its length. A record of another operation has an empty one.
 fn answer(record: &[u8], given: &mut [f64], page: &mut [u8], out: &mut [u8]) -> usize
-    requires { ⌜ (length (now given) ≡ 4096) × (448772 ≤ length (now page)) ⌝ }
+    requires { ⌜ (length (now given) ≡ point-numbers) × (page-room ≤ length (now page)) ⌝ }
 {
     if record.len() < 1 {
         return 0;
@@ -289,7 +299,7 @@ fn answer(record: &[u8], given: &mut [f64], page: &mut [u8], out: &mut [u8]) -> 
 
 // One record; answers whether there was one.
 fn replay_one(space: &mut [u8], given: &mut [f64], page: &mut [u8], out: &mut [u8]) -> bool
-    requires { ⌜ (length (now given) ≡ 4096) × (448772 ≤ length (now page)) ⌝ }
+    requires { ⌜ (length (now given) ≡ point-numbers) × (page-room ≤ length (now page)) ⌝ }
 {
     let r = records::next(&mut space[..]);
     match r {
@@ -305,9 +315,9 @@ fn replay_one(space: &mut [u8], given: &mut [f64], page: &mut [u8], out: &mut [u
 }
 
 fn main() {
-    let mut space = [0u8; 65536];
-    let mut given = [0.0; 4096];
-    let mut page = [0u8; 448772];
+    let mut space = [0u8; JOB_ROOM];
+    let mut given = [0.0; POINT_NUMBERS];
+    let mut page = [0u8; PAGE_ROOM];
     let mut out = [0u8; 131072];
     let mut turn: u32 = 0;
     while turn < 4000000000 {
