@@ -1,4 +1,4 @@
--- Where the clamp of the input split would have its low end above its high end: document 01's number 13, where the Rust panics. Three rounded tests of a component, on what the first searches found and on nothing that comes later. Definitions only.
+-- Where the clamp of the input split would have its low end above its high end: document 01's number 13, where the Rust panics. Three rounded tests of a component, on what the first searches found and on nothing that comes later. Definitions of theorems.
 -- Assumes nothing.
 use mathlib.Core.Bool.{Bool, true, false, not, cond, _&&_, _||_}
 use mathlib.Core.List.{List, [], _∷_}

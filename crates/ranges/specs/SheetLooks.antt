@@ -1,4 +1,4 @@
--- The looks of a sheet as one list, in the order in which the bundles' checks make them, and the visits that they count. Definitions only.
+-- The looks of a sheet as one list, in the order in which the bundles' checks make them, and the visits that they count. Definitions of theorems.
 -- Assumes nothing.
 use Prim.Native.Nat.{ℕ, suc, min}
 use mathlib.Core.List.{List, [], _∷_, _++_}
