@@ -23,12 +23,12 @@ use Rattle.search_entry.specs.Entry.{places-fit, counts-fit, routes-fit,
 
 -- ---- points are counted, not runs
 -- 63 members of 33 points have 2,079 points, and 2,016 runs
-too-many : counts-fit max-points (replicate 63 33) ≡ false
+pub too-many : counts-fit max-points (replicate 63 33) ≡ false
 unfolding counts-fit
 too-many = refl
 
 -- 32 members of 64 points have 2,048
-just-enough : counts-fit max-points (replicate 32 64) ≡ true
+pub just-enough : counts-fit max-points (replicate 32 64) ≡ true
 unfolding counts-fit
 just-enough = refl
 

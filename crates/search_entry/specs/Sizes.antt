@@ -21,6 +21,7 @@ use Rattle.search.specs.Search.{listing, common-xs}
 use Rattle.search.specs.Freely.{candidates}
 use Rattle.search.specs.Cost.{candidates-few, listed-few}
 use Rattle.search_entry.specs.Entry.{counts-fit}
+use Rattle.search_entry.specs.Cases.{just-enough}
 
 pub both-true : (a b : Bool) → (a && b) ≡ true → (a ≡ true) × (b ≡ true)
 both-true true b e = (refl, e)
@@ -78,5 +79,5 @@ module _ (points : List Float) (role : Role) (pitch : Float) (starts counts : Li
 
 -- so many runs there can be
 pub most-runs : (counts-fit max-points (replicate 32 64) ≡ true) × (runs-of (replicate 32 64) ≡ 2016)
-unfolding counts-fit runs-of
-most-runs = (refl, refl)
+unfolding runs-of
+most-runs = (just-enough, refl)

@@ -61,7 +61,8 @@ pub fn gather(
 }
 
 // The second pass: each candidate is tried on the members in order, one visit paid before each run
-// looked at. Those that are common are kept, at the front of xs.
+// looked at. Those that are common are kept, at the front of xs. The outermost loop is left where a
+// visit is due and 0 are left.
 pub fn try_candidates(
     points: &[f64],
     starts: &[usize],

@@ -145,6 +145,39 @@ fn desired_is_tried_whatever_the_bounds_say() {
     assert_eq!(search(INPUT, [1.0, 3.0, 4.0], 0, &[]), (Found::At(3.0), 0));
 }
 
+/// The tag, the visits left and the numbers of promotion_collector_candidates, Input at pitch 4.
+fn promotion(bounds: [f64; 3], grant: u32, routes: &[&[At]]) -> (u8, u32, Vec<f64>) {
+    let result = made(op::PROMOTION, |out| {
+        out.u8(INPUT);
+        out.f64(4.0);
+        out.u8(1);
+        put(out, &bounds);
+        out.u32(grant);
+        out.count(routes.len());
+        for route in routes {
+            put_points(out, route);
+        }
+    });
+    let left = u32::from_be_bytes(result[1..5].try_into().expect("visits left"));
+    (
+        result[0],
+        left,
+        result.get(7..).map(f64s).unwrap_or_default(),
+    )
+}
+
+#[test]
+fn a_second_search_that_is_spent_leaves_the_first_list() {
+    let routes: [&[At]; 2] = [&[(0.0, 0.0), (30.0, 0.0)], &[(0.0, 8.0), (30.0, 8.0)]];
+    let bounds = [2.0, 18.0, 18.0];
+    assert_eq!(promotion(bounds, 3, &routes), (2, 0, vec![]));
+    for grant in 4..8 {
+        assert_eq!(promotion(bounds, grant, &routes), (4, 0, vec![18.0]));
+    }
+    assert_eq!(promotion(bounds, 8, &routes), (1, 0, vec![18.0, 14.0]));
+    assert_eq!(promotion(bounds, 100, &routes), (1, 92, vec![18.0, 14.0]));
+}
+
 fn contact(run: (At, At), tap: Option<At>, crossings: bool) -> bool {
     let result = made(op::CONTACT, |out| {
         put_run(out, BUS);
