@@ -1,5 +1,4 @@
 // The bundles of a role in a component, how far their bounds reach, and what they are planned at first.
-// outputs.
 //
 // Ported from cachanova/schemweave, commit c4a1a2c60a, crates/schemweave/src/boundary_bundles.rs
 // (Apache-2.0, see NOTICE): plan_interior_collectors, without its separation.

@@ -1,5 +1,4 @@
 // One component: given up, split with its clamp (13), limited, its outputs last.
-// outputs.
 //
 // Ported from cachanova/schemweave, commit c4a1a2c60a, crates/schemweave/src/boundary_bundles.rs
 // (Apache-2.0, see NOTICE): plan_interior_collectors, without its separation.

@@ -120,6 +120,15 @@ told-joints bytes a c h =
     let m = moved (sheet-after b (c .sheet-made)) in
     subst NoFalseJointIn (sym (c .is-answer)) (record { with-routes = routes-told (b .edges) (b .bundles) (m .routes) (m .drawn) h; with-bundles = together-told (b .edges) (b .bundles) (m .routes) (m .drawn) h })
 
+-- the two cases of `moved`
+shifted-by : (s : drawing.Sheet) → moves s ≡ true → moved s ≡ shifted-sheet (corner-of s) s
+unfolding moved
+shifted-by s e = rw e
+
+still-as : (s : drawing.Sheet) → moves s ≡ false → moved s ≡ s
+unfolding moved
+still-as s e = rw e
+
 -- how large the answer's numbers are
 placed-in : (bytes : List ℕ) (a : Sheet) (c : Comes bytes a) → OfPlaced (Below 33) (Below 33) (moved (sheet-after (c .said .board) (c .sheet-made)))
 unfolding page-of
@@ -139,6 +148,8 @@ of-kept bytes answer k =
       kept = k;
       carried = record {
         all-finite = finite-of (Below 33) (Below 33) (λ x k. k .is-finite) (λ y k. k .is-finite) (moved s .routes) (moved s .drawn) (every-point (OfPoint (Below 33) (Below 33)) (moved s .routes) (new .routes)) (new .drawn);
+        is-shifted = λ z. shifted-by s z;
+        is-still = λ z. still-as s z;
         close = λ z. sheet-close s old;
         axes = λ x y. by-axes s old (before-in bytes (k .sheet) c .1) x y;
         joints = λ e. told-joints bytes (k .sheet) c (joints-carry s e (record { with-routes = k .joints .with-routes; with-bundles = k .joints .with-bundles }));

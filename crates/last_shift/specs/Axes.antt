@@ -18,7 +18,7 @@ use Rattle.ranges.specs.Extent.{InX, InY}
 use Rattle.ranges.specs.Page.{corner-fine, placed-weaker}
 use Rattle.ranges.specs.Plain.{Plain}
 use Rattle.last_shift.specs.Still.{zero-less}
-use Rattle.last_shift.specs.Shift.{ExactLess, ShiftExact, lines, Any}
+use Rattle.last_shift.specs.Shift.{ExactLess, ShiftExact, without-nodes, Any}
 
 module _ (X Y X' Y' K M : Float → Type 0) (f : (x : Float) → X x → X' x → K x) (g : (y : Float) → Y y → Y' y → M y) where
   point-both : (p : Point) → OfPoint X Y p → OfPoint X' Y' p → OfPoint K M p
@@ -33,14 +33,14 @@ module _ (X Y X' Y' K M : Float → Type 0) (f : (x : Float) → X x → X' x �
     taps = every-both (OfTap X Y) (OfTap X' Y') (OfTap K M) (λ t x y. point-both (t .place) x y) (d .taps) (a .taps) (b .taps);
   }
 
-  lines-both : (s : Sheet) → OfPlaced X Y (lines s) → OfPlaced X' Y' (lines s) → OfPlaced K M (lines s)
+  lines-both : (s : Sheet) → OfPlaced X Y (without-nodes s) → OfPlaced X' Y' (without-nodes s) → OfPlaced K M (without-nodes s)
   lines-both s a b = record {
     nodes = tt;
     routes = every-both (Every (OfPoint X Y)) (Every (OfPoint X' Y')) (Every (OfPoint K M)) (λ r x y. every-both (OfPoint X Y) (OfPoint X' Y') (OfPoint K M) point-both r x y) (s .routes) (a .routes) (b .routes);
     drawn = every-both (OfDrawn X Y) (OfDrawn X' Y') (OfDrawn K M) drawn-both (s .drawn) (a .drawn) (b .drawn);
   }
 
-lines-of : (X Y : Float → Type 0) (s : Sheet) → OfPlaced X Y s → OfPlaced X Y (lines s)
+lines-of : (X Y : Float → Type 0) (s : Sheet) → OfPlaced X Y s → OfPlaced X Y (without-nodes s)
 lines-of X Y s h = record { nodes = tt; routes = h .routes; drawn = h .drawn }
 
 not-false : (b : Bool) → not b ≡ false → T b
@@ -54,7 +54,7 @@ still o x a e b p = zero-less o x (a .is-finite) (b .is-finite) (p .1) (eq→Sam
 
 -- THE CONDITION by axes: of numbers as `before-in` of crate promise has them
 pub by-axes : (s : Sheet) → OfPlaced InX InY s → OfPlaced Plain Plain s
-    → (ne (min-x s) zero64 ≡ true → OfPlaced (ExactLess (min-x s)) Any (lines s)) → (ne (min-y s) zero64 ≡ true → OfPlaced Any (ExactLess (min-y s)) (lines s)) → ShiftExact s
+    → (ne (min-x s) zero64 ≡ true → OfPlaced (ExactLess (min-x s)) Any (without-nodes s)) → (ne (min-y s) zero64 ≡ true → OfPlaced Any (ExactLess (min-y s)) (without-nodes s)) → ShiftExact s
 by-axes s h p ex ey moved =
     let B : Float → Type 0 = λ x. Bounded 2414870528 x in
     let wide : (x : Float) → InX x → B x = λ x k. bounded-mono 2149580800 2414870528 x (omega arith) k in
@@ -66,10 +66,10 @@ by-axes s h p ex ey moved =
     let k = lines-both EX Any Any EY EX EY (λ x a b. a) (λ y a b. b) s (on-x (o .0) wide (ne (min-x s) zero64) refl hs ps) (on-y (o .1) (ne (min-y s) zero64) refl hs ps) in
     record { on-routes = k .routes; of-bundles = k .drawn }
   where
-    on-x : Bounded 2414870528 (min-x s) → ((x : Float) → InX x → Bounded 2414870528 x) → (t : Bool) → ne (min-x s) zero64 ≡ t → OfPlaced InX InY (lines s) → OfPlaced Plain Plain (lines s) → OfPlaced (ExactLess (min-x s)) Any (lines s)
+    on-x : Bounded 2414870528 (min-x s) → ((x : Float) → InX x → Bounded 2414870528 x) → (t : Bool) → ne (min-x s) zero64 ≡ t → OfPlaced InX InY (without-nodes s) → OfPlaced Plain Plain (without-nodes s) → OfPlaced (ExactLess (min-x s)) Any (without-nodes s)
     on-x a wide true z hs ps = ex z
     on-x a wide false z hs ps = lines-both InX InY Plain Plain (ExactLess (min-x s)) Any (λ x u v. still (min-x s) x a z (wide x u) v) (λ y u v. tt) s hs ps
 
-    on-y : Bounded 2414870528 (min-y s) → (t : Bool) → ne (min-y s) zero64 ≡ t → OfPlaced InX InY (lines s) → OfPlaced Plain Plain (lines s) → OfPlaced Any (ExactLess (min-y s)) (lines s)
+    on-y : Bounded 2414870528 (min-y s) → (t : Bool) → ne (min-y s) zero64 ≡ t → OfPlaced InX InY (without-nodes s) → OfPlaced Plain Plain (without-nodes s) → OfPlaced Any (ExactLess (min-y s)) (without-nodes s)
     on-y a true z hs ps = ey z
     on-y a false z hs ps = lines-both InX InY Plain Plain Any (ExactLess (min-y s)) (λ x u v. tt) (λ y u v. still (min-y s) y a z u v) s hs ps

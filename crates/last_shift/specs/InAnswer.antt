@@ -17,10 +17,10 @@ use Rattle.board.specs.Board.{Board}
 use Rattle.answer.specs.Answer.{Line, Trunk, Sheet}
 use Rattle.drawing.specs.Build.{pt, seg, no-drawn}
 use Rattle.drawing.specs.Normal as drawing
-use Rattle.drawing.specs.Normal.{sheet-after, min-x, min-y, moved}
+use Rattle.drawing.specs.Normal.{sheet-after, min-x, min-y, shifted-sheet, moved}
 use Rattle.ranges.specs.Coordinates.{OfPlaced}
 use Rattle.promise.specs.Demand3.{OnBoth, AllFinite, StandsAt, NoFalseJoint, Kept, crossing-bit}
-use Rattle.last_shift.specs.Shift.{moves, CloseLess, ExactLess, ShiftExact, NodesExact, lines, Any, least-x, with-nodes}
+use Rattle.last_shift.specs.Shift.{corner-of, moves, CloseLess, ExactLess, ShiftExact, NodesExact, without-nodes, Any, least-x, with-nodes}
 
 -- a bundle's segments are its collector and its spine
 pub data PartOf (t : Trunk) (s : Segment) : Type 0 where
@@ -53,10 +53,13 @@ pub record NoFalseJointIn (a : Sheet) : Type 0 where
 pub record Carried (b : Board) (s : drawing.Sheet) (a : Sheet) : Type 0 where
   -- every number of the answer's routes and bundles is finite
   pub all-finite : AllFinite (moved s .routes) (moved s .drawn)
-  -- whatever the job, every coordinate of the answer is within 2 ^ -20 of the exact difference of the coordinate and the least one
+  -- what the answer has: the sheet less the least coordinates, each difference rounded once, or the sheet itself where both are 0
+  pub is-shifted : moves s ≡ true → moved s ≡ shifted-sheet (corner-of s) s
+  pub is-still : moves s ≡ false → moved s ≡ s
+  -- so, whatever the numbers, every coordinate of the answer is within 2 ^ -20 of the exact difference of the coordinate and the least one
   pub close : moves s ≡ true → OfPlaced (CloseLess (min-x s)) (CloseLess (min-y s)) s
   -- the shift is exact if it is on each axis whose least coordinate is not 0
-  pub axes : (ne (min-x s) zero64 ≡ true → OfPlaced (ExactLess (min-x s)) Any (lines s)) → (ne (min-y s) zero64 ≡ true → OfPlaced Any (ExactLess (min-y s)) (lines s)) → ShiftExact s
+  pub axes : (ne (min-x s) zero64 ≡ true → OfPlaced (ExactLess (min-x s)) Any (without-nodes s)) → (ne (min-y s) zero64 ≡ true → OfPlaced Any (ExactLess (min-y s)) (without-nodes s)) → ShiftExact s
   -- where the shift is exact, the first two sentences hold of the sheet in the answer
   pub joints : ShiftExact s → NoFalseJointIn a
   -- where it is exact for the nodes too, so does the third, with the first two, of the nodes, routes and bundles as they are written

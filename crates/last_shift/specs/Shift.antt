@@ -71,8 +71,8 @@ CloseLess o x = Close (value (sub binary64 x o)) (minusℚ (value x) (value o))
 
 -- ---- one axis alone
 -- a sheet's routes and bundles, without its nodes
-abbrev pub lines : Sheet → Sheet
-lines s = record { nodes = []; routes = s .routes; drawn = s .drawn }
+abbrev pub without-nodes : Sheet → Sheet
+without-nodes s = record { nodes = []; routes = s .routes; drawn = s .drawn }
 
 -- nothing is asked
 abbrev pub Any : Float → Type 0

@@ -1,14 +1,8 @@
 // What a look costs, and the tests of one look.
 //
 // Ported from cachanova/schemweave, commit c4a1a2c60a, crates/schemweave/src/boundary_bundles.rs
-// (Apache-2.0, see NOTICE). The present routes are in slots (crate route). A bundle's members are
-// count places from first on of the table of members: edges has each one's edge, taps its tap as x
-// and y. A mask has a place for each route; all chooses every route whatever the mask says. Of the nodes
-// and the edges there are slices of numbers, which cost nothing to pass on: boxes and ends.
-//
-// The geometry visits that pay for the looks are lent: to the two checks as a purse, and below them
-// as its counter, left. The prover covers no function that has a reference to a struct, so the two
-// checks and the two functions that make a purse only call on, and have the purse first.
+// (Apache-2.0, see NOTICE). What the slices hold, and how the geometry visits are lent, is said in
+// crate checks.
 ghost use mathlib.Core.Path.{_≡_};
 ghost use Prim.Native.Nat.{_+_, _*_, _<_};
 ghost use lib.ListN.{length};

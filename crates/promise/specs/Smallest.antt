@@ -1,10 +1,10 @@
--- Document 01's smallest job and the notice for no bytes, by the definitions: so no fixed bytes are the answer to every job, and not every job is refused.
+-- Document 01's smallest job and the notice for no bytes, by the definitions: so not every job is refused, and no fixed sheet is the answer to every accepted one.
 -- Assumes nothing.
-use mathlib.Core.Path.{_≡_, refl, ap}
-use mathlib.Core.List.{List, [], _∷_}
-use Prim.Native.Nat.{ℕ}
+use mathlib.Core.Path.{_≡_, refl, sym, ap, _∙_}
+use mathlib.Core.List.{List, [], _∷_, _++_}
+use Prim.Native.Nat.{ℕ, _<_}
 use native.Mathlib.Omega.{arith}
-use lib.ListN.{length, replicate}
+use lib.ListN.{length, getD, replicate}
 use lib.Ieee.{binary64, ofBits, toBits, lt, le, eq, ne}
 use Rattle.limits.specs.Limits.{answer-room}
 use Rattle.binary64.specs.Accepted.{minus-zero, accepted}
@@ -33,8 +33,19 @@ pub smallest-notice : written [] answer-room ≡ 0 ∷ 0 ∷ 0 ∷ 2 ∷ 1 ∷ 1
 unfolding written told-bytes after-reading read-job lengths-fit notice-bytes bytes
 smallest-notice = refl
 
-pub no-fixed-sheet : (w : List ℕ) → ((job : List ℕ) → written job answer-room ≡ w) → ⊥
+-- the same job with a tap grant of 1: the answer says that 1 is left
+abbrev one-visit-job : List ℕ
+one-visit-job = 0 ∷ 0 ∷ 0 ∷ 58 ∷ 1 ∷ 0 ∷ replicate 43 0 ++ (1 ∷ replicate 12 0)
+
+pub one-visit-answer : written one-visit-job answer-room ≡ 0 ∷ 0 ∷ 0 ∷ 32 ∷ 1 ∷ 0 ∷ 0 ∷ 0 ∷ 0 ∷ 1 ∷ replicate 26 0
+unfolding written told-bytes after-reading read-job lengths-fit number-on outcome field version fields after flags-of taken number-of accepted minus-zero ofBits toBits lt le eq ne limited many within-total next-edge next-bundle ended settled some-twice twice or-nine resolved each known-then after-plan first-pass indices-from components offsets-from turns-from after-sheet sheet-of page-told page-of moved min-x min-y least-of greatest-of all-points route-points drawn-points width-of height-of lines-of bundles-told answer-bytes body-bytes head-bytes counts-bytes all-bytes bytes
+one-visit-answer = refl
+
+-- ONE FIXED SHEET is not the answer to every job that is accepted
+pub no-fixed-sheet : (w : List ℕ) → ((job : List ℕ) → 6 < length (written job answer-room) → written job answer-room ≡ w) → ⊥
 no-fixed-sheet w h =
     let a : length (written smallest-job answer-room) ≡ 36 = ap length smallest-answer in
-    let b : length (written [] answer-room) ≡ 6 = ap length smallest-notice in
-    omega (arith, a, b, ap length (h smallest-job), ap length (h []))
+    let b : length (written one-visit-job answer-room) ≡ 36 = ap length one-visit-answer in
+    let c = ap (λ (l : List ℕ). getD l 9 0) (sym smallest-answer ∙ h smallest-job (omega (arith, a))) in
+    let d = ap (λ (l : List ℕ). getD l 9 0) (sym one-visit-answer ∙ h one-visit-job (omega (arith, b))) in
+    omega (arith, c, d)

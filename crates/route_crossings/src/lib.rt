@@ -1,5 +1,4 @@
 // Where a route meets a vertical line or the trunk of a bundle.
-// that make a member's route start or end at its bundle's tap.
 //
 // Ported from cachanova/schemweave, commit c4a1a2c60a, crates/schemweave/src/boundary_bundles.rs
 // (Apache-2.0, see NOTICE); names are those of that module where it has one. A route is a window of
