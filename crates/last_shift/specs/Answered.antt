@@ -1,4 +1,5 @@
 -- Demand 3 of the sheet in the answer, proved: for every job's bytes and the bytes written for them. Assumes nothing.
+use mathlib.Core.Bool.{true, false}
 use mathlib.Core.Path.{_≡_, refl, sym, ap, subst}
 use mathlib.Core.Logic.{_⊎_, inl, inr}
 use mathlib.Core.List.{List, [], _∷_, List·Memᴰ, List·Memᴰ·head, List·Memᴰ·tail, List·Memᴰ·not-nil, List·Memᴰ·cases-cons}
@@ -16,7 +17,8 @@ use Rattle.board.specs.Board.{no-edge}
 use Rattle.plan.specs.SmallNumbers.{Small}
 use Rattle.drawing.specs.Build.{Drawn, route-at, no-drawn}
 use Rattle.drawing.specs.CleanChecks.{every-both}
-use Rattle.drawing.specs.Normal.{sheet-after, moved, page-of}
+use Rattle.drawing.specs.Normal as drawing
+use Rattle.drawing.specs.Normal.{sheet-after, moved, page-of, shifted-sheet}
 use Rattle.ranges.specs.Corridors.{Below}
 use Rattle.ranges.specs.Coordinates.{OfPoint, OfPlaced}
 use Rattle.answer.specs.Answer.{Line, Trunk, Sheet, lines-of}
@@ -31,6 +33,7 @@ use Rattle.last_shift.specs.Moved.{joints-carry, all-carry, stands-carry
 use Rattle.last_shift.specs.Close.{sheet-close}
 use Rattle.last_shift.specs.Axes.{by-axes}
 use Rattle.last_shift.specs.InAnswer.{PartOf, its-collector, its-spine, TapOnly, no-trunk, NoFalseJointIn, KeptInAnswer, Demand3InAnswer}
+use Rattle.last_shift.specs.Shift.{corner-of, moves}
 
 -- ---- an answer's routes and bundles are those of the page
 pub record LineCame (es : List Edge) (rs : List Route) (l : Line) : Type 0 where
