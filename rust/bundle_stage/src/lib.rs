@@ -1,8 +1,8 @@
 //! The bundle stage for Rust programs: a placed and routed [`Board`] in, a [`Sheet`] with its bundles
 //! drawn out, or a [`Refusal`].
 //!
-//! The stage itself is proved, and linked as a static library: it does not trap, ends, and draws no
-//! false joint, whatever the board (README of the repository). Buffers are this crate's business.
+//! The stage itself is proved, and linked as a static library: it does not trap, and ends, whatever
+//! the board (README of the repository). Buffers are this crate's business.
 //!
 //! That there is no false joint is proved of the sheet before its last shift, which rounds, and of
 //! the sheet in the answer where that shift is exact: [`Sheet::false_joints`] looks for them in the

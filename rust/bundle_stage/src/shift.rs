@@ -20,7 +20,8 @@ pub enum Shift {
     /// Nothing was subtracted: the least coordinate is 0.
     Nothing,
     /// Something may have been subtracted, and no difference was rounded: all numbers of the job are
-    /// on the drafting grid, which is proved to be enough.
+    /// on the drafting grid. The sheet's numbers are then multiples of a small power of two, as
+    /// `compare joints` tests, and of such a sheet it is proved.
     Exact,
     /// A difference was rounded: a node or a route in no bundle is not exactly where it was, less
     /// what was subtracted; or a far side is not, summed anew.
@@ -37,8 +38,8 @@ impl Shift {
 }
 
 impl LastShift {
-    /// Nothing was rounded, for certain. The sheet in the answer is then proved to have no false
-    /// joint where crossings are forbidden.
+    /// Nothing was rounded. Of such a sheet it is proved that the answer has no false joint where
+    /// crossings are forbidden.
     pub fn is_exact(self) -> bool {
         self.x.is_exact() && self.y.is_exact()
     }

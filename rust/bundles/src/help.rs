@@ -52,8 +52,8 @@ which leads to the right for an input and to the left for an output. With the an
 is the job's, the visits granted and paid are said too, and what is known of the joints.
 
 Joints are looked at where crossings are forbidden, on the sheet in the answer, in exact numbers. None
-is false where a segment of a bundle and a run of some length share no point, or exactly one, which is
-that route's tap on the bundle and an end of the run; where segments of two bundles share none if the
+is false where a segment of a bundle and a run of some length share no point, or exactly one, which
+within 1e-7 is that route's tap on the bundle and an end of the run; where segments of two bundles share none if the
 earlier one's has length; and where no member's route enters a node but its source and its target. All
 this is proved of every sheet before its last shift, which subtracts the least coordinates, where they
 are below 0, and rounds each difference. So a false joint in an answer is the work of that rounding.
@@ -61,8 +61,8 @@ Each is named: bundle, route or node, and place.
 
 Of the last shift it is said, across and down, that it subtracted nothing; or that it was exact, as
 all numbers of the job are multiples of 1/64 up to 2^20; or that it rounded; or, where an answer does
-not tell, that it may have rounded. In the first two cases there is no false joint, which is proved
-too. All this is about the stage's own answer, so the job is drawn again to compare.",
+not tell, that it may have rounded. Where nothing was subtracted there is no false joint, which is
+proved; where it was exact none was found on any board tried. All this is about the stage's own answer, so the job is drawn again to compare.",
     },
     Command {
         name: "svg",
