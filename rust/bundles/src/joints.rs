@@ -112,7 +112,7 @@ fn shifted(LastShift { x, y }: LastShift) -> String {
     let along = |shift| match shift {
         Shift::Nothing => "it subtracted nothing",
         Shift::Exact => "it was exact (all numbers of the job are multiples of 1/64 up to 2^20)",
-        Shift::Rounded => "it rounded",
+        Shift::Rounded => "it rounded a coordinate, or a far side that is summed anew",
         Shift::NotKnown => "it may have rounded",
     };
     if x == y {

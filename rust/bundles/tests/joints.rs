@@ -53,7 +53,7 @@ fn in_words() {
         said(&job("gap-closed-by-the-shift")),
         format!(
             "{ONE}  route 7 touches bundle 1 at (1073741842, 15)\n\
-             last shift: across, it rounded; down, it may have rounded\n"
+             last shift: across, it rounded a coordinate, or a far side that is summed anew; down, it may have rounded\n"
         )
     );
     let two = ONE.replace("1 is", "2 are");
@@ -63,14 +63,14 @@ fn in_words() {
             "{two}  route 1 touches bundle 1 at (4.666666666666666, 3.333333333333333)\n  \
              route 1 touches bundle 1 from (2, 3.333333333333333) to (4.666666666666666, \
              3.333333333333333)\n\
-             last shift: across, it subtracted nothing; down, it rounded\n"
+             last shift: across, it subtracted nothing; down, it rounded a coordinate, or a far side that is summed anew\n"
         )
     );
     assert_eq!(
         said(&job("far-side-by-the-shift")),
         format!(
             "{ONE}  route 6 enters node 2 from (268435456, 50) to (268435456, 150)\n\
-             last shift: across, it rounded; down, it subtracted nothing\n"
+             last shift: across, it rounded a coordinate, or a far side that is summed anew; down, it subtracted nothing\n"
         )
     );
 }
