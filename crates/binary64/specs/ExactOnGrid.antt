@@ -16,6 +16,7 @@ use lib.Ieee.Scale.{finite}
 use Rattle.binary64.specs.Rational.{plus, less}
 use Rattle.binary64.specs.Integers.{add-parts, neg-plus, neg-less}
 use Rattle.binary64.specs.Value.{over, under, neg-finite, neg-over, neg-under, neg-den}
+use Rattle.binary64.specs.Monotone.{over-scaled, under-scaled}
 
 pub record At (g : ℕ) (x : Float) (z : ℤ) : Type 0 where
   pub is-finite : T (finite x)
@@ -92,14 +93,6 @@ sum-exact g true a false b c m n G C N A B = go (ltb a b) (ltb b a) (ltb→lt a 
     go false false h k i = let l = k tt in let r = i tt in same-parts (round binary64 false (a - b) c) (a - b) 0 (0 + b) (a + 0) c (omega arith) (value-parts (round binary64 false (a - b) c) false (a - b) c (apart g a b c m n G C N A B false))
 
 -- ---- the operations
-over-scaled : (s : Bool) (m : ℕ) (e : ℤ) (k : ℕ) → cond s 0 (m * up e * k) ≡ over (fin s m e) * k
-over-scaled true m e k = sym (zero-mul k)
-over-scaled false m e k = refl
-
-under-scaled : (s : Bool) (m : ℕ) (e : ℤ) (k : ℕ) → cond s (m * up e * k) 0 ≡ under (fin s m e) * k
-under-scaled true m e k = refl
-under-scaled false m e k = sym (zero-mul k)
-
 -- z = x + y, x = a / G and y = b / G give z = (a + b) / G, each number by its parts
 combine : (oz uz dz ox ux dx oy uy dy G pa la pb lb P L : ℕ) → 0 < dx → 0 < dy
     → oz * (dx * dy) + (ux * dy + uy * dx) * dz ≡ (ox * dy + oy * dx) * dz + uz * (dx * dy)

@@ -12,7 +12,7 @@ ghost use Rattle.search.specs.declared.Bounds.{Bounds};
 ghost use Rattle.plan.specs.declared.Bound.the-variants.{None, At};
 ghost use Rattle.plan.specs.Plan.{if-between, drop-all, initial-x};
 ghost use Rattle.plan.specs.Prepared.{Listing, plan-in};
-ghost use Rattle.components.specs.Settled.{ranges-in, Chosen, inputs-extent, outputs-extent};
+ghost use Rattle.components.specs.Settled.{ranges-in, Chosen, bound-in, inner, extent};
 use components::Extent;
 use components::Places;
 use geometry::Role;
@@ -50,12 +50,16 @@ pub fn of_role(role: Role, t: Ranges, order: &[usize], n: usize) -> Places
     }
 }
 
-fn minimum_of(b: CollectorBounds) -> f64
-    ensures { λ r. ⌜ r ≡ if-between b zero64 (λ (s : Bounds). s .minimum) ⌝ }
+// The bound of a role: an input's minimum, an output's maximum.
+fn bound_of(role: Role, b: CollectorBounds) -> f64
+    ensures { λ r. ⌜ r ≡ bound-in role b ⌝ }
 {
     match b {
         CollectorBounds::Absent => 0.0,
-        CollectorBounds::Between(r) => r.minimum,
+        CollectorBounds::Between(r) => match role {
+            Role::Input => r.minimum,
+            Role::Output => r.maximum,
+        },
     }
 }
 
@@ -68,62 +72,39 @@ fn desired_of(b: CollectorBounds) -> f64
     }
 }
 
-fn maximum_of(b: CollectorBounds) -> f64
-    ensures { λ r. ⌜ r ≡ if-between b zero64 (λ (s : Bounds). s .maximum) ⌝ }
+// The larger of two for inputs, the smaller for outputs.
+fn inner(role: Role, x: f64, y: f64) -> f64
+    ensures { λ r. ⌜ r ≡ inner role x y ⌝ }
 {
-    match b {
-        CollectorBounds::Absent => 0.0,
-        CollectorBounds::Between(r) => r.maximum,
+    match role {
+        Role::Input => binary64::max(x, y),
+        Role::Output => binary64::min(x, y),
     }
 }
 
-// The inputs' largest minimum and largest x found.
-pub fn inputs_extent(t: Ranges, which: &[usize], count: usize) -> Extent
+// How far the bundles of a role go: inputs to the largest minimum and the largest x found, outputs to
+// the smallest maximum and the smallest x found.
+pub fn extent(role: Role, t: Ranges, which: &[usize], count: usize) -> Extent
     requires { ⌜ (0 < count) × Listing (now which) count max-bundles ⌝ }
-    ensures { λ r. ⌜ ((m : ℕ) → Listing (now (which .entry)) count m → r ≡ inputs-extent (ranges-in m t) (getD (now (which .entry)) 0 0) (drop 1 (take count (now (which .entry))))) ⌝ }
+    ensures { λ r. ⌜ ((m : ℕ) → Listing (now (which .entry)) count m → r ≡ extent role (ranges-in m t) (getD (now (which .entry)) 0 0) (drop 1 (take count (now (which .entry))))) ⌝ }
 {
     let first = which[0];
     let s = t.rows[first];
     let b = s.bounds;
-    let mut low = minimum_of(b);
-    let mut deepest = desired_of(b);
+    let mut bound = bound_of(role, b);
+    let mut desired = desired_of(b);
     let mut k: usize = 1;
     while k < count {
         let i = which[k];
         let next = t.rows[i];
         let c = next.bounds;
-        low = binary64::max(low, minimum_of(c));
-        deepest = binary64::max(deepest, desired_of(c));
+        bound = inner(role, bound, bound_of(role, c));
+        desired = inner(role, desired, desired_of(c));
         k += 1;
     }
     Extent {
-        bound: low,
-        desired: deepest,
-    }
-}
-
-// The outputs' smallest maximum and smallest x found.
-pub fn outputs_extent(t: Ranges, which: &[usize], count: usize) -> Extent
-    requires { ⌜ (0 < count) × Listing (now which) count max-bundles ⌝ }
-    ensures { λ r. ⌜ ((m : ℕ) → Listing (now (which .entry)) count m → r ≡ outputs-extent (ranges-in m t) (getD (now (which .entry)) 0 0) (drop 1 (take count (now (which .entry))))) ⌝ }
-{
-    let first = which[0];
-    let s = t.rows[first];
-    let b = s.bounds;
-    let mut limit = maximum_of(b);
-    let mut earliest = desired_of(b);
-    let mut k: usize = 1;
-    while k < count {
-        let i = which[k];
-        let next = t.rows[i];
-        let c = next.bounds;
-        limit = binary64::min(limit, maximum_of(c));
-        earliest = binary64::min(earliest, desired_of(c));
-        k += 1;
-    }
-    Extent {
-        bound: limit,
-        desired: earliest,
+        bound: bound,
+        desired: desired,
     }
 }
 

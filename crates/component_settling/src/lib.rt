@@ -323,8 +323,8 @@ pub fn treat(
             plan: p,
         };
     }
-    let near = component_extents::inputs_extent(ranges, &inputs[..], i.count);
-    let far = component_extents::outputs_extent(ranges, &outputs[..], o.count);
+    let near = component_extents::extent(Role::Input, ranges, &inputs[..], i.count);
+    let far = component_extents::extent(Role::Output, ranges, &outputs[..], o.count);
     settle(
         points,
         starts,

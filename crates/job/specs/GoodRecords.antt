@@ -28,7 +28,7 @@ use Rattle.job.specs.declared.RawPort.{RawPort}
 use Rattle.job.specs.declared.RawEdge.{RawEdge}
 use Rattle.job.specs.declared.RawBundle.{RawBundle}
 use Rattle.job.specs.declared.RawMember.{RawMember}
-use Rattle.job.specs.LoopSteps.{came, limited-fits}
+use Rattle.job.specs.LoopSteps.{came, limited-fits, got-both}
 use Rattle.job.specs.Kept.{field-takes}
 use Rattle.job.specs.Job.{side-of, role-of, node, port, point, member, edge-head, bundle-head, counted, within-total}
 
@@ -89,14 +89,11 @@ number-good low high s x t e =
     let l = ap length (c .2) in
     (subst (GoodNumber (accepted low high)) (c .1) (record { in-range = c .0; of-format = ofBits-fits binary64 (a .value) }), omega (arith, f .1, l))
 
-pub same : {A : Type 0} (a b : A) (s t : List ℕ) → got a s ≡ got b t → (a ≡ b) × (s ≡ t)
-same a b s t e = (cc, cc)
-
 pub point-good : (s : List ℕ) (p : Point) (t : List ℕ) → point s ≡ got p t → GoodPoint p × (length s ≡ 16 + length t)
 point-good s p t e =
     let a = came (coordinate s) _ p t e in
     let b = came (coordinate (a .rest)) _ p t (a .second) in
-    let q = same _ p (b .rest) t (b .second) in
+    let q = got-both _ p (b .rest) t (b .second) in
     let x = number-good _ _ s (a .value) (a .rest) (a .first) in
     let y = number-good _ _ (a .rest) (b .value) (b .rest) (b .first) in
     let l = ap length (q .1) in
@@ -109,7 +106,7 @@ node-good s n t e =
     let c = came (coordinate (b .rest)) _ n t (b .second) in
     let d = came (size (c .rest)) _ n t (c .second) in
     let f = came (size (d .rest)) _ n t (d .second) in
-    let q = same _ n (f .rest) t (f .second) in
+    let q = got-both _ n (f .rest) t (f .second) in
     let i = field-takes 4 s (a .value) (a .rest) (a .first) in
     let x = number-good _ _ (a .rest) (b .value) (b .rest) (b .first) in
     let y = number-good _ _ (b .rest) (c .value) (c .rest) (c .first) in
@@ -147,7 +144,7 @@ port-good s p t e =
     let b = came (field 4 (a .rest)) _ p t (a .second) in
     let c = came (after (field 1 (b .rest)) side-of) _ p t (b .second) in
     let d = came (coordinate (c .rest)) _ p t (c .second) in
-    let q = same _ p (d .rest) t (d .second) in
+    let q = got-both _ p (d .rest) t (d .second) in
     let m = came (field 1 (b .rest)) side-of (c .value) (c .rest) (c .first) in
     let n = ap length (side-takes (m .value) (m .rest) (c .value) (c .rest) (m .second)) in
     let i = field-takes 4 s (a .value) (a .rest) (a .first) in
@@ -175,7 +172,7 @@ pub member-good : (role : Role) (s : List ℕ) (m : RawMember) (t : List ℕ) �
 member-good role s m t e =
     let a = came (field 4 s) _ m t e in
     let b = came (at-most max-lane 2 (a .rest)) _ m t (a .second) in
-    let q = same _ m (b .rest) t (b .second) in
+    let q = got-both _ m (b .rest) t (b .second) in
     let i = field-takes 4 s (a .value) (a .rest) (a .first) in
     let x = at-most-good max-lane 2 (a .rest) (b .value) (b .rest) (b .first) in
     let l = ap length (q .1) in
@@ -197,7 +194,7 @@ edge-takes total s e t h =
     let d = came (field 4 (c .rest)) _ e t (c .second) in
     let f = came (field 4 (d .rest)) _ e t (d .second) in
     let g = came (counted max-route-points max-points total (f .rest)) _ e t (f .second) in
-    let q = same _ e (g .rest) t (g .second) in
+    let q = got-both _ e (g .rest) t (g .second) in
     let l = ap length (q .1) in
     omega (
       arith,
@@ -218,7 +215,7 @@ bundle-takes total s e t h =
     let d = came (after (field 1 (c .rest)) role-of) _ e t (c .second) in
     let f = came (field 4 (d .rest)) _ e t (d .second) in
     let g = came (counted max-bundle-members max-members total (f .rest)) _ e t (f .second) in
-    let q = same _ e (g .rest) t (g .second) in
+    let q = got-both _ e (g .rest) t (g .second) in
     let m = came (field 1 (c .rest)) role-of (d .value) (d .rest) (d .first) in
     let n = ap length (role-takes (m .value) (m .rest) (d .value) (d .rest) (m .second)) in
     let l = ap length (q .1) in

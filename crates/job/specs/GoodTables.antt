@@ -2,7 +2,7 @@
 -- Assumes nothing.
 use Prim.Native.Nat.{ℕ, zero, suc, _+_, _*_, _≤_}
 use mathlib.Core.Path.{_≡_, refl, sym, ap, subst, _∙_}
-use mathlib.Core.List.{List, [], _∷_, _++_, map}
+use mathlib.Core.List.{List, [], _∷_, _++_, map, map-append}
 use native.Mathlib.Omega.{arith}
 use lib.Dec.{leb, eqb}
 use lib.ListN.{length, length-append}
@@ -18,13 +18,13 @@ use Rattle.job.specs.declared.Counts.{Counts}
 use Rattle.job.specs.declared.Header.{Header}
 use Rattle.job.specs.declared.RawEdge.{RawEdge}
 use Rattle.job.specs.declared.RawBundle.{RawBundle}
-use Rattle.job.specs.LoopSteps.{came}
+use Rattle.job.specs.LoopSteps.{came, got-both}
 use Rattle.job.specs.Heads.{edge-window, bundle-window, Limits, header-fits}
 use Rattle.job.specs.Kept.{many-keeps, pushes-good, pushes-count, field-takes}
 use Rattle.job.specs.Job.{flags-of, options, grants, counts, header, node, port, point, member, edge-head, bundle-head, push, EdgeList, BundleList, next-edge, next-bundle, Tables, ended, tables, member-key}
 use Rattle.job.specs.Claims.{claims, raw-claim, edge-id, Inside, members-pushed}
 use Rattle.job.specs.Claims as claim
-use Rattle.job.specs.GoodRecords.{GoodPoint, GoodOptions, GoodNode, picked, number-good, same, point-good, node-good, RawGoodPort, port-good, at-most-good, RawGoodMember, member-good, edge-takes, bundle-takes}
+use Rattle.job.specs.GoodRecords.{GoodPoint, GoodOptions, GoodNode, picked, number-good, point-good, node-good, RawGoodPort, port-good, at-most-good, RawGoodMember, member-good, edge-takes, bundle-takes}
 
 -- ---- edges with their points, bundles with their members
 unfoldable pub sum : List ℕ → ℕ
@@ -48,10 +48,6 @@ starts-last f n (b ∷ l) a =
     let e : n + f b + sum (map f l) ≡ n + (f b + sum (map f l)) = omega arith in
     ap (λ (t : List ℕ). n ∷ t) (starts-last f (n + f b) l a ∙ ap (λ (k : ℕ). starts (n + f b) (map f l) ++ (k ∷ [])) e)
 
-pub map-last : {A B : Type 0} (f : A → B) (l : List A) (a : A) → map f (l ++ (a ∷ [])) ≡ map f l ++ (f a ∷ [])
-map-last f [] a = refl
-map-last {B = B} f (b ∷ l) a = ap (λ (t : List B). f b ∷ t) (map-last f l a)
-
 pub record RawGoodEdge (points : ℕ) (e : RawEdge) : Type 0 where
   pub count : e .count ≤ max-route-points
   pub window : e .first + e .count ≤ points
@@ -72,7 +68,7 @@ edges-step from l s m t h e =
     let ps = l .points in
     let a = came (edge-head (length ps) s) _ m t e in
     let b = came (many (a .value .count) (push point) ps (a .rest)) _ m t (a .second) in
-    let q = same _ m (b .rest) t (b .second) in
+    let q = got-both _ m (b .rest) t (b .second) in
     let w = edge-window (length ps) s (a .value) (a .rest) (a .first) in
     let g = pushes-good point GoodPoint 16 point-good (a .value .count) (16 * length ps + length (a .rest)) 0 ps (a .rest) (b .value) (b .rest) (record { all = h .points; bytes = omega arith }) (b .first) in
     let n = pushes-count point (a .value .count) ps (a .rest) (b .value) (b .rest) (b .first) in
@@ -118,7 +114,7 @@ bundles-step from l s m t h e =
     let ms = l .members in
     let a = came (bundle-head (length ms) s) _ m t e in
     let b = came (many (a .value .count) (push (member (a .value .role))) ms (a .rest)) _ m t (a .second) in
-    let q = same _ m (b .rest) t (b .second) in
+    let q = got-both _ m (b .rest) t (b .second) in
     let w = bundle-window (length ms) s (a .value) (a .rest) (a .first) in
     let g = pushes-good (member (a .value .role)) RawGoodMember 6 (member-good (a .value .role)) (a .value .count) (6 * length ms + length (a .rest)) 0 ms (a .rest) (b .value) (b .rest) (record { all = h .members; bytes = omega arith }) (b .first) in
     let n = pushes-count (member (a .value .role)) (a .value .count) ms (a .rest) (b .value) (b .rest) (b .first) in
@@ -135,7 +131,7 @@ bundles-step from l s m t h e =
       total = omega (arith, w .total, n);
       counts = omega (arith, sum-last (λ (b : RawBundle). b .count) (l .bundles) (a .value), h .counts, n);
       behind =
-          map-last (λ (b : RawBundle). b .first) (l .bundles) (a .value)
+          map-append (λ (b : RawBundle). b .first) (l .bundles) (a .value ∷ [])
           ∙ ap (λ (k : ℕ). map (λ (b : RawBundle). b .first) (l .bundles) ++ (k ∷ [])) (omega (arith, w .starts, h .counts))
           ∙ ap (λ (t : List ℕ). t ++ ((0 + sum (map (λ (b : RawBundle). b .count) (l .bundles))) ∷ [])) (h .behind)
           ∙ sym (starts-last (λ (b : RawBundle). b .count) 0 (l .bundles) (a .value));
@@ -152,7 +148,7 @@ options-good s o t e =
     let c = came (option (b .rest)) _ o t (b .second) in
     let d = came (option (c .rest)) _ o t (c .second) in
     let f = came (option (d .rest)) _ o t (d .second) in
-    let q = same _ o (f .rest) t (f .second) in
+    let q = got-both _ o (f .rest) t (f .second) in
     let u = number-good _ _ s (a .value) (a .rest) (a .first) in
     let v = number-good _ _ (a .rest) (b .value) (b .rest) (b .first) in
     let w = number-good _ _ (b .rest) (c .value) (c .rest) (c .first) in
@@ -169,7 +165,7 @@ pub grants-good : (s : List ℕ) (g : Grants) (t : List ℕ) → grants s ≡ go
 grants-good s g t e =
     let a = came (at-most max-tap-visits 4 s) _ g t e in
     let b = came (at-most max-geometry-visits 4 (a .rest)) _ g t (a .second) in
-    let q = same _ g (b .rest) t (b .second) in
+    let q = got-both _ g (b .rest) t (b .second) in
     let x = at-most-good max-tap-visits 4 s (a .value) (a .rest) (a .first) in
     let y = at-most-good max-geometry-visits 4 (a .rest) (b .value) (b .rest) (b .first) in
     let l = ap length (q .1) in
@@ -181,7 +177,7 @@ counts-take s c t e =
     let b = came (at-most max-ports 2 (a .rest)) _ c t (a .second) in
     let d = came (at-most max-edges 2 (b .rest)) _ c t (b .second) in
     let f = came (at-most max-bundles 2 (d .rest)) _ c t (d .second) in
-    let q = same _ c (f .rest) t (f .second) in
+    let q = got-both _ c (f .rest) t (f .second) in
     let l = ap length (q .1) in
     omega (
       arith,
@@ -207,7 +203,7 @@ header-good s h t e =
     let b = came (options (a .rest)) _ h t (a .second) in
     let c = came (grants (b .rest)) _ h t (b .second) in
     let d = came (counts (c .rest)) _ h t (c .second) in
-    let q = same _ h (d .rest) t (d .second) in
+    let q = got-both _ h (d .rest) t (d .second) in
     let m = came (field 1 s) flags-of (a .value) (a .rest) (a .first) in
     let n = ap length (flags-take (m .value) (m .rest) (a .value) (a .rest) (m .second)) in
     let i = field-takes 1 s (m .value) (m .rest) (m .first) in
@@ -253,7 +249,7 @@ edges-count (suc n) l s m t e =
     let c = came (next-edge l s) (many n next-edge) m t e in
     let a = came (edge-head (length (l .points)) s) _ (c .value) (c .rest) (c .first) in
     let b = came (many (a .value .count) (push point) (l .points) (a .rest)) _ (c .value) (c .rest) (a .second) in
-    let q = same _ (c .value) (b .rest) (c .rest) (b .second) in
+    let q = got-both _ (c .value) (b .rest) (c .rest) (b .second) in
     let y : length (c .value .edges) ≡ length (l .edges) + 1 = ap (λ (k : EdgeList). length (k .edges)) (sym (q .0)) ∙ simp length-append in
     let z = edges-count n (c .value) (c .rest) m t (c .second) in
     omega arith
@@ -268,7 +264,7 @@ bundles-count (suc n) l s m t e =
     let c = came (next-bundle l s) (many n next-bundle) m t e in
     let a = came (bundle-head (length (l .members)) s) _ (c .value) (c .rest) (c .first) in
     let b = came (many (a .value .count) (push (member (a .value .role))) (l .members) (a .rest)) _ (c .value) (c .rest) (a .second) in
-    let q = same _ (c .value) (b .rest) (c .rest) (b .second) in
+    let q = got-both _ (c .value) (b .rest) (c .rest) (b .second) in
     let y : length (c .value .bundles) ≡ length (l .bundles) + 1 = ap (λ (k : BundleList). length (k .bundles)) (sym (q .0)) ∙ simp length-append in
     let z = bundles-count n (c .value) (c .rest) m t (c .second) in
     omega arith

@@ -21,11 +21,13 @@ use Rattle.geometry.specs.declared.Segment.{Segment}
 use Rattle.geometry.specs.Points.{Route, runs}
 use Rattle.exact.specs.Exact.{plusℚ, minusℚ, Exact, Same, exact, OnSegment, negative, rounded, near-exact, SamePlace, HasLength}
 use Rattle.exact.specs.Between.{same-trans}
+use Rattle.exact.specs.Near.{unsigned}
 use Rattle.sorting.specs.Lists.{Every}
+use Rattle.sorting.specs.Sorted.{every-at}
 use Rattle.route.specs.Found.{run-ends}
 use Rattle.ranges.specs.Coordinates.{OfDrawn, OfTap}
 use Rattle.drawing.specs.Build.{Drawn, route-at, no-drawn}
-use Rattle.drawing.specs.Promise.{every-mem, every-at}
+use Rattle.drawing.specs.Promise.{every-mem}
 use Rattle.drawing.specs.Normal.{shifted, shifted-segment, shifted-tap, shifted-drawn}
 use Rattle.promise.specs.Joints.{every-point}
 use Rattle.promise.specs.Demand3.{SegmentOf, its-collector, its-spine, OnBoth, AtTapAndEnd, OnlyAtTap, WithRoutes, WithBundles}
@@ -38,16 +40,6 @@ pub record JointsOnly (routes : List Route) (drawn : List Drawn) : Type 0 where
   pub with-bundles : WithBundles drawn
 
 -- ---- equal fractions round to equal magnitudes
-magnitude-neg : (x : Float) → magnitude (neg x) ≡ magnitude x
-unfolding magnitude neg
-magnitude-neg nan = refl
-magnitude-neg (inf s) = refl
-magnitude-neg (fin s m e) = refl
-
-unsigned : (s : Bool) (a c : ℕ) → magnitude (round binary64 s a c) ≡ magnitude (round binary64 false a c)
-unsigned false a c = refl
-unsigned true a c = ap magnitude (round-neg binary64 a c) ∙ magnitude-neg (round binary64 false a c)
-
 sizes : (p q : Fraction) → Sameℚ p q → natAbs (p .numerator) * q .denominator ≡ natAbs (q .numerator) * p .denominator
 sizes p q e =
     ap (λ (n : ℕ). n * q .denominator) (abs-parts (p .numerator)) ∙ add-mul (plus (p .numerator)) (less (p .numerator)) (q .denominator)

@@ -16,10 +16,10 @@ use Rattle.geometry.specs.Points.{Route}
 use Rattle.exact.specs.Exact.{nought, minusℚ}
 use Rattle.exact.specs.Between.{same-trans}
 use Rattle.sorting.specs.Lists.{Every}
+use Rattle.sorting.specs.Sorted.{every-at}
 use Rattle.board.specs.declared.PlacedNode.{PlacedNode}
 use Rattle.board.specs.Board.{Board}
 use Rattle.drawing.specs.Build.{Drawn, no-drawn}
-use Rattle.drawing.specs.Promise.{every-at}
 use Rattle.drawing.specs.Sheet.{Progress}
 use Rattle.drawing.specs.CleanChecks.{every-both}
 use Rattle.drawing.specs.Normal.{Sheet, sheet-after, min-x, min-y, shifted, shifted-node, shifted-drawn, shifted-sheet, moved}

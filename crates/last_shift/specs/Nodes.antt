@@ -19,10 +19,10 @@ use Rattle.geometry.specs.Points.{Route}
 use Rattle.geometry.specs.Contact.{slanted, across, upright}
 use Rattle.geometry.specs.Enters.{far-x, far-y, inside, passes-inside, enters}
 use Rattle.sorting.specs.Lists.{Every}
+use Rattle.sorting.specs.Sorted.{every-at}
 use Rattle.board.specs.declared.PlacedNode.{PlacedNode}
 use Rattle.board.specs.Board.{Board}
 use Rattle.plan.specs.Depths.{no-node}
-use Rattle.drawing.specs.Promise.{every-at}
 use Rattle.drawing.specs.Normal.{shifted, shifted-segment, shifted-node}
 use Rattle.promise.specs.Demand3.{StaysOut, MembersOut}
 use Rattle.last_shift.specs.Fractions.{By, by-same, same-by, by-below, below-by}

@@ -6,6 +6,7 @@ use mathlib.Core.List.{List, [], _∷_}
 use lib.Dec.{T}
 use lib.ListN.{length}
 use lib.Ieee.{Float, binary64, lt, fits}
+use Rattle.binary64.specs.Bools.{either}
 use Rattle.binary64.specs.Order.{least, greatest}
 use Rattle.binary64.specs.Accepted.{zero64}
 use Rattle.geometry.specs.declared.Point.{Point}
@@ -52,16 +53,12 @@ pub record Traits (look : Look) (b : Board) (routes : List Route) : Type 1 where
   pub reserve-fits : T (fits binary64 (b .options .«member_endpoint_reserve»))
   pub found : (u : Bundle) (r : Bounds) (v : ℕ) → Windowed b u → 1 < u .count → OfBounds Q r → OfBound P (found-x (look (u .role) r (trunks b routes u) v .outcome))
 
-pub pick : (t : Bool) (x y : Float) (P : Float → Type 0) → P x → P y → P (cond t x y)
-pick true x y P p q = p
-pick false x y P p q = q
-
 module _ (Q : Float → Type 0) where
   pub of-least : (x y : Float) → Q x → Q y → Q (least x y)
-  of-least x y s t = pick (lt y x) y x Q t s
+  of-least x y s t = either (lt y x) y x Q t s
 
   pub of-greatest : (x y : Float) → Q x → Q y → Q (greatest x y)
-  of-greatest x y s t = pick (lt x y) y x Q t s
+  of-greatest x y s t = either (lt x y) y x Q t s
 
   pub of-clamped : (x low high : Float) → Q x → Q low → Q high → Q (clamped x low high)
   of-clamped x low high s t w = of-least (greatest x low) high (of-greatest x low s t) w

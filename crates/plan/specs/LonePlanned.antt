@@ -20,7 +20,7 @@ use Rattle.geometry.specs.Points.{Route}
 use Rattle.board.specs.Board.{Board}
 use Rattle.plan.specs.declared.Bound.{Bound}
 use Rattle.plan.specs.declared.Bound.the-variants.{None, At}
-use Rattle.sorting.specs.Sorted.{every-map}
+use Rattle.sorting.specs.Sorted.{every-map, every-getD}
 use Rattle.sorting.specs.Lists.{In, Every}
 use Rattle.plan.specs.Depths.{_⊕_, _⊖_, same-role, members-in, parting-pitch}
 use Rattle.plan.specs.Plan.{Look, Ranged, no-ranged, ranged-at, role-at, found?, found-x, initial-x, Plan, Step, going, refused, then, takes, share, Walk, push, push-all, walk, of-role, largest, smallest, drop-all, input-split, input-limit, minimum-at, maximum-at, desired-at, joined, near-from, near, component-of, required, exceeds, seek, first-pass, again, limited, outputs-last, split, settle, treat, treated, components, indices-from, separated-if, plan-from}
@@ -203,7 +203,7 @@ unfolding share
 share-none [] ns d = refl
 share-none (m ∷ ms) ns d = rw (takes-none m ns (λ n. d m n (inl refl))) (share-none ms ns (λ k n i. d k n (inr i)))
 
-other-way : (r s : Role) → same-role r s ≡ same-role s r
+pub other-way : (r s : Role) → same-role r s ≡ same-role s r
 other-way Input Input = refl
 other-way Input Output = refl
 other-way Output Input = refl
@@ -228,11 +228,6 @@ module _ (b : Board) (routes : List Route) where
   unfolding first-pass
   ranges-every look P [] v e = tt
   ranges-every look P (u ∷ us) v e = (e .0, ranges-every look P us (seek look b routes u None None v .left .0) (e .1))
-
-pub every-getD : {A : Type 0} (P : A → Type 0) (l : List A) (d : A) (i : ℕ) → Every P l → P d → P (getD l i d)
-every-getD P [] d i e p = p
-every-getD P (x ∷ l) d zero e p = e .0
-every-getD P (x ∷ l) d (suc i) e p = every-getD P l d i (e .1) p
 
 module _ (look : Look) (b : Board) (routes : List Route) (i v : ℕ) where
   abbrev ranges-of : List Ranged

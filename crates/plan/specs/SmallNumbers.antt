@@ -10,6 +10,7 @@ use lib.Dec.{T, lit<}
 use lib.Ieee.{Float, binary64, lt, fits}
 use lib.Ieee.Fits.{add-fits, sub-fits}
 use Rattle.limits.specs.Limits.{max-bundles, max-lane}
+use Rattle.binary64.specs.Bools.{either}
 use Rattle.binary64.specs.Order.{least, greatest}
 use Rattle.binary64.specs.Range.{Within, of-int-bounded, held-small, within-mono, add-within, sub-within, bounded-mono}
 use Rattle.binary64.specs.Accepted.{zero64}
@@ -61,15 +62,11 @@ add-small j k m x y h p q s t = (add-within m x y h (within-mono j m x p (s .0))
 pub sub-small : (j k m : ℕ) (x y : Float) → m < 1023 → j ≤ m → k ≤ m → Small j x → Small k y → Small (suc m) (x ⊖ y)
 sub-small j k m x y h p q s t = (sub-within m x y h (within-mono j m x p (s .0)) (within-mono k m y q (t .0)), sub-fits binary64 x y)
 
-pub pick : (t : Bool) (x y : Float) (P : Float → Type 0) → P x → P y → P (cond t x y)
-pick true x y P p q = p
-pick false x y P p q = q
-
 pub least-small : (k : ℕ) (x y : Float) → Small k x → Small k y → Small k (least x y)
-least-small k x y s t = pick (lt y x) y x (Small k) t s
+least-small k x y s t = either (lt y x) y x (Small k) t s
 
 pub greatest-small : (k : ℕ) (x y : Float) → Small k x → Small k y → Small k (greatest x y)
-greatest-small k x y s t = pick (lt x y) y x (Small k) t s
+greatest-small k x y s t = either (lt x y) y x (Small k) t s
 
 pub zero-small : (k : ℕ) → Small k zero64
 unfolding fits

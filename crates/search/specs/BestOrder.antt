@@ -10,6 +10,7 @@ use native.Mathlib.Omega.{arith}
 use lib.Dec.{T}
 use lib.Ieee.{Float, le, lt, eq}
 use lib.Ieee.Fits.{and-l, and-r}
+use Rattle.binary64.specs.Bools.{either}
 use Rattle.binary64.specs.Order.{least, greatest}
 use Rattle.binary64.specs.Value.{le-refl-finite, le-trans-finite, not-lt→le, least-le-left, least-le-right, le-greatest-left, le-greatest-right, eq→same, at-most→le}
 use Rattle.binary64.specs.Fraction.{at-most-trans, le→AtMostℚ, AtMostℚ→le}
@@ -100,10 +101,6 @@ aims Output b f = record {
 pub between : (x y : Float) (q : Fraction) → Real x → Real y → AtMostℚ (value x) q → AtMostℚ q (value y) → T (le x y)
 between x y q r s h k = AtMostℚ→le x y (r .0) (s .0) (at-most-trans (value x) q (value y) h k)
 
-pub either : (b : Bool) (x y : Float) (P : Float → Type 0) → P x → P y → P (cond b x y)
-either true x y P p q = p
-either false x y P p q = q
-
 -- the less far of the two
 pub less-far : Role → Float → Float → Float
 less-far Input a b = least a b
@@ -137,10 +134,6 @@ pub key-once : (role : Role) (x y : Float) → Real x → Real y → sort-key (f
 key-once role x y r s h = sort-key-once (falls role) x y (r .1) (s .1) h
 
 -- ---- the tests, as facts
-pub is-true : (b : Bool) → T b → b ≡ true
-is-true true t = refl
-is-true false t = absurd t
-
 pub both : (a b : Bool) → T a → T b → (a && b) ≡ true
 both true true s t = refl
 both true false s t = absurd t

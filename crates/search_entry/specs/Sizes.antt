@@ -9,44 +9,26 @@ use lib.Dec.{leb}
 use lib.ListN.{length, replicate, length-append}
 use lib.Ieee.{Float}
 use borrow.Author.Tests.{leb-true}
+use Rattle.binary64.specs.Bools.{both-true}
 use Rattle.limits.specs.Limits.{max-route-points, max-points, largest-list}
 use Rattle.geometry.specs.declared.Point.{Point}
 use Rattle.geometry.specs.declared.Role.{Role}
 use Rattle.geometry.specs.declared.Segment.{Segment}
 use Rattle.geometry.specs.declared.Stretch.{Stretch}
 use Rattle.geometry.specs.Points.{runs, points-from}
+use Rattle.geometry.specs.View.{points-length, runs-length}
 use Rattle.search.specs.declared.Bounds.{Bounds}
 use Rattle.search.specs.Stretches.{stretches, members, routes, all-runs, runs-in}
 use Rattle.search.specs.Search.{listing, common-xs}
 use Rattle.search.specs.Freely.{candidates}
-use Rattle.search.specs.Cost.{candidates-few, listed-few}
+use Rattle.search.specs.Cost.{candidates-few, listed-few, stretches-length}
 use Rattle.search_entry.specs.Entry.{counts-fit}
 use Rattle.search_entry.specs.Cases.{just-enough}
-
-pub both-true : (a b : Bool) → (a && b) ≡ true → (a ≡ true) × (b ≡ true)
-both-true true b e = (refl, e)
-both-true false b e = absurd (true≢false (sym e))
 
 -- ---- the runs of members with so many points each
 unfoldable pub runs-of : List ℕ → ℕ
 runs-of [] = 0
 runs-of (count ∷ counts) = (count - 1) + runs-of counts
-
-points-length : (points : List Float) (at n : ℕ) → length (points-from points at n) ≡ n
-unfolding points-from
-points-length points at zero = refl
-points-length points at (suc n) = ap suc (points-length points (suc at) n)
-
-runs-length : (ps : List Point) → length (runs ps) ≡ length ps - 1
-unfolding runs
-runs-length [] = refl
-runs-length (p ∷ []) = refl
-runs-length (p ∷ q ∷ ps) = omega (arith, runs-length (q ∷ ps))
-
-stretches-length : (role : Role) (pitch : Float) (ss : List Segment) → length (stretches role pitch ss) ≡ length ss
-unfolding stretches
-stretches-length role pitch [] = refl
-stretches-length role pitch (s ∷ ss) = ap suc (stretches-length role pitch ss)
 
 pub runs-are : (points : List Float) (role : Role) (pitch : Float) (starts counts : List ℕ) → length starts ≡ length counts → runs-in (members role pitch (routes points starts counts)) ≡ runs-of counts
 unfolding members routes all-runs runs-of

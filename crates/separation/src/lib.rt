@@ -3,10 +3,12 @@
 // Ported from cachanova/schemweave, commit c4a1a2c60a, crates/schemweave/src/boundary_bundles.rs
 // (Apache-2.0, see NOTICE): the end of plan_interior_collectors, and collector_has_lane_separation.
 ghost use mathlib.Core.Path.{_≡_};
+ghost use mathlib.Core.Bool.{cond};
 ghost use mathlib.Core.List.{List, [], _∷_, _++_, map};
 ghost use Prim.Native.Nat.{ℕ, _+_, _≤_, _<_};
 ghost use lib.ListN.{length, take};
 ghost use Rattle.limits.specs.Limits.{max-bundles};
+ghost use Rattle.binary64.specs.Order.{least, greatest};
 ghost use Rattle.geometry.specs.Points.{Route};
 ghost use Rattle.board.specs.Board.{Board};
 ghost use Rattle.search.specs.Search.{search-of};
@@ -57,27 +59,25 @@ pub fn collector_has_lane_separation(pitch: f64, x: f64, used: &[f64], count: us
     true
 }
 
-fn smallest_of(x: f64, used: &[f64], count: usize) -> f64
-    requires { ⌜ count ≤ length (now used) ⌝ }
-    ensures { λ r. ⌜ r ≡ smallest-of x (take count (now (used .entry))) ⌝ }
+// The larger or the smaller of two.
+fn extreme(larger: bool, x: f64, y: f64) -> f64
+    ensures { λ r. ⌜ r ≡ cond larger (greatest x y) (least x y) ⌝ }
 {
-    let mut least = x;
-    let mut i: usize = 0;
-    while i < count {
-        least = binary64::min(least, used[i]);
-        i += 1;
+    if larger {
+        return binary64::max(x, y);
     }
-    least
+    binary64::min(x, y)
 }
 
-fn largest_of(x: f64, used: &[f64], count: usize) -> f64
+// The largest or the smallest of x and those taken.
+fn extreme_of(larger: bool, x: f64, used: &[f64], count: usize) -> f64
     requires { ⌜ count ≤ length (now used) ⌝ }
-    ensures { λ r. ⌜ r ≡ largest-of x (take count (now (used .entry))) ⌝ }
+    ensures { λ r. ⌜ r ≡ cond larger (largest-of x (take count (now (used .entry)))) (smallest-of x (take count (now (used .entry)))) ⌝ }
 {
     let mut most = x;
     let mut i: usize = 0;
     while i < count {
-        most = binary64::max(most, used[i]);
+        most = extreme(larger, most, used[i]);
         i += 1;
     }
     most
@@ -90,12 +90,12 @@ fn moved(pitch: f64, role: Role, r: Bounds, x: f64, used: &[f64], count: usize) 
 {
     match role {
         Role::Input => plan_numbers::clamp(
-            smallest_of(x, used, count) - pitch,
+            extreme_of(false, x, used, count) - pitch,
             r.minimum,
             r.maximum,
         ),
         Role::Output => plan_numbers::clamp(
-            largest_of(x, used, count) + pitch,
+            extreme_of(true, x, used, count) + pitch,
             r.minimum,
             r.maximum,
         ),

@@ -10,6 +10,7 @@ use lib.IntN.{ℤ, pos}
 use lib.Ieee.{Float, nan, inf, fin, binary64, le, fits, isNan, nanBits, ofBits, toBits, ones, hid, top}
 use lib.Ieee.Bits.{is-false, ofBits-fits, toBits-ofBits, nanBits-is, nanBits-above}
 use lib.Ieee.Scale.{finite}
+use Rattle.binary64.specs.Bools.{all-but}
 use Rattle.binary64.specs.Sign.{no-exponent}
 use Rattle.binary64.specs.Accepted.{minus-zero, accepted}
 use Rattle.binary64.specs.Kind.{finite-between}
@@ -38,12 +39,6 @@ module _ (low high : Float) (n : ℕ) where
   pub minus-zero-bad : n ≡ 2 ^ 63 → number-of low high n ≡ Bad 7
   unfolding accepted minus-zero ofBits
   minus-zero-bad e = refused-by (rw e)
-
-  all-but : (a b c : Bool) → (a && (b && (false && c)) ≡ false) × (a && (b && (c && false)) ≡ false)
-  all-but true true true = (refl, refl)
-  all-but true true false = (refl, refl)
-  all-but true false c = (refl, refl)
-  all-but false b c = (refl, refl)
 
   pub below-bad : le low (ofBits binary64 n) ≡ false → number-of low high n ≡ Bad 7
   unfolding accepted

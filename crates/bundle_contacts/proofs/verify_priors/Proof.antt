@@ -5,11 +5,12 @@ use mathlib.Core.List.{map}
 use Prim.Native.Nat.{_≤_, _-_}
 use lib.ListN.{length, take}
 use denote.Ref.{now}
+use Rattle.board.specs.Lengths.{length-mapped}
 use Rattle.limits.specs.Limits.{max-bundles}
 use Rattle.route.specs.Slots.{routes-of}
 use Rattle.drawing.specs.Check.{walk, prior-tests}
 use Rattle.checks.specs.CheckRows.{drawn-of, chosen-by, AllTabled, Slotted}
-use Rattle.checks.specs.TestSteps.{length-mapped, tabled-at, priors-at, prior-on, prior-off, prior-end}
+use Rattle.checks.specs.TestSteps.{tabled-at, priors-at, prior-on, prior-off, prior-end}
 use borrow.Author.Needs.{needs}
 use Rattle.bundle_contacts.proofs.verify_priors.Statement.{statement}
 use Rattle.bundle_contacts.proofs.verify_priors.Tie as tie

@@ -39,20 +39,20 @@ returns-2 c =
     laws.treat-no-outputs b given (ranges-in (a .t .count) (a .ranges)) (take (a .count) (a .order .now)) (plan-in (a .t .count) (a .p))
     (o .result .rows) (o .result .count) (o .ensures (a .t .count) (s .pre .1 .1 .1) .are) (c .if2 .taken)
 
-slice-aggregate-inputs-extent : tie.Need-slice-aggregate-inputs-extent
-slice-aggregate-inputs-extent c = search needs
+slice-aggregate-extent : tie.Need-slice-aggregate-extent
+slice-aggregate-extent c = search needs
 
-inputs-extent-requires : tie.Need-inputs-extent-requires
-inputs-extent-requires c κs =
+extent-requires : tie.Need-extent-requires
+extent-requires c κs =
     let s = c .before .before .before .before .before .before .before .before .before .before .before .before .before .before .before in
     let i = c .before .before .before .before .before .before .before .before .of-role in
     (omega (arith, c .before .before .before .if1 .left), laws.listing-more (i .result .rows) (i .result .count) (s .args .t .count) max-bundles (s .pre .1 .0 .bundles-few) (i .ensures (s .args .t .count) (s .pre .1 .1 .1) .listed))
 
-slice-aggregate-outputs-extent : tie.Need-slice-aggregate-outputs-extent
-slice-aggregate-outputs-extent c = search needs
+slice-aggregate-extent-2 : tie.Need-slice-aggregate-extent-2
+slice-aggregate-extent-2 c = search needs
 
-outputs-extent-requires : tie.Need-outputs-extent-requires
-outputs-extent-requires c κs =
+extent-requires-2 : tie.Need-extent-requires-2
+extent-requires-2 c κs =
     let s = c .before .before .before .before .before .before .before .before .before .before .before .before .before .before .before .before .before in
     let o = c .before .before .before .before .before .before .before .before .before .of-role2 in
     (omega (arith, c .before .before .before .if2 .left), laws.listing-more (o .result .rows) (o .result .count) (s .args .t .count) max-bundles (s .pre .1 .0 .bundles-few) (o .ensures (s .args .t .count) (s .pre .1 .1 .1) .listed))
@@ -90,9 +90,9 @@ returns-3 c =
     λ b given k.
     laws.treat-both b given (ranges-in n (a .ranges)) (take (a .count) (a .order .now)) (plan-in n (a .p)) (getD (i .result .rows) 0 0) (getD (o .result .rows) 0 0)
     (drop 1 (take (i .result .count) (i .result .rows))) (drop 1 (take (o .result .count) (o .result .rows)))
-    (take (i .result .count) (i .result .rows)) (take (o .result .count) (o .result .rows)) (c .before .before .before .before .before .before .before .before .before .before .before .inputs-extent .result) (c .before .before .before .before .before .before .before .before .before .outputs-extent .result) (step-in n (c .before .before .before .before .settle .result))
+    (take (i .result .count) (i .result .rows)) (take (o .result .count) (o .result .rows)) (c .before .before .before .before .before .before .before .before .before .before .before .extent .result) (c .before .before .before .before .before .before .before .before .before .extent2 .result) (step-in n (c .before .before .before .before .settle .result))
     (rows.part-cons (i .result .rows) (i .result .count) 0 0 hi (ci .listed .count-in)) (rows.part-cons (o .result .rows) (o .result .count) 0 0 ho (co .listed .count-in))
-    (ci .are) (co .are) (c .before .before .before .before .before .before .before .before .before .before .before .inputs-extent .ensures n (ci .listed)) (c .before .before .before .before .before .before .before .before .before .outputs-extent .ensures n (co .listed))
+    (ci .are) (co .are) (c .before .before .before .before .before .before .before .before .before .before .before .extent .ensures n (ci .listed)) (c .before .before .before .before .before .before .before .before .before .extent2 .ensures n (co .listed))
     (c .before .before .before .before .settle .ensures b given (ranges-in n (a .ranges)) k)
 
 pub treat-spec : {M : Type 1} → statement M
@@ -103,10 +103,10 @@ treat-spec =
     of-role-requires-2
     returns
     returns-2
-    slice-aggregate-inputs-extent
-    inputs-extent-requires
-    slice-aggregate-outputs-extent
-    outputs-extent-requires
+    slice-aggregate-extent
+    extent-requires
+    slice-aggregate-extent-2
+    extent-requires-2
     slice-aggregate-settle
     slice-aggregate-settle-2
     settle-requires
