@@ -6,6 +6,9 @@ use std::fs;
 
 use bundle_stage::*;
 
+mod common;
+use common::{at, board as two_wires, node};
+
 fn file(name: &str) -> Vec<u8> {
     fs::read(format!("{}/{name}", env!("CARGO_MANIFEST_DIR"))).expect("a file of the repository")
 }
@@ -16,64 +19,25 @@ fn job(name: &str) -> (Board, Sheet) {
     (board, sheet)
 }
 
-fn at(x: f64, y: f64) -> Point {
-    Point { x, y }
-}
-
 fn from(start: Point, end: Point) -> Segment {
     Segment { start, end }
 }
 
-fn node(id: Id, x: f64, y: f64, width: f64, height: f64) -> Node {
-    Node {
-        id,
-        x,
-        y,
-        width,
-        height,
-    }
-}
-
-/// Wires 1 and 2 from node 1 to node 2, bundle 1; wire 3 below them, in no bundle. Bundle 1 has its
-/// collector at x = 180 from y = 40 to 60, and its spine at y = 50 from x = 40.
+/// The two wires of bundle 1, which has its collector at x = 180 from y = 40 to 60 and its spine at
+/// y = 50 from x = 40; wire 3 below them, in no bundle; and a node that no wire reaches.
 fn board() -> Board {
-    let source = Endpoint { node: 1, port: 1 };
-    let wire = |id, y| Edge {
-        id,
+    let mut board = two_wires();
+    let target = Endpoint { node: 2, port: 3 };
+    let points = vec![at(0.0, 120.0), at(200.0, 120.0)];
+    let source = board.edges[0].source;
+    board.edges.push(Edge {
+        id: 3,
         source,
-        target: Endpoint { node: 2, port: id },
-        points: vec![at(40.0, 50.0), at(60.0, 50.0), at(60.0, y), at(200.0, y)],
-    };
-    let mut plain = wire(3, 40.0);
-    plain.points = vec![at(0.0, 120.0), at(200.0, 120.0)];
-    Board {
-        options: Options {
-            port_stub: 10.0,
-            route_lane_gap: 10.0,
-            member_endpoint_reserve: 20.0,
-            ..Options::default()
-        },
-        nodes: vec![
-            node(1, 0.0, 30.0, 40.0, 40.0),
-            node(2, 200.0, 0.0, 40.0, 100.0),
-            node(3, 100.0, 200.0, 10.0, 10.0),
-        ],
-        ports: vec![Port {
-            node: 1,
-            id: 1,
-            side: Side::East,
-            offset: 20.0,
-        }],
-        edges: vec![wire(1, 40.0), wire(2, 60.0), plain],
-        bundles: vec![Bundle {
-            id: 1,
-            endpoint: source,
-            role: Role::Input,
-            width: 2,
-            members: vec![Member { edge: 1, lane: 0 }, Member { edge: 2, lane: 1 }],
-        }],
-        ..Board::default()
-    }
+        target,
+        points,
+    });
+    board.nodes.push(node(3, 100.0, 200.0, 10.0, 10.0));
+    board
 }
 
 /// The false joints of the board's sheet with a change.
