@@ -1,0 +1,72 @@
+// A job's bytes to its answer's, in lent slices: reading (1, 3 to 9), then the drawing of crate draw_job.
+//
+// Ported from cachanova/schemweave, commit c4a1a2c60a, crates/schemweave/src/boundary_bundles.rs
+// (Apache-2.0, see NOTICE).
+ghost use mathlib.Core.Path.{_≡_};
+ghost use Prim.Native.Nat.{_≤_};
+ghost use lib.ListN.{length};
+ghost use Rattle.limits.specs.Limits.{max-edges, max-members, answer-room, point-numbers, tap-numbers, slot-numbers, candidate-room};
+ghost use Rattle.promise.specs.Stage.{told};
+ghost use Rattle.draw_job.specs.JobTables.{Writes};
+use limits::ALL_SLOT_NUMBERS;
+use limits::FEW_ROUTES;
+use limits::FEW_SLOT_NUMBERS;
+
+// ---- the sheet (10, 11, 12, 14) and the answer
+
+// Reads the job and draws it, with the slots of the present routes its own: 32 where that is enough, as
+// most of a small board's time would go into clearing 256.
+pub fn read_and_draw(
+    job: &[u8],
+    given: &mut [f64],
+    sorted: &mut [f64],
+    edges: &mut [usize],
+    lanes: &mut [u32],
+    taps: &mut [f64],
+    counts: &mut [usize],
+    mask: &mut [bool],
+    scratch: &mut [f64],
+    answer: &mut [u8],
+) -> usize
+    requires { ⌜ (length (now given) ≡ point-numbers) × (answer-room ≤ length (now answer)) ⌝ }
+    requires { ⌜ candidate-room ≤ length (now sorted) ⌝ }
+    requires { ⌜ (length (now edges) ≡ max-members) × (length (now lanes) ≡ max-members) × (length (now taps) ≡ tap-numbers) × (length (now counts) ≡ max-edges) × (length (now mask) ≡ max-edges) × (length (now scratch) ≡ slot-numbers) ⌝ }
+    ensures { λ r. ⌜ Writes (now (answer .entry)) (now (answer .exit)) r (told (now (job .entry))) ⌝ }
+{
+    let r = job_reader::read_job(job, &mut given[..]);
+    if !r.ok {
+        return answer::write_notice(&mut answer[..], r.refusal);
+    }
+    let m = r.job.members.count;
+    let n = r.job.edges.count;
+    if n <= FEW_ROUTES {
+        let mut few = [0.0; FEW_SLOT_NUMBERS];
+        return draw_job::draw_in(
+            r.job,
+            &given[..],
+            &mut sorted[..],
+            &mut edges[..m],
+            &mut lanes[..m],
+            &mut taps[..],
+            &mut few[..],
+            &mut counts[..n],
+            &mut mask[..],
+            &mut scratch[..],
+            &mut answer[..],
+        );
+    }
+    let mut points = [0.0; ALL_SLOT_NUMBERS];
+    draw_job::draw_in(
+        r.job,
+        &given[..],
+        &mut sorted[..],
+        &mut edges[..m],
+        &mut lanes[..m],
+        &mut taps[..],
+        &mut points[..],
+        &mut counts[..n],
+        &mut mask[..],
+        &mut scratch[..],
+        &mut answer[..],
+    )
+}
