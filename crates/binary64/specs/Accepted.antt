@@ -1,8 +1,8 @@
--- The kinds of number that are handed over from outside, and which numbers of each are accepted; any other gets document 01's number 7: "a number not finite, minus zero, or out of range". Definitions only.
+-- The kinds of number that are handed over from outside, how each is taken, and which numbers of each are then accepted; any other gets document 01's number 7: "a number not finite, .. or out of range". Definitions only.
 -- Assumes nothing.
-use mathlib.Core.Bool.{false, Bool, true, not, _&&_}
+use mathlib.Core.Bool.{false, Bool, true, not, _&&_, cond}
 use lib.IntN.{pos}
-use lib.Ieee.{Float, fin, nan, inf, le}
+use lib.Ieee.{Float, fin, nan, inf, le, eq}
 use Prim.Native.Nat.{ℕ}
 use lib.Dec.{eqb}
 use lib.Ieee.Scale.{finite}
@@ -15,7 +15,11 @@ minus-zero nan = false
 minus-zero (inf s) = false
 minus-zero (fin s m e) = s && eqb m 0
 
--- finite, not minus zero, and from low to high
+-- F-1: "minus zero is to be taken as plus zero". IEEE 754 holds the two equal, and no other number equal to them
+unfoldable pub plus-zero : Float → Float
+plus-zero x = cond (eq x zero64) zero64 x
+
+-- of a number as it was taken: finite, not minus zero, and from low to high
 unfoldable pub accepted : Float → Float → Float → Bool
 accepted low high x = finite x && (not (minus-zero x) && (le low x && le x high))
 

@@ -12,7 +12,8 @@ use lib.ListN.{length}
 use Rattle.limits.specs.Limits.{max-route-points, max-points, max-bundle-members, max-members, max-lane}
 use Rattle.wire.specs.Read.{Read, refused, got, after, field, limited, at-most}
 use Rattle.binary64.specs.Accepted.{accepted, is-coordinate, is-size, is-option}
-use Rattle.wire.specs.Accept.{taken, number-in, coordinate, size}
+use Rattle.binary64.specs.Kind.{plus-zero-fits}
+use Rattle.wire.specs.Accept.{number-in-bits, taken, number-in, coordinate, size}
 use Rattle.geometry.specs.declared.Point.{Point}
 use Rattle.geometry.specs.declared.Side.{Side}
 use Rattle.geometry.specs.declared.Side.the-variants.{North, East, South, West}
@@ -83,11 +84,11 @@ picked false x y s t r e = let z : _≡_ {A = ℕ} 0 1 = cc in absurd (omega ari
 pub number-good : (low high : Float) (s : List ℕ) (x : Float) (t : List ℕ) → number-in low high s ≡ got x t → GoodNumber (accepted low high) x × (length s ≡ 8 + length t)
 unfolding taken
 number-good low high s x t e =
-    let a = came (field 8 s) (λ b. taken low high (ofBits binary64 b)) x t e in
+    let a = came (field 8 s) (λ b. taken low high (number-in-bits b)) x t e in
     let f = field-takes 8 s (a .value) (a .rest) (a .first) in
-    let c = picked (accepted low high (ofBits binary64 (a .value))) (ofBits binary64 (a .value)) x (a .rest) t 7 (a .second) in
+    let c = picked (accepted low high (number-in-bits (a .value))) (number-in-bits (a .value)) x (a .rest) t 7 (a .second) in
     let l = ap length (c .2) in
-    (subst (GoodNumber (accepted low high)) (c .1) (record { in-range = c .0; of-format = ofBits-fits binary64 (a .value) }), omega (arith, f .1, l))
+    (subst (GoodNumber (accepted low high)) (c .1) (record { in-range = c .0; of-format = plus-zero-fits (ofBits binary64 (a .value)) (ofBits-fits binary64 (a .value)) }), omega (arith, f .1, l))
 
 pub point-good : (s : List ℕ) (p : Point) (t : List ℕ) → point s ≡ got p t → GoodPoint p × (length s ≡ 16 + length t)
 point-good s p t e =

@@ -100,6 +100,13 @@ bundle-runs = max-bundle-members * max-route-points
 abbrev pub candidate-room : ℕ
 candidate-room = bundle-runs + 1
 
+-- the coordinates of a route, and of the routes of a bundle's members, each in a row of its own
+abbrev pub route-numbers : ℕ
+route-numbers = 2 * max-route-points
+
+abbrev pub member-numbers : ℕ
+member-numbers = max-bundle-members * route-numbers
+
 -- the longest list of a search that is called by itself: 2,048 points in routes of at most 64 have at most 2,016 runs, each with one candidate, and there is the desired x
 abbrev pub largest-list : ℕ
 largest-list = 2017

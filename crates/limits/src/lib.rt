@@ -75,6 +75,11 @@ pub const BUNDLE_RUNS: usize = MAX_BUNDLE_MEMBERS * MAX_ROUTE_POINTS;
 // The plan's list of candidates: one for each run, and the desired x.
 pub const CANDIDATE_ROOM: usize = BUNDLE_RUNS + 1;
 
+// The coordinates of a route, and of the routes of a bundle's members, each in a row of its own.
+pub const ROUTE_NUMBERS: usize = 2 * MAX_ROUTE_POINTS;
+
+pub const MEMBER_NUMBERS: usize = MAX_BUNDLE_MEMBERS * ROUTE_NUMBERS;
+
 // The longest list of a search that is called by itself: a candidate for each run, and the desired x.
 pub const LARGEST_LIST: usize = 2017;
 

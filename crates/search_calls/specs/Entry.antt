@@ -2,13 +2,13 @@
 -- Assumes nothing.
 use mathlib.Core.Path.{_≡_}
 use mathlib.Core.Bool.{Bool, true, false, not, _&&_, cond}
-use mathlib.Core.List.{List, [], _∷_, _++_}
+use mathlib.Core.List.{List, [], _∷_, _++_, map}
 use Prim.Native.Nat.{ℕ, _+_, _-_, _*_}
 use lib.Dec.{leb, eqb}
 use lib.ListN.{length, drop}
 use lib.Ieee.{Float}
 use Rattle.limits.specs.Limits.{max-bundle-members, max-route-points, max-points, max-tap-visits, largest-list, search-scratch, promotion-scratch, most-kept}
-use Rattle.binary64.specs.Accepted.{is-coordinate, is-option, zero64}
+use Rattle.binary64.specs.Accepted.{plus-zero, is-coordinate, is-option, zero64}
 use Rattle.geometry.specs.declared.Point.{Point}
 use Rattle.geometry.specs.declared.Role.{Role}
 use Rattle.geometry.specs.declared.Role.the-variants.{Input, Output}
@@ -21,6 +21,10 @@ use Rattle.search_calls.specs.declared.SearchAnswer.{SearchAnswer}
 use Rattle.search.specs.Stretches.{members, routes}
 use Rattle.search.specs.Search.{Listing, listing, spent, first, mark, values, common-xs}
 use Rattle.search.specs.Promotion.{Promotion, promotion-xs, shortened, promotion-values, promotion-mark, promotion-left}
+
+-- ---- F-1: minus zero is taken as plus zero in "every public entry that gives 7 for it", before anything is looked at
+abbrev pub plus-zeros : List Float → List Float
+plus-zeros = map plus-zero
 
 -- ---- refusals
 -- 4: a member's points are not all within the points lent; or a member has a start and no count, or a count and no start

@@ -1,0 +1,15 @@
+use lib.Ieee.{ofBits}
+use Rattle.binary64.specs.Accepted.{plus-zero}
+use Rattle.binary64.proofs.plus_zero.Statement.{statement}
+use Rattle.binary64.proofs.plus_zero.Tie as tie
+
+returns : tie.Need-returns
+unfolding ofBits plus-zero
+returns c = rw (c .if1 .taken)
+
+returns-2 : tie.Need-returns-2
+unfolding ofBits plus-zero
+returns-2 c = rw (c .if1 .left)
+
+pub plus-zero-spec : {M : Type 1} → statement M
+plus-zero-spec = tie.close (tie.spec returns returns-2)
