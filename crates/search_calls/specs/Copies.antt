@@ -17,11 +17,11 @@ use Rattle.binary64.specs.Accepted.{plus-zero, is-option}
 use Rattle.binary64.specs.Kind.{plus-zero-again}
 use Rattle.geometry.specs.declared.Point.{Point}
 use Rattle.geometry.specs.Points.{point-at, points-from}
-use Rattle.search.specs.Stretches.{members, routes, Windows}
+use Rattle.search.specs.Stretches.{members, routes}
 use Rattle.search.specs.Search.{common-xs}
 use Rattle.search_calls.specs.declared.SearchAnswer.{SearchAnswer}
 use Rattle.search_calls.specs.Entry.{plus-zeros, places-fit, counts-fit, refusal, role-of, Said, said, refused, bounds, bounds-fit, collector-bounds, collector-bounds-fit, search-room, search-number, search-says, promotion-room, promotion-number, promotion-says, promoted, Replied, Untouched}
-use Rattle.search_calls.specs.Copied.{windows-fit, Put, Copied}
+use Rattle.search_calls.specs.Copied.{windows-fit, Fitting, Put, Copied}
 use Rattle.search_calls.specs.RefusalSteps.{windows, Promise}
 
 -- ---- one route
@@ -111,12 +111,6 @@ rows-front n old new h e =
     }
 
 -- ---- what the test on places and counts says
-pub record Fitting (points : List Float) (starts counts : List ℕ) : Type 0 where
-  pub placed : places-fit points starts counts ≡ true
-  pub at-places : Windows points starts counts
-  pub few : length starts ≤ max-bundle-members
-  pub short : (m : ℕ) → m < length starts → getD counts m 0 ≤ max-route-points
-
 each-short : (counts : List ℕ) (left : ℕ) → counts-fit left counts ≡ true → (m : ℕ) → m < length counts → getD counts m 0 ≤ max-route-points
 unfolding counts-fit
 each-short [] left e m h = absurd (omega arith)
