@@ -9,6 +9,7 @@ use std::time::{Duration, Instant};
 
 use jobs::families::FAMILIES;
 use jobs::mutations::Mutations;
+use jobs::numbers::{fields, has_minus_zero};
 
 use crate::check::{Checker, ENOUGH, SHORT, Same, Stage};
 use crate::outside::{End, PANICKED, end_after, forked, shared_words, wait_for_any};
@@ -16,7 +17,7 @@ use crate::outside::{End, PANICKED, end_after, forked, shared_words, wait_for_an
 /// Jobs of each family among `CYCLE` that follow one another, and mutated ones. Few are of the
 /// families that come around after some thousands of jobs, or whose jobs take long.
 const SHARES: [u64; KINDS] = [
-    64, 48, 48, 64, 96, 24, 64, 8, 24, 12, 1, 32, 24, 32, 1, 2, 480,
+    64, 48, 48, 64, 96, 24, 64, 8, 24, 12, 1, 32, 24, 64, 32, 1, 2, 416,
 ];
 const KINDS: usize = FAMILIES.len() + 1;
 const MUTATED: usize = FAMILIES.len();
@@ -37,6 +38,15 @@ pub struct Settings {
     pub workers: u64,
     /// Seconds after which a job is said to run on.
     pub guard: u32,
+    /// The family whose jobs alone are run, by its place, or the mutated ones alone.
+    pub only: Option<usize>,
+}
+
+impl Settings {
+    /// The kind of the job at an index, and its place among those of its kind.
+    fn place(&self, index: u64) -> (usize, u64) {
+        self.only.map_or_else(|| place(index), |kind| (kind, index))
+    }
 }
 
 impl Default for Settings {
@@ -48,6 +58,7 @@ impl Default for Settings {
             seconds: 7_200,
             workers: 1,
             guard: 30,
+            only: None,
         }
     }
 }
@@ -92,10 +103,12 @@ pub struct Outcome {
     pub failure: Option<(u64, How)>,
 }
 
-/// Jobs by kind and number, and calls by the length of the answer's buffer.
+/// Jobs by kind and number, those that have a minus zero in a number field, and calls by the length of
+/// the answer's buffer.
 #[derive(Clone, Debug, Default, Eq, PartialEq)]
 pub struct Counts {
     pub jobs: [[u64; NUMBERS]; KINDS],
+    pub with_minus_zeros: u64,
     pub enough: [u64; ENOUGH.len()],
     pub short: [u64; SHORT.len() + 1],
 }
@@ -104,11 +117,14 @@ impl Counts {
     /// Every count, always in the same order.
     fn all(&mut self) -> impl Iterator<Item = &mut u64> {
         let jobs = self.jobs.iter_mut().flatten();
-        jobs.chain(&mut self.enough).chain(&mut self.short)
+        jobs.chain([&mut self.with_minus_zeros])
+            .chain(&mut self.enough)
+            .chain(&mut self.short)
     }
 
-    fn add(&mut self, kind: usize, same: Same) {
+    fn add(&mut self, kind: usize, job: &[u8], same: Same) {
         self.jobs[kind][usize::from(same.number)] += 1;
+        self.with_minus_zeros += u64::from(has_minus_zero(job, &fields(job)));
         self.enough[same.enough] += 1;
         self.short[same.short] += 1;
     }
@@ -166,6 +182,11 @@ fn name(kind: usize) -> &'static str {
     FAMILIES.get(kind).map_or("mutated", |family| family.name)
 }
 
+/// The place of a family, or of the mutated jobs, by name.
+pub fn kind(family: &str) -> Option<usize> {
+    (0..KINDS).find(|&kind| name(kind) == family)
+}
+
 /// The jobs of a seed by index.
 struct Jobs {
     seed: u64,
@@ -212,9 +233,10 @@ fn work(settings: &Settings, stage: Stage, first: u64, board: &Board, stop: &Ato
         }
         board.begin(index);
         end_after(settings.guard);
-        let (kind, place) = place(index);
-        match checker.check(&jobs.job(kind, place), index) {
-            Ok(same) => counts.add(kind, same),
+        let (kind, place) = settings.place(index);
+        let job = jobs.job(kind, place);
+        match checker.check(&job, index) {
+            Ok(same) => counts.add(kind, &job, same),
             Err(what) => {
                 println!("index {index}: {what}");
                 status = DIFFERS;
@@ -276,7 +298,7 @@ pub fn fuzz(settings: &Settings, stage: Stage) -> bool {
     print_counts(&outcome.counts);
     let total = outcome.counts.total();
     if let Some((index, how)) = outcome.failure {
-        let (kind, place) = place(index);
+        let (kind, place) = settings.place(index);
         println!("FAILS: seed {} index {index}: {how}", settings.seed);
         println!("it is job {place} of the kind {}", name(kind));
         // A panic may be the generator's own.
@@ -284,9 +306,13 @@ pub fn fuzz(settings: &Settings, stage: Stage) -> bool {
             let job = Jobs::new(settings.seed).job(kind, place);
             println!("its bytes: {}", hexadecimal(&job));
         }
+        let only = settings
+            .only
+            .map(|kind| format!(" --family {}", name(kind)));
         println!(
-            "again: compare fuzz --seed {} --from {index} --jobs 1",
-            settings.seed
+            "again: compare fuzz --seed {} --from {index} --jobs 1{}",
+            settings.seed,
+            only.unwrap_or_default()
         );
         return false;
     }
@@ -320,7 +346,9 @@ fn print_counts(counts: &Counts) {
     println!();
     let mut all = [0; NUMBERS];
     for (kind, numbers) in counts.jobs.iter().enumerate() {
-        row(name(kind), numbers);
+        if numbers.iter().any(|&count| count > 0) {
+            row(name(kind), numbers);
+        }
         for (sum, count) in all.iter_mut().zip(numbers) {
             *sum += count;
         }
@@ -331,6 +359,10 @@ fn print_counts(counts: &Counts) {
     println!(
         "mutated jobs: {} accepted, {deep} refused with 10 to 14",
         mutated[0]
+    );
+    println!(
+        "jobs with a minus zero in a number field: {}",
+        counts.with_minus_zeros
     );
     println!("calls by the length of the answer's buffer:");
     for (length, count) in ENOUGH.iter().zip(&counts.enough) {

@@ -9,8 +9,8 @@ use compare::fuzz::{self, Settings};
 use compare::time::Whose;
 use compare::{boards, heap, joints, outside, report, stack, time};
 
-const USAGE: &str = "compare fuzz [--seed S] [--from I] [--jobs N] [--seconds T] [--workers W]
-                                        same bytes on all families and mutated jobs
+const USAGE: &str = "compare fuzz [--seed S] [--from I] [--jobs N] [--seconds T] [--workers W] [--family F]
+                                        same bytes on all families and mutated jobs, or on one of them
 compare heap [SEED [COUNT]]             same bytes, buffers of exact size on the heap; for memcheck
 compare joints [SEED [COUNT]]           false joints before and after the last shift, COUNT jobs of each
                                         family
@@ -82,6 +82,10 @@ fn settings(words: &[&str]) -> Result<Settings, String> {
         let [name, value] = *pair else {
             return Err(USAGE.to_string());
         };
+        if name == "--family" {
+            settings.only = Some(fuzz::kind(value).ok_or("no such family")?);
+            continue;
+        }
         let field = match name {
             "--seed" => &mut settings.seed,
             "--from" => &mut settings.from,

@@ -7,6 +7,7 @@ use std::hint::black_box;
 use compare::check::Stage;
 use compare::fuzz::{How, Outcome, Settings, run};
 use compare::outside::stage;
+use jobs::numbers::{fields, has_minus_zero};
 
 const SIGILL: i32 = 4;
 const SIGFPE: i32 = 8;
@@ -38,6 +39,15 @@ fn says_11_for_14(job: &[u8], answer: &mut [u8]) -> usize {
     let count = stage(job, answer);
     if count == 6 && answer[5] == 14 {
         answer[5] = 11;
+    }
+    count
+}
+
+fn says_7_for_minus_zero(job: &[u8], answer: &mut [u8]) -> usize {
+    let count = stage(job, answer);
+    if accepted(count) && has_minus_zero(job, &fields(job)) {
+        answer[..6].copy_from_slice(&[0, 0, 0, 2, 1, 7]);
+        return 6;
     }
     count
 }
@@ -133,9 +143,10 @@ fn runs_on(job: &[u8], answer: &mut [u8]) -> usize {
     count
 }
 
-const WRONG: [(&str, Stage, &[How]); 13] = [
+const WRONG: [(&str, Stage, &[How]); 14] = [
     ("flips a byte", flips_a_byte, &[How::Differs]),
     ("11 for 14", says_11_for_14, &[How::Differs]),
+    ("7 for minus zero", says_7_for_minus_zero, &[How::Differs]),
     ("past the answer", writes_past_the_answer, &[How::Differs]),
     (
         "in a short buffer",

@@ -4,11 +4,10 @@ use oracle::calls::{call, op};
 use oracle::job::Job;
 use oracle::wire::Writer;
 
-use crate::boards;
-use crate::draft::Scale;
-use crate::families::{self, FAMILIES};
+use crate::families::{FAMILIES, any_board};
 use crate::floats::{Palette, clean, near, power};
 use crate::rng::Rng;
+use crate::zeros::put_in_search;
 
 pub struct Kind {
     pub name: &'static str,
@@ -390,9 +389,17 @@ fn some_place(rng: &mut Rng, palette: &Palette, points: &[(f64, f64)], length: f
 }
 
 fn search(rng: &mut Rng, _: u64) -> Vec<u8> {
-    if rng.chance(1, 40) {
-        return many_candidates(rng);
+    let mut record = match rng.chance(1, 40) {
+        true => many_candidates(rng),
+        false => some_search(rng),
+    };
+    if rng.chance(1, 4) {
+        put_in_search(rng, &mut record);
     }
+    record
+}
+
+fn some_search(rng: &mut Rng) -> Vec<u8> {
     let palette = Palette::new(rng);
     let operation = rng.pick(&[op::SEARCH, op::SEARCH, op::COMMON, op::PROMOTION]);
     let role = rng.below(2) as u8;
@@ -513,37 +520,15 @@ fn read(rng: &mut Rng, seed: u64) -> Vec<u8> {
     out.bytes
 }
 
-/// A board with ids that are places.
-fn board(rng: &mut Rng, seed: u64) -> Job {
-    match rng.below(20) {
-        0..=5 => families::small_draft(rng).job(&Scale::ONE),
-        6..=8 => families::realistic_draft(rng).job(&Scale::ONE),
-        9..=10 => families::grid_job(rng),
-        11..=13 => families::adversarial_job(rng),
-        14 => boards::random(rng).job(&Scale::ONE),
-        15 => match rng.below(2) {
-            0 => boards::degenerate(rng).job(&Scale::ONE),
-            _ => families::depths_job(rng),
-        },
-        16 => boards::nothing_common(rng).job(&Scale::ONE),
-        17 => match rng.below(2) {
-            0 => families::clamp_job(rng),
-            _ => boards::narrow(rng).job(&Scale::ONE),
-        },
-        18 => families::fans_job(rng),
-        _ => families::grants_job(seed, rng.below(10_000) as u64),
-    }
-}
-
 fn plan(rng: &mut Rng, seed: u64) -> Vec<u8> {
     let mut out = Writer::new();
     out.u8(op::PLANNING);
-    out.raw(&board(rng, seed).encode());
+    out.raw(&any_board(rng, seed).encode());
     out.bytes
 }
 
 fn range(rng: &mut Rng, seed: u64) -> Vec<u8> {
-    let job = board(rng, seed);
+    let job = any_board(rng, seed);
     let operation = rng.pick(&[
         op::DEPTH_OFFSETS,
         op::CORRIDORS,
@@ -573,7 +558,7 @@ fn range(rng: &mut Rng, seed: u64) -> Vec<u8> {
 }
 
 fn sheet(rng: &mut Rng, seed: u64) -> Vec<u8> {
-    let mut job = board(rng, seed);
+    let mut job = any_board(rng, seed);
     let mut plan = Writer::new();
     put_plan(rng, &mut plan, &job);
     let record = |operation: u8, job: &Job| {

@@ -3,7 +3,7 @@
 
 use std::collections::BTreeMap;
 
-use oracle::job::{Job, JobBundle, JobEdge, JobMember, JobNode, JobPort};
+use oracle::job::{Job, JobBundle, JobEdge, JobMember, JobNode, JobPort, plus};
 
 use crate::rng::Rng;
 
@@ -231,11 +231,6 @@ impl Scale {
     }
 }
 
-/// Plus zero for either zero: a job has no minus zero.
-pub fn plus(value: f64) -> f64 {
-    if value == 0.0 { 0.0 } else { value }
-}
-
 /// Gives nodes, ports, edges and bundles ids that are not their places.
 pub fn rename(job: &mut Job, rng: &mut Rng) {
     let mut names = |count: usize| {
@@ -248,32 +243,38 @@ pub fn rename(job: &mut Job, rng: &mut Rng) {
     let nodes = names(job.nodes.len());
     let edges = names(job.edges.len());
     let bundles = names(job.bundles.len());
+    rename_by(job, &nodes, &edges, &bundles, 1);
+}
+
+/// Gives nodes, edges and bundles, whose ids are places, these ids; a node's ports are numbered from
+/// `first_port` on.
+pub fn rename_by(job: &mut Job, nodes: &[u32], edges: &[u32], bundles: &[u32], first_port: u32) {
     // Ports need only differ within a node: small numbers, many of them alike.
     let mut per_node = BTreeMap::new();
     let ports = job
         .ports
         .iter()
         .map(|port| {
-            let next = per_node.entry(port.node).or_insert(0_u32);
+            let next = per_node.entry(port.node).or_insert(first_port);
             *next += 1;
-            *next
+            *next - 1
         })
         .collect::<Vec<_>>();
-    for (row, &id) in job.nodes.iter_mut().zip(&nodes) {
+    for (row, &id) in job.nodes.iter_mut().zip(nodes) {
         row.id = id;
     }
     for (row, &id) in job.ports.iter_mut().zip(&ports) {
         row.node = nodes[row.node as usize];
         row.id = id;
     }
-    for (row, &id) in job.edges.iter_mut().zip(&edges) {
+    for (row, &id) in job.edges.iter_mut().zip(edges) {
         row.id = id;
         row.source_node = nodes[row.source_node as usize];
         row.source_port = ports[row.source_port as usize];
         row.target_node = nodes[row.target_node as usize];
         row.target_port = ports[row.target_port as usize];
     }
-    for (row, &id) in job.bundles.iter_mut().zip(&bundles) {
+    for (row, &id) in job.bundles.iter_mut().zip(bundles) {
         row.id = id;
         row.node = nodes[row.node as usize];
         row.port = ports[row.port as usize];

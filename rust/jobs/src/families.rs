@@ -1,12 +1,13 @@
 //! The families of jobs. A job is fixed by its family, the seed and its place.
 
 use oracle::calls::{call, op};
-use oracle::job::Job;
+use oracle::job::{Job, plus};
 
 use crate::boards;
-use crate::draft::{Draft, DraftBundle, EAST, INPUT, OUTPUT, Scale, WEST, plus, rename};
+use crate::draft::{Draft, DraftBundle, EAST, INPUT, OUTPUT, Scale, WEST, rename};
 use crate::floats::{LARGEST, Palette, clean, near, power, step};
 use crate::rng::Rng;
+use crate::zeros;
 
 /// A family and how many of its jobs the distribution runs.
 pub struct Family {
@@ -22,7 +23,7 @@ impl Family {
     }
 }
 
-pub const FAMILIES: [Family; 16] = [
+pub const FAMILIES: [Family; 17] = [
     Family {
         name: "small",
         shows: "realistic, one or two bands, two or three members",
@@ -102,6 +103,12 @@ pub const FAMILIES: [Family; 16] = [
         make: fans,
     },
     Family {
+        name: "zeros",
+        shows: "minus zeros in number fields, alone in each kind and many at once",
+        count: 30_000,
+        make: zeros::job,
+    },
+    Family {
         name: "damaged",
         shows: "flipped bytes, extra bytes, fields out of range, ids twice or unknown",
         count: 40_000,
@@ -123,6 +130,28 @@ pub const FAMILIES: [Family; 16] = [
 
 pub fn family(name: &str) -> Option<&'static Family> {
     FAMILIES.iter().find(|family| family.name == name)
+}
+
+/// A board of a family, with ids that are places.
+pub fn any_board(rng: &mut Rng, seed: u64) -> Job {
+    match rng.below(20) {
+        0..=5 => small_draft(rng).job(&Scale::ONE),
+        6..=8 => realistic_draft(rng).job(&Scale::ONE),
+        9..=10 => grid_job(rng),
+        11..=13 => adversarial_job(rng),
+        14 => boards::random(rng).job(&Scale::ONE),
+        15 => match rng.below(2) {
+            0 => boards::degenerate(rng).job(&Scale::ONE),
+            _ => depths_job(rng),
+        },
+        16 => boards::nothing_common(rng).job(&Scale::ONE),
+        17 => match rng.below(2) {
+            0 => clamp_job(rng),
+            _ => boards::narrow(rng).job(&Scale::ONE),
+        },
+        18 => fans_job(rng),
+        _ => grants_job(seed, rng.below(10_000) as u64),
+    }
 }
 
 /// A job of a board, with ids that mostly are not places.
@@ -579,7 +608,7 @@ fn set_length(bytes: &mut [u8], really: bool) {
     }
 }
 
-/// A number that 7 is due for, or one right at a limit.
+/// A number that 7 is due for, one right at a limit, or minus zero.
 fn odd_number(rng: &mut Rng) -> f64 {
     match rng.below(10) {
         0 => f64::NAN,

@@ -1,7 +1,8 @@
 //! Numbers that are awkward for binary64: near coincidences, subnormals, large ones, sums that
 //! round.
 
-use crate::draft::plus;
+use oracle::job::plus;
+
 use crate::rng::Rng;
 
 pub const LARGEST: f64 = 1_073_741_824.0; // 2^30

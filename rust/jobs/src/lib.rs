@@ -10,6 +10,8 @@ pub mod draft;
 pub mod families;
 pub mod floats;
 pub mod mutations;
+pub mod numbers;
 pub mod rng;
 pub mod stored;
 pub mod survey;
+pub mod zeros;

@@ -1,13 +1,13 @@
 //! Mutations of accepted jobs that keep them jobs: most are still accepted, or refused by the
 //! drawing and not by the reader.
 
-use oracle::job::{self, Job, JobBundle, JobEdge};
+use oracle::job::{self, Job, JobBundle, JobEdge, plus};
 
 use crate::damages::damage;
-use crate::draft::plus;
 use crate::families::{family, paid};
 use crate::floats::{LARGEST, clean, near, power, step};
 use crate::rng::Rng;
+use crate::zeros::put_in_job;
 
 /// Mutated jobs of one accepted job, so that few have to be looked for.
 const OF_ONE: u64 = 16;
@@ -63,6 +63,9 @@ impl Mutations {
         }
         let mut bytes = job.encode();
         if rng.chance(1, 8) {
+            put_in_job(&mut rng, &mut bytes);
+        }
+        if rng.chance(1, 8) {
             damage(&mut bytes, &mut rng);
         }
         bytes
@@ -107,23 +110,22 @@ fn change(job: &mut Job, from: &Accepted, rng: &mut Rng) {
     }
 }
 
-/// Numbers of one kind.
 #[derive(Clone, Copy)]
-enum Kind {
+pub(crate) enum Axis {
     X,
     Y,
 }
 
-/// The coordinates of one kind, nodes' before points'.
-fn coordinates(job: &mut Job, kind: Kind) -> Vec<&mut f64> {
-    let nodes = job.nodes.iter_mut().map(|node| match kind {
-        Kind::X => &mut node.x,
-        Kind::Y => &mut node.y,
+/// The coordinates of one axis, nodes' before points'.
+pub(crate) fn coordinates(job: &mut Job, axis: Axis) -> Vec<&mut f64> {
+    let nodes = job.nodes.iter_mut().map(|node| match axis {
+        Axis::X => &mut node.x,
+        Axis::Y => &mut node.y,
     });
     let points = job.edges.iter_mut().flat_map(|edge| &mut edge.points);
-    let points = points.map(|point| match kind {
-        Kind::X => &mut point.0,
-        Kind::Y => &mut point.1,
+    let points = points.map(|point| match axis {
+        Axis::X => &mut point.0,
+        Axis::Y => &mut point.1,
     });
     nodes.chain(points).collect()
 }
@@ -137,9 +139,9 @@ fn any_of<'job, T>(list: &'job mut [T], rng: &mut Rng) -> Option<&'job mut T> {
 }
 
 /// Another number near the old one, at another coordinate, or at an option's distance from either.
-fn moved(job: &mut Job, kind: Kind, old: f64, rng: &mut Rng) -> f64 {
+fn moved(job: &mut Job, axis: Axis, old: f64, rng: &mut Rng) -> f64 {
     let options = job.options();
-    let all = coordinates(job, kind);
+    let all = coordinates(job, axis);
     let other = match all.len() {
         0 => old,
         count => *all[rng.below(count)],
@@ -167,32 +169,32 @@ fn move_run(job: &mut Job, rng: &mut Rng) {
     let (id, place) = (edge.id, rng.below(runs));
     let level = edge.points[place].1 == edge.points[place + 1].1;
     let along = rng.chance(1, 3);
-    let kind = if level == along { Kind::X } else { Kind::Y };
-    let value = |point: (f64, f64)| match kind {
-        Kind::X => point.0,
-        Kind::Y => point.1,
+    let axis = if level == along { Axis::X } else { Axis::Y };
+    let value = |point: (f64, f64)| match axis {
+        Axis::X => point.0,
+        Axis::Y => point.1,
     };
     let old = value(edge.points[place]);
-    let to = moved(job, kind, old, rng);
+    let to = moved(job, axis, old, rng);
     let edge = job.edges.iter_mut().find(|edge| edge.id == id);
     let ends = &mut edge.expect("the edge is there").points[place..=place + 1];
     let ends = if along { &mut ends[..1] } else { ends };
     for end in ends {
-        match kind {
-            Kind::X => end.0 = to,
-            Kind::Y => end.1 = to,
+        match axis {
+            Axis::X => end.0 = to,
+            Axis::Y => end.1 = to,
         }
     }
 }
 
 /// Moves all coordinates that are equal to one of them.
 fn move_line(job: &mut Job, rng: &mut Rng) {
-    let kind = rng.pick(&[Kind::X, Kind::Y]);
-    let Some(old) = any_of(&mut coordinates(job, kind), rng).map(|value| **value) else {
+    let axis = rng.pick(&[Axis::X, Axis::Y]);
+    let Some(old) = any_of(&mut coordinates(job, axis), rng).map(|value| **value) else {
         return;
     };
-    let to = moved(job, kind, old, rng);
-    for value in coordinates(job, kind) {
+    let to = moved(job, axis, old, rng);
+    for value in coordinates(job, axis) {
         if *value == old {
             *value = to;
         }
@@ -227,13 +229,13 @@ fn move_number(job: &mut Job, rng: &mut Rng) {
             }
         }
         _ => {
-            let kind = rng.pick(&[Kind::X, Kind::Y]);
-            let count = coordinates(job, kind).len();
+            let axis = rng.pick(&[Axis::X, Axis::Y]);
+            let count = coordinates(job, axis).len();
             if count > 0 {
                 let place = rng.below(count);
-                let old = *coordinates(job, kind)[place];
-                let to = moved(job, kind, old, rng);
-                *coordinates(job, kind)[place] = to;
+                let old = *coordinates(job, axis)[place];
+                let to = moved(job, axis, old, rng);
+                *coordinates(job, axis)[place] = to;
             }
         }
     }

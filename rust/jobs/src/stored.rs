@@ -10,6 +10,7 @@ use oracle::wire::Writer;
 
 use crate::cases;
 use crate::families::family;
+use crate::numbers::{has_minus_zero, search_fields};
 use crate::survey::{Shown, lone_without_x, look, marks};
 
 const SEED: u64 = 1;
@@ -111,6 +112,18 @@ const WANTED: &[Wanted] = wanted! {
     "accepted", "degenerate", 12, 500, |shown, _| accepted(shown);
     "accepted", "clamp", 4, 400, |shown, _| accepted(shown);
     "accepted", "realistic", 3, 2000, |shown, _| accepted(shown) && shown.bundles > 3;
+    "minus zero in an option", "zeros", 4, 600, |shown, _| accepted(shown) && shown.minus_zeros[0];
+    "minus zero as a coordinate", "zeros", 6, 600, |shown, _| {
+        accepted(shown) && shown.minus_zeros[1]
+    };
+    "minus zero as a size", "zeros", 4, 600, |shown, _| accepted(shown) && shown.minus_zeros[2];
+    "minus zero as an offset", "zeros", 4, 600, |shown, _| accepted(shown) && shown.minus_zeros[3];
+    "minus zeros, number 8 or 9", "zeros", 3, 700, |shown, _| {
+        matches!(shown.number, 8 | 9) && shown.minus_zeros.contains(&true)
+    };
+    "minus zeros, refused by the drawing", "zeros", 6, 600, |shown, _| {
+        matches!(shown.number, 10..=12) && shown.minus_zeros.contains(&true)
+    };
 };
 
 /// Jobs that are written here byte by byte.
@@ -149,6 +162,23 @@ struct Quota {
     each: usize,
     most_bytes: usize,
     tries: u64,
+}
+
+/// Classes of which fewer are kept.
+const FULL: &str = "op 22 32 kept";
+const MINUS_ZERO: &str = "minus zero";
+
+impl Quota {
+    /// How many cases of a class are kept.
+    fn most(&self, class: &str) -> usize {
+        if class == FULL {
+            4
+        } else if class.ends_with(MINUS_ZERO) {
+            8
+        } else {
+            self.each
+        }
+    }
 }
 
 const QUOTAS: [Quota; 7] = [
@@ -207,6 +237,9 @@ fn classes(record: &[u8], result: &[u8]) -> Vec<String> {
     match operation {
         op::PLANNING => plan_classes(&record[1..]),
         op::SHEET if tag == 0 => sheet_classes(&record[1..], &result[7..]),
+        op::SEARCH..=op::PROMOTION if has_minus_zero(record, &search_fields(record)) => {
+            vec![format!("tag {tag}"), format!("tag {tag}, {MINUS_ZERO}")]
+        }
         _ => vec![format!("tag {tag}")],
     }
     .into_iter()
@@ -374,14 +407,13 @@ fn stored_cases(quota: &Quota, index: &mut String) -> (Vec<u8>, Vec<u8>) {
         }
         let result = call(&record).expect("a call");
         let classes = if full {
-            vec!["op 22 32 kept".to_string()]
+            vec![FULL.to_string()]
         } else {
             classes(&record, &result)
         };
-        let each = if full { 4 } else { quota.each };
         let new = classes
             .iter()
-            .any(|class| room.get(class).is_none_or(|&kept| kept < each));
+            .any(|class| room.get(class).is_none_or(|&kept| kept < quota.most(class)));
         if !new {
             continue;
         }

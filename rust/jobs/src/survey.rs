@@ -8,6 +8,7 @@ use oracle::wire::{Reader, Short};
 
 use crate::cases::{KINDS, planned};
 use crate::families::{FAMILIES, every_short};
+use crate::numbers;
 
 /// What one job shows.
 #[derive(Clone, Debug, Default)]
@@ -28,13 +29,18 @@ pub struct Shown {
     /// The tap grant is at least the sum of n * (n + 2).
     pub sufficient: bool,
     pub bundles: usize,
+    /// There is a minus zero in a field of each kind of `numbers::KINDS`.
+    pub minus_zeros: [bool; NUMBER_KINDS],
 }
+
+const NUMBER_KINDS: usize = numbers::KINDS.len();
 
 /// The job's answer and what the two show.
 pub fn look(bytes: &[u8]) -> (Vec<u8>, Shown) {
     let answer = oracle::answer_of(bytes);
     let mut shown = Shown {
         number: oracle::number(&answer),
+        minus_zeros: minus_zeros(bytes),
         ..Shown::default()
     };
     if let Ok(job) = job::read(bytes) {
@@ -58,6 +64,11 @@ pub fn look(bytes: &[u8]) -> (Vec<u8>, Shown) {
         plan_events(bytes, job.tap_visits, &mut shown).expect("the results are whole");
     }
     (answer, shown)
+}
+
+fn minus_zeros(job: &[u8]) -> [bool; NUMBER_KINDS] {
+    let fields = numbers::fields(job);
+    numbers::KINDS.map(|kind| numbers::minus_zeros(job, &fields).any(|field| field.kind == kind))
 }
 
 /// The interior marks of an answer.
@@ -121,10 +132,12 @@ fn plan_events(job: &[u8], grant: u32, shown: &mut Shown) -> Result<(), Short> {
 struct Tally {
     jobs: u64,
     numbers: [u64; 15],
-    features: [u64; 16],
+    features: [u64; FEATURES.len()],
 }
 
-const FEATURES: [&str; 16] = [
+/// Where the features begin that count accepted jobs with a minus zero, by kind of field.
+const MINUS_ZEROS: usize = 16;
+const FEATURES: [&str; MINUS_ZEROS + NUMBER_KINDS] = [
     "in rail",
     "in inter",
     "out rail",
@@ -141,6 +154,10 @@ const FEATURES: [&str; 16] = [
     "alone none",
     "fallen",
     "unplanned",
+    "-0 option",
+    "-0 coord",
+    "-0 size",
+    "-0 offset",
 ];
 
 impl Tally {
@@ -163,6 +180,9 @@ impl Tally {
         self.features[13] += u64::from(lone_without_x(shown));
         self.features[14] += u64::from(shown.fallen);
         self.features[15] += u64::from(shown.unplanned);
+        for (place, &there) in shown.minus_zeros.iter().enumerate() {
+            self.features[MINUS_ZEROS + place] += u64::from(accepted && there);
+        }
     }
 
     fn join(&mut self, other: &Tally) {
@@ -182,7 +202,8 @@ pub fn lone_without_x(shown: &Shown) -> bool {
 }
 
 /// Prints how many of each number every family gives, and what else the jobs show. False where a
-/// number from 1 to 14 but 2 is not reached or less than a third of the jobs is accepted.
+/// number from 1 to 14 but 2 is not reached, less than a third of the jobs is accepted, or no
+/// accepted job has a minus zero in some kind of field.
 pub fn distribution(seed: u64, percent: u64) -> bool {
     let mut all = Tally::default();
     let mut lines = Vec::new();
@@ -221,7 +242,8 @@ pub fn distribution(seed: u64, percent: u64) -> bool {
         "accepted {} of {} (short strings apart); numbers not reached: {missing:?}",
         all.numbers[0], all.jobs
     );
-    third && missing.is_empty()
+    let zeros = all.features[MINUS_ZEROS..].iter().all(|&count| count > 0);
+    third && missing.is_empty() && zeros
 }
 
 fn heading(first: &str, names: &[String]) {

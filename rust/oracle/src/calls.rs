@@ -272,22 +272,23 @@ fn route(operation: u8, from: &mut Reader<'_>, out: &mut Writer) -> Made {
     Ok(())
 }
 
+/// The numbers lent to a public entry: minus zero is taken as plus zero (document 02, F-1).
 fn search(operation: u8, from: &mut Reader<'_>, out: &mut Writer) -> Made {
     let role = role(from)?;
-    let pitch = from.f64()?;
+    let pitch = lent(from)?;
     let present = match operation {
         op::PROMOTION => mark(from)?,
         _ => true,
     };
     let bounds = Bounds {
-        minimum: from.f64()?,
-        desired: from.f64()?,
-        maximum: from.f64()?,
+        minimum: lent(from)?,
+        desired: lent(from)?,
+        maximum: lent(from)?,
     };
     let mut visits = from.u32()? as usize;
     let members = from.u16()?;
     let routes = (0..members)
-        .map(|_| points(from))
+        .map(|_| lent_points(from))
         .collect::<Result<Vec<_>, _>>()?;
     let lone = Lone {
         role,
@@ -737,6 +738,21 @@ fn node(from: &mut Reader<'_>) -> Result<NodeGeometry, Malformed> {
 fn points(from: &mut Reader<'_>) -> Result<Vec<Point>, Malformed> {
     let count = from.u16()?;
     (0..count).map(|_| point(from)).collect()
+}
+
+fn lent(from: &mut Reader<'_>) -> Result<f64, Malformed> {
+    Ok(job::plus(from.f64()?))
+}
+
+fn lent_points(from: &mut Reader<'_>) -> Result<Vec<Point>, Malformed> {
+    let mut points = points(from)?;
+    for at in &mut points {
+        *at = Point {
+            x: job::plus(at.x),
+            y: job::plus(at.y),
+        };
+    }
+    Ok(points)
 }
 
 fn write_points(out: &mut Writer, points: &[Point]) {

@@ -1,5 +1,5 @@
 //! The job's reader: document 01, sections "The job" and "Who can cause a refusal", numbers 1 and
-//! 3 to 9. Written from the paper alone.
+//! 3 to 9, with request F-1 of document 02. Written from the papers alone.
 
 use crate::wire::{Reader, Short, Writer};
 
@@ -224,14 +224,18 @@ fn grant(from: &mut Reader<'_>, limit: u32) -> Result<u32, u8> {
     if value > limit { Err(5) } else { Ok(value) }
 }
 
-/// 7: a number not finite, minus zero, or out of range.
+/// A number with minus zero taken as plus zero (document 02, F-1). 7: not finite, or out of range.
 fn number(from: &mut Reader<'_>, low: f64, high: f64) -> Result<f64, u8> {
-    let value = from.f64()?;
-    let minus_zero = value == 0.0 && value.is_sign_negative();
-    if !value.is_finite() || minus_zero || value < low || value > high {
+    let value = plus(from.f64()?);
+    if !value.is_finite() || value < low || value > high {
         return Err(7);
     }
     Ok(value)
+}
+
+/// Plus zero for either zero.
+pub fn plus(value: f64) -> f64 {
+    if value == 0.0 { 0.0 } else { value }
 }
 
 fn coordinate(from: &mut Reader<'_>) -> Result<f64, u8> {
