@@ -11,7 +11,7 @@ pub(crate) const VERSION: u8 = 1;
 /// A placed and routed board whose bundles are to be drawn.
 ///
 /// Its numbers are as they are: what the stage refuses (see [`Refusal`](crate::Refusal)) can be
-/// written here too, and the stage says so.
+/// written here too, and the stage says so. The stage takes minus zero as plus zero.
 #[derive(Clone, Debug, Default, PartialEq)]
 pub struct Board {
     pub flags: Flags,

@@ -102,7 +102,7 @@ impl Refusal {
             Refusal::Fields => "a field of the job runs past its end, or bytes remain behind it",
             Refusal::Limit => "a count, lane or grant is above its limit",
             Refusal::NotListed => "a flag, side or role is none of those listed",
-            Refusal::Number => "a number is not finite, is minus zero, or is out of its range",
+            Refusal::Number => "a number is not finite, or is out of its range",
             Refusal::Twice => {
                 "an id stands twice among the nodes, the edges, the bundles or one node's ports, or \
                  an edge is twice in bundles of one role"
@@ -152,7 +152,7 @@ impl Refusal {
             }
             Refusal::Number => {
                 "Coordinates and offsets have magnitude at most 2^30, sizes are 0 to 2^30, options \
-                 0 to 2^20; write 0 for minus zero."
+                 0 to 2^20."
             }
             Refusal::Twice => {
                 "Look for the same id twice, and for an edge that bundles of one role list twice."

@@ -231,7 +231,7 @@ fn every_refusal_by_name() {
     let grant = |board: &mut Board| board.grants.tap += 1;
     assert_eq!(changed(grant), Err(Refusal::Limit));
     assert_eq!(changed_bytes(|job| job[5] = 4), Err(Refusal::NotListed));
-    for wrong in [-0.0, f64::NAN, f64::INFINITY, 2_f64.powi(30) + 1.0] {
+    for wrong in [f64::NAN, f64::INFINITY, 2_f64.powi(30) + 1.0] {
         let moved = |board: &mut Board| board.nodes[0].x = wrong;
         assert_eq!(changed(moved), Err(Refusal::Number), "{wrong}");
     }
@@ -255,6 +255,40 @@ fn every_refusal_by_name() {
     assert_eq!(split_board().draw(), Err(Refusal::Split));
     let nothing = |board: &mut Board| board.grants.geometry = 0;
     assert_eq!(changed(nothing), Err(Refusal::Grant));
+}
+
+/// Document 02, F-1: the bytes keep the sign, the sheet is that of plus zero, and so is what is said
+/// of its joints and its last shift.
+#[test]
+fn minus_zero_is_taken_as_plus_zero() {
+    let with = |zero: f64| {
+        let mut board = board();
+        board.options.edge_node_clearance = zero;
+        board.options.minimum_parallel_wire_spacing = zero;
+        board.nodes[0].x = zero;
+        board.nodes[1].y = zero;
+        board.nodes.push(node(3, -80.0, -80.0, zero, zero));
+        let mut wire = board.edges[0].clone();
+        wire.id = 3;
+        wire.points = vec![at(zero, zero), at(100.0, zero)];
+        board.edges.push(wire);
+        board
+    };
+    for shifted in [false, true] {
+        let [plus, minus] = [0.0, -0.0].map(|zero| {
+            let mut board = with(zero);
+            if !shifted {
+                board.nodes.pop();
+            }
+            board
+        });
+        assert_ne!(plus.to_bytes(), minus.to_bytes());
+        let sheet = plus.draw().expect("drawn");
+        let of_minus = answer(&minus.to_bytes().expect("small"));
+        assert_eq!(of_minus, answer(&plus.to_bytes().expect("small")));
+        assert_eq!(sheet.last_shift(&minus), sheet.last_shift(&plus));
+        assert_eq!(sheet.false_joints(&minus), sheet.false_joints(&plus));
+    }
 }
 
 /// The reading of document 01 for 13: the largest input minimum is 2^-33, pitch and smallest output

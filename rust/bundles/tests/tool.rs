@@ -117,6 +117,44 @@ bundle  role    place     collector x  y           taps
     );
 }
 
+/// Document 02, F-1: `-0` is packed as it stands, and drawn, explained and shown as 0 is.
+#[test]
+fn minus_zero_in_a_board() {
+    let folder = folder("minus");
+    let name = |name: &str| folder.join(name).to_str().expect("text").to_string();
+    let text_of = |zero: &str| {
+        format!(
+            "port_stub 10\nroute_lane_gap 10\nedge_node_clearance {zero}\n\
+             minimum_parallel_wire_spacing {zero}\nmember_endpoint_reserve 20\n\
+             node 1 at {zero},30 size 40,40\nnode 2 at 200,{zero} size 40,100\n\
+             node 3 at {zero},{zero} size {zero},{zero}\n\
+             port 1:1 east 20\nport 2:1 west 40\nport 2:2 west 60\nport 3:1 north {zero}\n\
+             edge 1 from 1:1 to 2:1 via 40,50 60,50 60,40 200,40\n\
+             edge 2 from 1:1 to 2:2 via 40,50 60,50 60,60 200,60\n\
+             edge 3 from 3:1 to 2:1 via {zero},{zero} 200,{zero}\n\
+             bundle 1 at 1:1 input width 2 members 1@0 2@1\n"
+        )
+    };
+    let [plus, minus] = [("plus", "0"), ("minus", "-0")].map(|(board, zero)| {
+        let job = name(&format!("{board}.job"));
+        let packed = out(0, &["pack", "-"], text_of(zero).as_bytes());
+        fs::write(&job, &packed).expect("a file");
+        assert_eq!(
+            out(0, &["pack", "-"], &out(0, &["unpack", &job], b"")),
+            packed
+        );
+        let answer = out(0, &["draw", &job], b"");
+        let explained = out(0, &["explain", "-", &job], &answer);
+        let picture = out(0, &["svg", &job, "-", "--title", "a board"], &answer);
+        let refused = out(1, &["svg", &job, "-", "--title", "a board"], NOTICE);
+        (packed, [answer, explained, picture, refused])
+    });
+    let minus_zero = (-0.0_f64).to_be_bytes();
+    let held = |job: &[u8]| job.windows(8).filter(|bytes| *bytes == minus_zero).count();
+    assert_eq!((held(&plus.0), held(&minus.0)), (0, 12));
+    assert_eq!(plus.1, minus.1);
+}
+
 #[test]
 fn a_refusal() {
     assert_eq!(out(1, &["draw"], NO_JOB), NOTICE);
