@@ -40,3 +40,14 @@ all-but true true true = (refl, refl)
 all-but true true false = (refl, refl)
 all-but true false c = (refl, refl)
 all-but false b c = (refl, refl)
+
+-- two tests that hold together are one
+pub as-one : (s t : Bool) → (T s → T t) → (T t → T s) → s ≡ t
+as-one true true f g = refl
+as-one false false f g = refl
+as-one true false f g = absurd (f tt)
+as-one false true f g = absurd (g tt)
+
+pub is-false : (b : Bool) → (T b → ⊥) → b ≡ false
+is-false true t = absurd (t tt)
+is-false false t = refl

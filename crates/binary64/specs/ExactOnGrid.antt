@@ -135,7 +135,7 @@ neg-exact g x a h = record {
   is = rw (neg-over x, neg-under x, neg-den x, neg-plus a, neg-less a) (omega (arith, h .is));
 }
 
-neg-size : (a : ℤ) → natAbs (negℤ a) ≡ natAbs a
+pub neg-size : (a : ℤ) → natAbs (negℤ a) ≡ natAbs a
 neg-size (pos zero) = refl
 neg-size (pos (suc n)) = refl
 neg-size (negsuc n) = refl

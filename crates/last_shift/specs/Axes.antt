@@ -16,7 +16,7 @@ use Rattle.ranges.specs.Corridors.{zero-bounded}
 use Rattle.ranges.specs.Coordinates.{OfPoint, OfTap, OfDrawn, OfPlaced}
 use Rattle.ranges.specs.Extent.{InX, InY}
 use Rattle.ranges.specs.Page.{corner-fine, placed-weaker}
-use Rattle.ranges.specs.Plain.{Plain}
+use Rattle.binary64.specs.Plain.{Plain}
 use Rattle.last_shift.specs.Still.{zero-less}
 use Rattle.last_shift.specs.Shift.{ExactLess, ShiftExact, without-nodes, Any}
 

@@ -8,6 +8,7 @@ use lib.Dec.{T}
 use lib.ListN.{length, getD, length-map}
 use lib.Ieee.{Float, lt, eq}
 use lib.Ieee.Scale.{finite}
+use Rattle.binary64.specs.Bools.{as-one}
 use Rattle.binary64.specs.Order.{least, greatest}
 use Rattle.binary64.specs.Rational.{value}
 use Rattle.binary64.specs.Fraction.{lt→Belowℚ, Belowℚ→lt, eq→Sameℚ, Sameℚ→eq}
@@ -28,12 +29,6 @@ use Rattle.promise.specs.Demand3.{StaysOut, MembersOut}
 use Rattle.last_shift.specs.Fractions.{By, by-same, same-by, by-below, below-by}
 use Rattle.last_shift.specs.Shift.{with-nodes}
 use Rattle.last_shift.specs.Carry.{came, run-every, at-map}
-
-as-one : (a b : Bool) → (T a → T b) → (T b → T a) → a ≡ b
-as-one true true f g = refl
-as-one true false f g = absurd (f tt)
-as-one false true f g = absurd (g tt)
-as-one false false f g = refl
 
 -- x' is x - o, exactly, and both are finite
 pub record Less (o x x' : Float) : Type 0 where
