@@ -2,6 +2,7 @@
 -- Assumes nothing.
 use Prim.Native.Nat.{ℕ, zero, suc, _+_, _*_, _≤_}
 use mathlib.Core.Path.{_≡_, refl, sym, ap, subst, _∙_}
+use mathlib.Core.Bool.{Bool}
 use mathlib.Core.List.{List, [], _∷_, _++_, map, map-append}
 use native.Mathlib.Omega.{arith}
 use lib.Dec.{leb, eqb}
@@ -24,7 +25,7 @@ use Rattle.job.specs.Kept.{many-keeps, pushes-good, pushes-count, field-
 use Rattle.job.specs.Job.{flags-of, options, grants, counts, header, node, port, point, member, edge-head, bundle-head, push, EdgeList, BundleList, next-edge, next-bundle, Tables, ended, tables, member-key}
 use Rattle.job.specs.Claims.{claims, raw-claim, edge-id, Inside, members-pushed}
 use Rattle.job.specs.Claims as claim
-use Rattle.job.specs.GoodRecords.{GoodPoint, GoodOptions, GoodNode, picked, number-good, point-good, node-good, RawGoodPort, port-good, at-most-good, RawGoodMember, member-good, edge-takes, bundle-takes}
+use Rattle.job.specs.GoodRecords.{GoodPoint, GoodOptions, GoodNode, picked, grid-number-good, point-good, node-good, RawGoodPort, port-good, at-most-good, RawGoodMember, member-good, edge-takes, bundle-takes}
 
 -- ---- edges with their points, bundles with their members
 unfoldable pub sum : List ℕ → ℕ
@@ -52,31 +53,31 @@ pub record RawGoodEdge (points : ℕ) (e : RawEdge) : Type 0 where
   pub count : e .count ≤ max-route-points
   pub window : e .first + e .count ≤ points
 
-pub record EdgesSo (from : ℕ) (l : EdgeList) (s : List ℕ) : Type 0 where
+pub record EdgesSo (grid : Bool) (from : ℕ) (l : EdgeList) (s : List ℕ) : Type 0 where
   pub edges : All (RawGoodEdge (length (l .points))) (l .edges)
-  pub points : All GoodPoint (l .points)
+  pub points : All (GoodPoint grid) (l .points)
   pub total : length (l .points) ≤ max-points
   pub counts : sum (map (λ (e : RawEdge). e .count) (l .edges)) ≡ length (l .points)
   pub bytes : from ≡ 22 * length (l .edges) + 16 * length (l .points) + length s
 
-pub edges-as : (from : ℕ) (l m : EdgeList) (s t : List ℕ) → l ≡ m → s ≡ t → EdgesSo from l s → EdgesSo from m t
-edges-as from l m s t x y h = subst (λ (k : EdgeList). EdgesSo from k t) x (subst (λ (u : List ℕ). EdgesSo from l u) y h)
+pub edges-as : (grid : Bool) (from : ℕ) (l m : EdgeList) (s t : List ℕ) → l ≡ m → s ≡ t → EdgesSo grid from l s → EdgesSo grid from m t
+edges-as grid from l m s t x y h = subst (λ (k : EdgeList). EdgesSo grid from k t) x (subst (λ (u : List ℕ). EdgesSo grid from l u) y h)
 
-pub edges-step : (from : ℕ) (l : EdgeList) (s : List ℕ) (m : EdgeList) (t : List ℕ) → EdgesSo from l s → next-edge l s ≡ got m t → EdgesSo from m t
+pub edges-step : (grid : Bool) (from : ℕ) (l : EdgeList) (s : List ℕ) (m : EdgeList) (t : List ℕ) → EdgesSo grid from l s → next-edge grid l s ≡ got m t → EdgesSo grid from m t
 unfolding next-edge
-edges-step from l s m t h e =
+edges-step grid from l s m t h e =
     let ps = l .points in
     let a = came (edge-head (length ps) s) _ m t e in
-    let b = came (many (a .value .count) (push point) ps (a .rest)) _ m t (a .second) in
+    let b = came (many (a .value .count) (push (point grid)) ps (a .rest)) _ m t (a .second) in
     let q = got-both _ m (b .rest) t (b .second) in
     let w = edge-window (length ps) s (a .value) (a .rest) (a .first) in
-    let g = pushes-good point GoodPoint 16 point-good (a .value .count) (16 * length ps + length (a .rest)) 0 ps (a .rest) (b .value) (b .rest) (record { all = h .points; bytes = omega arith }) (b .first) in
-    let n = pushes-count point (a .value .count) ps (a .rest) (b .value) (b .rest) (b .first) in
+    let g = pushes-good (point grid) (GoodPoint grid) 16 (point-good grid) (a .value .count) (16 * length ps + length (a .rest)) 0 ps (a .rest) (b .value) (b .rest) (record { all = h .points; bytes = omega arith }) (b .first) in
+    let n = pushes-count (point grid) (a .value .count) ps (a .rest) (b .value) (b .rest) (b .first) in
     let k = edge-takes (length ps) s (a .value) (a .rest) (a .first) in
     let u = g .bytes in
     let v = h .bytes in
     let x : length (l .edges ++ (a .value ∷ [])) ≡ length (l .edges) + 1 = simp length-append in
-    edges-as from (record { edges = l .edges ++ (a .value ∷ []); points = b .value }) m (b .rest) t (q .0) (q .1)
+    edges-as grid from (record { edges = l .edges ++ (a .value ∷ []); points = b .value }) m (b .rest) t (q .0) (q .1)
     (record {
       edges = all-one-more (RawGoodEdge (length (b .value))) (l .edges) (a .value)
           (all-weaker (RawGoodEdge (length ps)) (RawGoodEdge (length (b .value))) (l .edges) (λ r y. record { count = y .count; window = omega arith }) (h .edges))
@@ -141,21 +142,21 @@ bundles-step from l s m t h e =
     })
 
 -- ---- the head
-pub options-good : (s : List ℕ) (o : Options) (t : List ℕ) → options s ≡ got o t → GoodOptions o × (length s ≡ 40 + length t)
-options-good s o t e =
-    let a = came (option s) _ o t e in
-    let b = came (option (a .rest)) _ o t (a .second) in
-    let c = came (option (b .rest)) _ o t (b .second) in
-    let d = came (option (c .rest)) _ o t (c .second) in
-    let f = came (option (d .rest)) _ o t (d .second) in
+pub options-good : (grid : Bool) (s : List ℕ) (o : Options) (t : List ℕ) → options grid s ≡ got o t → GoodOptions grid o × (length s ≡ 40 + length t)
+options-good grid s o t e =
+    let a = came (option grid s) _ o t e in
+    let b = came (option grid (a .rest)) _ o t (a .second) in
+    let c = came (option grid (b .rest)) _ o t (b .second) in
+    let d = came (option grid (c .rest)) _ o t (c .second) in
+    let f = came (option grid (d .rest)) _ o t (d .second) in
     let q = got-both _ o (f .rest) t (f .second) in
-    let u = number-good _ _ s (a .value) (a .rest) (a .first) in
-    let v = number-good _ _ (a .rest) (b .value) (b .rest) (b .first) in
-    let w = number-good _ _ (b .rest) (c .value) (c .rest) (c .first) in
-    let x = number-good _ _ (c .rest) (d .value) (d .rest) (d .first) in
-    let y = number-good _ _ (d .rest) (f .value) (f .rest) (f .first) in
+    let u = grid-number-good grid _ _ s (a .value) (a .rest) (a .first) in
+    let v = grid-number-good grid _ _ (a .rest) (b .value) (b .rest) (b .first) in
+    let w = grid-number-good grid _ _ (b .rest) (c .value) (c .rest) (c .first) in
+    let x = grid-number-good grid _ _ (c .rest) (d .value) (d .rest) (d .first) in
+    let y = grid-number-good grid _ _ (d .rest) (f .value) (f .rest) (f .first) in
     let l = ap length (q .1) in
-    (subst GoodOptions (q .0) (record { stub = u .0; gap = v .0; clearance = w .0; spacing = x .0; reserve = y .0 }), omega (arith, u .1, v .1, w .1, x .1, y .1, l))
+    (subst (GoodOptions grid) (q .0) (record { stub = u .0; gap = v .0; clearance = w .0; spacing = x .0; reserve = y .0 }), omega (arith, u .1, v .1, w .1, x .1, y .1, l))
 
 pub record GoodGrants (g : Grants) : Type 0 where
   pub tap : g .«tap_visits» ≤ max-tap-visits
@@ -190,29 +191,29 @@ counts-take s c t e =
 
 pub flags-take : (n : ℕ) (s : List ℕ) (f : Flags) (t : List ℕ) → flags-of n s ≡ got f t → s ≡ t
 unfolding flags-of
-flags-take n s f t e = picked (leb n 3) _ f s t 6 e .2
+flags-take n s f t e = picked (leb n 7) _ f s t 6 e .2
 
 pub record GoodHeader (h : Header) : Type 0 where
-  pub options : GoodOptions (h .options)
+  pub options : GoodOptions (h .flags .«on_grid») (h .options)
   pub grants : GoodGrants (h .grants)
   pub counts : Limits (h .counts)
 
 pub header-good : (s : List ℕ) (h : Header) (t : List ℕ) → header s ≡ got h t → GoodHeader h × (length s ≡ 57 + length t)
 header-good s h t e =
     let a = came (after (field 1 s) flags-of) _ h t e in
-    let b = came (options (a .rest)) _ h t (a .second) in
+    let b = came (options (a .value .«on_grid») (a .rest)) _ h t (a .second) in
     let c = came (grants (b .rest)) _ h t (b .second) in
     let d = came (counts (c .rest)) _ h t (c .second) in
     let q = got-both _ h (d .rest) t (d .second) in
     let m = came (field 1 s) flags-of (a .value) (a .rest) (a .first) in
     let n = ap length (flags-take (m .value) (m .rest) (a .value) (a .rest) (m .second)) in
     let i = field-takes 1 s (m .value) (m .rest) (m .first) in
-    let o = options-good (a .rest) (b .value) (b .rest) (b .first) in
+    let o = options-good (a .value .«on_grid») (a .rest) (b .value) (b .rest) (b .first) in
     let g = grants-good (b .rest) (c .value) (c .rest) (c .first) in
     let k = counts-take (c .rest) (d .value) (d .rest) (d .first) in
     let l = ap length (q .1) in (
       record {
-        options = subst (λ (x : Header). GoodOptions (x .options)) (q .0) (o .0);
+        options = subst (λ (x : Header). GoodOptions (x .flags .«on_grid») (x .options)) (q .0) (o .0);
         grants = subst (λ (x : Header). GoodGrants (x .grants)) (q .0) (g .0);
         counts = header-fits s h t e;
       },
@@ -220,11 +221,11 @@ header-good s h t e =
     )
 
 -- ---- the tables
-pub record RawSound (c : Counts) (size : ℕ) (t : Tables) : Type 0 where
-  pub nodes : All GoodNode (t .nodes)
-  pub ports : All RawGoodPort (t .ports)
+pub record RawSound (grid : Bool) (c : Counts) (size : ℕ) (t : Tables) : Type 0 where
+  pub nodes : All (GoodNode grid) (t .nodes)
+  pub ports : All (RawGoodPort grid) (t .ports)
   pub edges : All (RawGoodEdge (length (t .edges .points))) (t .edges .edges)
-  pub points : All GoodPoint (t .edges .points)
+  pub points : All (GoodPoint grid) (t .edges .points)
   pub bundles : All (RawGoodBundle (length (t .bundles .members))) (t .bundles .bundles)
   pub members : All RawGoodMember (t .bundles .members)
   pub node-count : length (t .nodes) ≡ c .nodes
@@ -239,19 +240,19 @@ pub record RawSound (c : Counts) (size : ℕ) (t : Tables) : Type 0 where
   pub claimed : claims (map raw-claim (t .bundles .bundles)) (map edge-id (t .bundles .members)) ≡ map member-key (t .bundles .members)
   pub bytes : size ≡ 36 * length (t .nodes) + 17 * length (t .ports) + 22 * length (t .edges .edges) + 16 * length (t .edges .points) + 19 * length (t .bundles .bundles) + 6 * length (t .bundles .members)
 
-pub edges-count : (n : ℕ) (l : EdgeList) (s : List ℕ) (m : EdgeList) (t : List ℕ) → many n next-edge l s ≡ got m t → length (m .edges) ≡ length (l .edges) + n
+pub edges-count : (grid : Bool) (n : ℕ) (l : EdgeList) (s : List ℕ) (m : EdgeList) (t : List ℕ) → many n (next-edge grid) l s ≡ got m t → length (m .edges) ≡ length (l .edges) + n
 unfolding many next-edge
-edges-count zero l s m t e =
+edges-count grid zero l s m t e =
     let x : l ≡ m = cc in
     let y = ap (λ (k : EdgeList). length (k .edges)) x in
     omega arith
-edges-count (suc n) l s m t e =
-    let c = came (next-edge l s) (many n next-edge) m t e in
+edges-count grid (suc n) l s m t e =
+    let c = came (next-edge grid l s) (many n (next-edge grid)) m t e in
     let a = came (edge-head (length (l .points)) s) _ (c .value) (c .rest) (c .first) in
-    let b = came (many (a .value .count) (push point) (l .points) (a .rest)) _ (c .value) (c .rest) (a .second) in
+    let b = came (many (a .value .count) (push (point grid)) (l .points) (a .rest)) _ (c .value) (c .rest) (a .second) in
     let q = got-both _ (c .value) (b .rest) (c .rest) (b .second) in
     let y : length (c .value .edges) ≡ length (l .edges) + 1 = ap (λ (k : EdgeList). length (k .edges)) (sym (q .0)) ∙ simp length-append in
-    let z = edges-count n (c .value) (c .rest) m t (c .second) in
+    let z = edges-count grid n (c .value) (c .rest) m t (c .second) in
     omega arith
 
 pub bundles-count : (n : ℕ) (l : BundleList) (s : List ℕ) (m : BundleList) (t : List ℕ) → many n next-bundle l s ≡ got m t → length (m .bundles) ≡ length (l .bundles) + n
@@ -269,32 +270,32 @@ bundles-count (suc n) l s m t e =
     let z = bundles-count n (c .value) (c .rest) m t (c .second) in
     omega arith
 
-pub tables-good : (c : Counts) (s : List ℕ) (t : Tables) (u : List ℕ) → tables c s ≡ got t u → RawSound c (length s) t
+pub tables-good : (grid : Bool) (c : Counts) (s : List ℕ) (t : Tables) (u : List ℕ) → tables grid c s ≡ got t u → RawSound grid c (length s) t
 unfolding ended All claims sum starts
-tables-good c s t u e =
-    let a = came (many (c .nodes) (push node) [] s) _ t u e in
-    let b = came (many (c .ports) (push port) [] (a .rest)) _ t u (a .second) in
-    let d = came (many (c .edges) next-edge (record { edges = []; points = [] }) (b .rest)) _ t u (b .second) in
+tables-good grid c s t u e =
+    let a = came (many (c .nodes) (push (node grid)) [] s) _ t u e in
+    let b = came (many (c .ports) (push (port grid)) [] (a .rest)) _ t u (a .second) in
+    let d = came (many (c .edges) (next-edge grid) (record { edges = []; points = [] }) (b .rest)) _ t u (b .second) in
     let f = came (many (c .bundles) next-bundle (record { bundles = []; members = [] }) (d .rest)) _ t u (d .second) in
     let all : Tables = record { nodes = a .value; ports = b .value; edges = d .value; bundles = f .value } in
     let k = picked (eqb (length (f .rest)) 0) all t (f .rest) u 4 (f .second) in
     let z = eqb-true (length (f .rest)) 0 (k .0) in
-    let n = pushes-good node GoodNode 36 node-good (c .nodes) (length s) 0 [] s (a .value) (a .rest) (record { all = tt; bytes = omega arith }) (a .first) in
-    let p = pushes-good port RawGoodPort 17 port-good (c .ports) (length (a .rest)) 0 [] (a .rest) (b .value) (b .rest) (record { all = tt; bytes = omega arith }) (b .first) in
-    let g = many-keeps next-edge (EdgesSo (length (b .rest))) (edges-step (length (b .rest))) (c .edges) (record { edges = []; points = [] }) (b .rest) (d .value) (d .rest)
+    let n = pushes-good (node grid) (GoodNode grid) 36 (node-good grid) (c .nodes) (length s) 0 [] s (a .value) (a .rest) (record { all = tt; bytes = omega arith }) (a .first) in
+    let p = pushes-good (port grid) (RawGoodPort grid) 17 (port-good grid) (c .ports) (length (a .rest)) 0 [] (a .rest) (b .value) (b .rest) (record { all = tt; bytes = omega arith }) (b .first) in
+    let g = many-keeps (next-edge grid) (EdgesSo grid (length (b .rest))) (edges-step grid (length (b .rest))) (c .edges) (record { edges = []; points = [] }) (b .rest) (d .value) (d .rest)
     (record { edges = tt; points = tt; total = omega arith; counts = refl; bytes = omega arith }) (d .first) in
     let h = many-keeps next-bundle (BundlesSo (length (d .rest))) (bundles-step (length (d .rest))) (c .bundles) (record { bundles = []; members = [] }) (d .rest) (f .value) (f .rest)
     (record { bundles = tt; members = tt; total = omega arith; counts = refl; behind = refl; claimed = refl; bytes = omega arith }) (f .first) in
-    subst (λ (x : Tables). RawSound c (length s) x) (k .1) (record {
+    subst (λ (x : Tables). RawSound grid c (length s) x) (k .1) (record {
       nodes = n .all;
       ports = p .all;
       edges = g .edges;
       points = g .points;
       bundles = h .bundles;
       members = h .members;
-      node-count = pushes-count node (c .nodes) [] s (a .value) (a .rest) (a .first) ∙ omega arith;
-      port-count = pushes-count port (c .ports) [] (a .rest) (b .value) (b .rest) (b .first) ∙ omega arith;
-      edge-count = edges-count (c .edges) (record { edges = []; points = [] }) (b .rest) (d .value) (d .rest) (d .first) ∙ omega arith;
+      node-count = pushes-count (node grid) (c .nodes) [] s (a .value) (a .rest) (a .first) ∙ omega arith;
+      port-count = pushes-count (port grid) (c .ports) [] (a .rest) (b .value) (b .rest) (b .first) ∙ omega arith;
+      edge-count = edges-count grid (c .edges) (record { edges = []; points = [] }) (b .rest) (d .value) (d .rest) (d .first) ∙ omega arith;
       bundle-count = bundles-count (c .bundles) (record { bundles = []; members = [] }) (d .rest) (f .value) (f .rest) (f .first) ∙ omega arith;
       point-total = g .total;
       member-total = h .total;

@@ -39,10 +39,11 @@ const BUNDLE_LIMIT: u32 = MAX_BUNDLES as u32;
 fn flags_of(n: u32) -> FlagsRead
     ensures { λ r. ⌜ ((rest : List ℕ) → told-flags r rest ≡ flags-of n rest) ⌝ }
 {
-    if n <= 3 {
+    if n <= 7 {
         FlagsRead::Good(Flags {
             separates_collectors: n % 2 == 1,
-            permits_crossings: n / 2 == 1,
+            permits_crossings: n / 2 % 2 == 1,
+            on_grid: n / 4 == 1,
         })
     } else {
         FlagsRead::Bad(6)
@@ -51,11 +52,11 @@ fn flags_of(n: u32) -> FlagsRead
 
 // ---- the head
 
-pub fn options_at(s: &[u8], at: usize) -> OptionsRead
+pub fn options_at(s: &[u8], grid: bool, at: usize) -> OptionsRead
     requires { ⌜ at < job-room ⌝ }
-    ensures { λ r. ⌜ told-options r (drop (at + 40) (now (s .entry))) ≡ options (drop at (now (s .entry))) ⌝ }
+    ensures { λ r. ⌜ told-options r (drop (at + 40) (now (s .entry))) ≡ options grid (drop at (now (s .entry))) ⌝ }
 {
-    let r1 = wire::option_at(s, at);
+    let r1 = wire::option_at(s, at, grid);
     let stub = match r1 {
         Number::Bad(r) => {
             return OptionsRead::Bad(r);
@@ -63,7 +64,7 @@ pub fn options_at(s: &[u8], at: usize) -> OptionsRead
         Number::Good(v) => v,
     };
     let at2 = at + 8;
-    let r2 = wire::option_at(s, at2);
+    let r2 = wire::option_at(s, at2, grid);
     let gap = match r2 {
         Number::Bad(r) => {
             return OptionsRead::Bad(r);
@@ -71,7 +72,7 @@ pub fn options_at(s: &[u8], at: usize) -> OptionsRead
         Number::Good(v) => v,
     };
     let at3 = at2 + 8;
-    let r3 = wire::option_at(s, at3);
+    let r3 = wire::option_at(s, at3, grid);
     let clearance = match r3 {
         Number::Bad(r) => {
             return OptionsRead::Bad(r);
@@ -79,7 +80,7 @@ pub fn options_at(s: &[u8], at: usize) -> OptionsRead
         Number::Good(v) => v,
     };
     let at4 = at3 + 8;
-    let r4 = wire::option_at(s, at4);
+    let r4 = wire::option_at(s, at4, grid);
     let spacing = match r4 {
         Number::Bad(r) => {
             return OptionsRead::Bad(r);
@@ -87,7 +88,7 @@ pub fn options_at(s: &[u8], at: usize) -> OptionsRead
         Number::Good(v) => v,
     };
     let at5 = at4 + 8;
-    let r5 = wire::option_at(s, at5);
+    let r5 = wire::option_at(s, at5, grid);
     let reserve = match r5 {
         Number::Bad(r) => {
             return OptionsRead::Bad(r);
@@ -191,7 +192,7 @@ pub fn header_at(s: &[u8], at: usize) -> HeaderRead
         FlagsRead::Good(v) => v,
     };
     let at3 = at + 1;
-    let r3 = options_at(s, at3);
+    let r3 = options_at(s, flags.on_grid, at3);
     let options = match r3 {
         OptionsRead::Bad(r) => {
             return HeaderRead::Bad(r);

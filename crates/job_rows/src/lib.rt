@@ -31,9 +31,9 @@ use limits::MAX_PORTS;
 // The keys of a table's rows go to lent columns, one number to a row. Where an id stands alone the
 // second column is one of zeros. An id is looked up in the columns of the tables before.
 
-pub fn read_nodes(s: &[u8], from: usize, count: usize, ids: &mut [u64]) -> NodesRead
+pub fn read_nodes(s: &[u8], from: usize, count: usize, ids: &mut [u64], grid: bool) -> NodesRead
     requires { ⌜ (from < 1024) × (count ≤ max-nodes) × (length (now ids) ≡ key-room) ⌝ }
-    ensures { λ r. ⌜ NodesTold (now (s .entry)) from count (now (ids .exit)) r ⌝ }
+    ensures { λ r. ⌜ NodesTold grid (now (s .entry)) from count (now (ids .exit)) r ⌝ }
 {
     let corner = Point { x: 0.0, y: 0.0 };
     let body = Node {
@@ -51,7 +51,7 @@ pub fn read_nodes(s: &[u8], from: usize, count: usize, ids: &mut [u64]) -> Nodes
     let mut at = from;
     let mut i: usize = 0;
     while i < count {
-        let one = job_records::node_at(s, at);
+        let one = job_records::node_at(s, grid, at);
         let n = match one {
             NodeRead::Bad(r) => {
                 t.ok = false;
@@ -79,10 +79,11 @@ pub fn read_ports(
     n: usize,
     nodes: &mut [u64],
     ids: &mut [u64],
+    grid: bool,
 ) -> PortsRead
     requires { ⌜ (from < 8192) × (count ≤ max-ports) × (n ≤ key-room) ⌝ }
     requires { ⌜ (length (now «node_ids») ≡ key-room) × (length (now zeros) ≡ key-room) × (length (now nodes) ≡ key-room) × (length (now ids) ≡ key-room) ⌝ }
-    ensures { λ r. ⌜ PortsTold (now (s .entry)) from count (first-keys (now («node_ids» .entry)) (now (zeros .entry)) n) (now (nodes .exit)) (now (ids .exit)) r ⌝ }
+    ensures { λ r. ⌜ PortsTold grid (now (s .entry)) from count (first-keys (now («node_ids» .entry)) (now (zeros .entry)) n) (now (nodes .exit)) (now (ids .exit)) r ⌝ }
 {
     let none = Port {
         node: 0,
@@ -101,7 +102,7 @@ pub fn read_ports(
     let mut at = from;
     let mut i: usize = 0;
     while i < count {
-        let one = job_records::port_at(s, at);
+        let one = job_records::port_at(s, grid, at);
         let p = match one {
             PortRead::Bad(r) => {
                 t.ok = false;
@@ -131,14 +132,21 @@ pub fn read_ports(
 }
 
 // The points of one route, total points standing before them.
-fn read_points(s: &[u8], from: usize, count: usize, total: usize, points: &mut [f64]) -> Ended
+fn read_points(
+    s: &[u8],
+    from: usize,
+    count: usize,
+    total: usize,
+    points: &mut [f64],
+    grid: bool,
+) -> Ended
     requires { ⌜ (from < 60000) × (count ≤ max-route-points) × (total + count ≤ max-points) × (length (now points) ≡ point-numbers) ⌝ }
-    ensures { λ r. ⌜ ended-as r (points-from (now (points .exit)) 0 (total + count)) (drop (from + 16 * count) (now (s .entry))) ≡ many count (push point) (points-from (now (points .entry)) 0 total) (drop from (now (s .entry))) ⌝ }
+    ensures { λ r. ⌜ ended-as r (points-from (now (points .exit)) 0 (total + count)) (drop (from + 16 * count) (now (s .entry))) ≡ many count (push (point grid)) (points-from (now (points .entry)) 0 total) (drop from (now (s .entry))) ⌝ }
 {
     let mut at = from;
     let mut i: usize = 0;
     while i < count {
-        let one = job_records::point_at(s, at);
+        let one = job_records::point_at(s, grid, at);
         let p = match one {
             PointRead::Bad(r) => {
                 return Ended::Stopped(r);
@@ -161,10 +169,11 @@ pub fn read_edges(
     n: usize,
     points: &mut [f64],
     ids: &mut [u64],
+    grid: bool,
 ) -> EdgesRead
     requires { ⌜ (from < 16384) × (count ≤ max-edges) × (n ≤ key-room) × (length (now points) ≡ point-numbers) ⌝ }
     requires { ⌜ (length (now «node_ids») ≡ key-room) × (length (now zeros) ≡ key-room) × (length (now ids) ≡ key-room) ⌝ }
-    ensures { λ r. ⌜ EdgesTold (now (s .entry)) from count (first-keys (now («node_ids» .entry)) (now (zeros .entry)) n) (now (points .exit)) (now (ids .exit)) r ⌝ }
+    ensures { λ r. ⌜ EdgesTold grid (now (s .entry)) from count (first-keys (now («node_ids» .entry)) (now (zeros .entry)) n) (now (points .exit)) (now (ids .exit)) r ⌝ }
 {
     let none = Edge {
         id: 0,
@@ -195,7 +204,7 @@ pub fn read_edges(
             }
             EdgeRead::Good(v) => v,
         };
-        let route = read_points(s, at + 22, e.count, total, &mut points[..]);
+        let route = read_points(s, at + 22, e.count, total, &mut points[..], grid);
         if let Ended::Stopped(r) = route {
             t.ok = false;
             t.refusal = r;

@@ -10,7 +10,7 @@ use Rattle.limits.specs.Limits.{answer-room}
 use Rattle.binary64.specs.Accepted.{minus-zero, plus-zero, accepted}
 use Rattle.wire.specs.Bytes.{number-on, bytes}
 use Rattle.wire.specs.Read.{after, field, limited, many}
-use Rattle.wire.specs.Accept.{taken, number-of}
+use Rattle.wire.specs.Accept.{gridded, taken, number-of}
 use Rattle.job.specs.Keys.{twice, known-then, each}
 use Rattle.job.specs.Job.{flags-of, within-total, next-edge, next-bundle, ended, some-twice, resolved, or-nine, settled, outcome, fields, version, lengths-fit, read-job}
 use Rattle.plan.specs.Depths.{offsets-from}
@@ -26,7 +26,7 @@ smallest-job = 0 ∷ 0 ∷ 0 ∷ 58 ∷ 1 ∷ 0 ∷ replicate 56 0
 
 -- gives 00 00 00 20 01 00 and 30 zero bytes
 pub smallest-answer : written smallest-job answer-room ≡ 0 ∷ 0 ∷ 0 ∷ 32 ∷ 1 ∷ 0 ∷ replicate 30 0
-unfolding written told-bytes after-reading read-job lengths-fit number-on outcome field version fields after flags-of taken number-of accepted minus-zero plus-zero ofBits toBits lt le eq ne limited many within-total next-edge next-bundle ended settled some-twice twice or-nine resolved each known-then after-plan first-pass indices-from components offsets-from turns-from after-sheet sheet-of page-told page-of moved min-x min-y least-of greatest-of all-points route-points drawn-points width-of height-of lines-of bundles-told answer-bytes body-bytes head-bytes counts-bytes all-bytes bytes
+unfolding written told-bytes after-reading read-job lengths-fit number-on outcome field version fields after flags-of taken gridded number-of accepted minus-zero plus-zero ofBits toBits lt le eq ne limited many within-total next-edge next-bundle ended settled some-twice twice or-nine resolved each known-then after-plan first-pass indices-from components offsets-from turns-from after-sheet sheet-of page-told page-of moved min-x min-y least-of greatest-of all-points route-points drawn-points width-of height-of lines-of bundles-told answer-bytes body-bytes head-bytes counts-bytes all-bytes bytes
 smallest-answer = refl
 
 pub smallest-notice : written [] answer-room ≡ 0 ∷ 0 ∷ 0 ∷ 2 ∷ 1 ∷ 1 ∷ []
@@ -38,7 +38,7 @@ abbrev one-visit-job : List ℕ
 one-visit-job = 0 ∷ 0 ∷ 0 ∷ 58 ∷ 1 ∷ 0 ∷ replicate 43 0 ++ (1 ∷ replicate 12 0)
 
 pub one-visit-answer : written one-visit-job answer-room ≡ 0 ∷ 0 ∷ 0 ∷ 32 ∷ 1 ∷ 0 ∷ 0 ∷ 0 ∷ 0 ∷ 1 ∷ replicate 26 0
-unfolding written told-bytes after-reading read-job lengths-fit number-on outcome field version fields after flags-of taken number-of accepted minus-zero plus-zero ofBits toBits lt le eq ne limited many within-total next-edge next-bundle ended settled some-twice twice or-nine resolved each known-then after-plan first-pass indices-from components offsets-from turns-from after-sheet sheet-of page-told page-of moved min-x min-y least-of greatest-of all-points route-points drawn-points width-of height-of lines-of bundles-told answer-bytes body-bytes head-bytes counts-bytes all-bytes bytes
+unfolding written told-bytes after-reading read-job lengths-fit number-on outcome field version fields after flags-of taken gridded number-of accepted minus-zero plus-zero ofBits toBits lt le eq ne limited many within-total next-edge next-bundle ended settled some-twice twice or-nine resolved each known-then after-plan first-pass indices-from components offsets-from turns-from after-sheet sheet-of page-told page-of moved min-x min-y least-of greatest-of all-points route-points drawn-points width-of height-of lines-of bundles-told answer-bytes body-bytes head-bytes counts-bytes all-bytes bytes
 one-visit-answer = refl
 
 -- ONE FIXED SHEET is not the answer to every job that is accepted

@@ -14,7 +14,8 @@ use Rattle.binary64.specs.Kind.{finite-between, plus-zero-plain}
 use Rattle.wire.specs.Bytes.{number-on}
 use Rattle.wire.specs.Read.{refused, got, after, field, told-number}
 use Rattle.wire.specs.declared.Number.the-variants.{Bad, Good}
-use Rattle.wire.specs.Accept.{number-in-bits, number-of, taken, coordinate, size, option}
+use Rattle.grid.specs.DraftingGrid.{on-drafting-grid}
+use Rattle.wire.specs.Accept.{gridded, number-in-bits, number-of, taken, coordinate, size, option}
 
 pub not-nan : (n : ℕ) → n % 2 ^ 63 ≤ 0x7ff0_0000_0000_0000 → T (not (nanBits binary64 n))
 not-nan n h = subst (λ (b : Bool). T (not b)) (sym (nanBits-above binary64 n)) (le→nltb (ones binary64 * hid binary64) (n % top binary64) h)
@@ -57,11 +58,12 @@ told-of low high n rest = told-cond (accepted low high (number-in-bits n)) (numb
 
 -- ---- closed cases
 -- the eight bytes of minus zero are plus zero in every kind of field
-pub minus-zero-read : let bytes : List ℕ = 128 ∷ 0 ∷ 0 ∷ 0 ∷ 0 ∷ 0 ∷ 0 ∷ 0 ∷ [] in (coordinate bytes ≡ got zero64 []) × (size bytes ≡ got zero64 []) × (option bytes ≡ got zero64 [])
-unfolding after field number-on taken accepted minus-zero plus-zero ofBits le lt eq
-minus-zero-read = (refl, refl, refl)
+pub minus-zero-read : (grid : Bool) → let bytes : List ℕ = 128 ∷ 0 ∷ 0 ∷ 0 ∷ 0 ∷ 0 ∷ 0 ∷ 0 ∷ [] in (coordinate grid bytes ≡ got zero64 []) × (size grid bytes ≡ got zero64 []) × (option grid bytes ≡ got zero64 [])
+unfolding after field number-on taken gridded on-drafting-grid accepted minus-zero plus-zero ofBits le lt eq
+minus-zero-read true = (refl, refl, refl)
+minus-zero-read false = (refl, refl, refl)
 
 -- the number below it stays: a coordinate, and below the range of a size and of an option
-pub below-zero-read : let bytes : List ℕ = 128 ∷ 0 ∷ 0 ∷ 0 ∷ 0 ∷ 0 ∷ 0 ∷ 1 ∷ [] in (coordinate bytes ≡ got (ofBits binary64 (2 ^ 63 + 1)) []) × (size bytes ≡ refused 7) × (option bytes ≡ refused 7)
-unfolding after field number-on taken accepted minus-zero plus-zero ofBits le lt eq
+pub below-zero-read : let bytes : List ℕ = 128 ∷ 0 ∷ 0 ∷ 0 ∷ 0 ∷ 0 ∷ 0 ∷ 1 ∷ [] in (coordinate false bytes ≡ got (ofBits binary64 (2 ^ 63 + 1)) []) × (size false bytes ≡ refused 7) × (option false bytes ≡ refused 7)
+unfolding after field number-on taken gridded accepted minus-zero plus-zero ofBits le lt eq
 below-zero-read = (refl, refl, refl)
