@@ -1,0 +1,62 @@
+-- F-2 of document 02, of a job's bytes and the bytes that stand in the answer's buffer for them: with bit 2 set every number worked out is the exact fraction over 128, the definition being in whole numbers. Definitions only.
+-- Assumes nothing.
+use Prim.Native.Nat.{ℕ, _/_, _%_, _<_}
+use mathlib.Core.Path.{_≡_}
+use mathlib.Core.List.{List, map}
+use lib.ListN.{length, getD}
+use Rattle.answer.specs.Answer.{notice-bytes}
+use Rattle.job.specs.Job.{Job, given-routes, read-job}
+use Rattle.job.specs.Job as job
+use Rattle.plan.specs.Plan as plan
+use Rattle.promise.specs.Stage as stage
+use Rattle.promise.specs.Stage.{page-told, planned, told-bytes}
+use Rattle.grid_plan.specs.Board as Z
+use Rattle.grid_plan.specs.Image as I
+use Rattle.grid_plan.specs.Plan as P
+use Rattle.grid_sheet.specs.Image.{page}
+use Rattle.grid_sheet.specs.Numbers.{Numbers}
+use Rattle.grid_sheet.specs.Whole.{Told, refused, drawn, after-sheet, sheet-drawn}
+use Rattle.grid_promise.specs.Wholes.{wholes, whole-routes}
+
+-- bit 2 of byte 5 declares the drafting grid
+abbrev pub grid-bit : List ℕ → ℕ
+grid-bit bytes = getD bytes 5 0 / 4 % 2
+
+-- ---- what a job comes to in whole numbers
+abbrev pub whole-board : Job → Z.Board
+whole-board j = wholes (j .board)
+
+abbrev pub given : Job → List Z.Route
+given j = whole-routes (given-routes j)
+
+abbrev pub whole-plan : Job → P.Plan
+whole-plan j = P.plan-of (whole-board j) (given j) (j .flags .«separates_collectors») (j .grants .«tap_visits»)
+
+-- planned once on the given routes, then drawn, then normalized
+abbrev pub whole-job : Job → Told
+whole-job j = after-sheet (whole-board j) (whole-plan j .left) (sheet-drawn (whole-board j) (given j) (j .flags .«permits_crossings») (whole-plan j .xs) (j .grants .«geometry_visits»))
+
+-- the answer for that: each whole number over 128 as binary64
+abbrev pub as-told : Job → Told → stage.Told
+as-told j (refused e) = stage.refused e
+as-told j (drawn taps geometry p) = stage.drawn (page-told (j .board) taps geometry (page p))
+
+-- ---- the statement
+pub record Grid (bytes answer : List ℕ) (j : Job) : Type 0 where
+  -- the board and the given routes in whole numbers over 128 are the job's
+  pub board-is : I.board (whole-board j) ≡ j .board
+  pub routes-are : map I.route (given j) ≡ given-routes j
+  -- every number worked out, definition by definition; same place is equality, separation a distance of at least the pitch
+  pub numbers-are : Numbers (whole-board j) (given j)
+  -- the plan is that in whole numbers, which has no refusal
+  pub plan-is : planned j ≡ plan.going (I.plan (whole-plan j))
+  -- the sheet with the visits left, or the number of a refusal
+  pub told-is : stage.told bytes ≡ as-told j (whole-job j)
+  -- and the bytes of the answer
+  pub answer-is : answer ≡ told-bytes (as-told j (whole-job j))
+  -- "13 cannot happen"
+  pub never-13 : answer ≡ notice-bytes 13 → ⊥
+
+-- F-2, of a job's bytes and the bytes that stand in the answer's buffer for them, where any are written: the job is read, and bit 2 is set
+abbrev pub OnGrid : List ℕ → List ℕ → Type 0
+OnGrid bytes answer = 0 < length answer → (j : Job) → read-job bytes ≡ job.accepted j → grid-bit bytes ≡ 1 → Grid bytes answer j
