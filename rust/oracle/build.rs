@@ -15,7 +15,7 @@ struct Patch {
 }
 
 // README.md lists these line by line.
-const PATCHES: [Patch; 12] = [
+const PATCHES: [Patch; 14] = [
     Patch {
         name: "tap grant: parameters",
         from: "    separate_same_role_collectors: bool,
@@ -96,6 +96,20 @@ fn collector_has_lane_separation(",
 ",
         to: "                harness::note(harness::Event::Separation);
                 let desired = match range.role {
+",
+    },
+    Patch {
+        name: "pitch less the tolerance: in the plan",
+        from: "                (*used_x - current_x).abs() < context.pitch - PRESERVED_GEOMETRY_EPSILON
+",
+        to: "                (*used_x - current_x).abs() < harness::less_tolerance(context.pitch)
+",
+    },
+    Patch {
+        name: "pitch less the tolerance: collector_has_lane_separation",
+        from: "        .all(|used_x| (*used_x - candidate).abs() >= pitch - PRESERVED_GEOMETRY_EPSILON)
+",
+        to: "        .all(|used_x| (*used_x - candidate).abs() >= harness::less_tolerance(pitch))
 ",
     },
     Patch {

@@ -10,6 +10,7 @@ use std::time::{Duration, Instant};
 use jobs::families::FAMILIES;
 use jobs::mutations::Mutations;
 use jobs::numbers::{fields, has_minus_zero};
+use jobs::survey::NUMBERS;
 
 use crate::check::{Checker, ENOUGH, SHORT, Same, Stage};
 use crate::outside::{End, PANICKED, end_after, forked, shared_words, wait_for_any};
@@ -17,14 +18,13 @@ use crate::outside::{End, PANICKED, end_after, forked, shared_words, wait_for_an
 /// Jobs of each family among `CYCLE` that follow one another, and mutated ones. Few are of the
 /// families that come around after some thousands of jobs, or whose jobs take long.
 const SHARES: [u64; KINDS] = [
-    64, 48, 48, 64, 96, 24, 64, 8, 24, 12, 1, 32, 24, 64, 32, 1, 2, 416,
+    64, 48, 96, 64, 96, 24, 64, 8, 24, 12, 1, 32, 24, 48, 48, 32, 1, 2, 336,
 ];
 const KINDS: usize = FAMILIES.len() + 1;
 const MUTATED: usize = FAMILIES.len();
 const CYCLE: u64 = 1_024;
 /// How many jobs there are between two lines that say how far it is.
 const MILLION: u64 = 1_000_000;
-const NUMBERS: usize = 15;
 
 /// What to run, and the bounds.
 #[derive(Clone, Copy, Debug)]
@@ -355,7 +355,7 @@ fn print_counts(counts: &Counts) {
     }
     row("all", &all);
     let mutated = &counts.jobs[MUTATED];
-    let deep = mutated[10..].iter().sum::<u64>();
+    let deep = mutated[10..=14].iter().sum::<u64>();
     println!(
         "mutated jobs: {} accepted, {deep} refused with 10 to 14",
         mutated[0]

@@ -11,5 +11,6 @@ pub mod joints;
 pub mod outside;
 pub mod plot;
 pub mod report;
+pub mod rounding;
 pub mod stack;
 pub mod time;

@@ -7,13 +7,14 @@ use std::process::ExitCode;
 
 use compare::fuzz::{self, Settings};
 use compare::time::Whose;
-use compare::{boards, heap, joints, outside, report, stack, time};
+use compare::{boards, heap, joints, outside, report, rounding, stack, time};
 
 const USAGE: &str = "compare fuzz [--seed S] [--from I] [--jobs N] [--seconds T] [--workers W] [--family F]
                                         same bytes on all families and mutated jobs, or on one of them
 compare heap [SEED [COUNT]]             same bytes, buffers of exact size on the heap; for memcheck
 compare joints [SEED [COUNT]]           false joints before and after the last shift, COUNT jobs of each
                                         family
+compare rounding [SEED [COUNT]]         that nothing rounds on the drafting grid, COUNT jobs of each family
 compare stack [SEED [COUNT]]            bytes of stack, COUNT jobs of each family
 compare stack-of PAGES                  largest jobs on a stack of that many pages
 compare time [SEED [ROUNDS]]            microseconds a job, both stages
@@ -47,6 +48,10 @@ fn command(words: &[&str]) -> Result<bool, String> {
         ["joints", ref rest @ ..] => {
             let [seed, count] = numbers(rest, [1, 1_000])?;
             Ok(joints::joints(seed, count))
+        }
+        ["rounding", ref rest @ ..] => {
+            let [seed, count] = numbers(rest, [1, 10_000])?;
+            Ok(rounding::rounding(seed, count))
         }
         ["stack", ref rest @ ..] => {
             let [seed, count] = numbers(rest, [1, 1_000])?;

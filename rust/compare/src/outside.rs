@@ -1,6 +1,6 @@
 //! The only module with unsafe code: calls of the static library's function, pages that have an
-//! unmapped page on either side, processes that share memory, and the thread's clock. x86-64 Linux
-//! alone, as the library is.
+//! unmapped page on either side, processes that share memory, the thread's clock and its flag for
+//! operations that round. x86-64 Linux alone, as the library is.
 
 use std::arch::asm;
 use std::ffi::{c_int, c_uint, c_void};
@@ -95,6 +95,29 @@ pub fn stage_on_stack(stack: &mut Fenced, job: &[u8], answer: &mut [u8]) -> usiz
         );
     }
     count
+}
+
+/// The bit of MXCSR that an SSE operation sets where its result is rounded.
+const ROUNDED: u32 = 1 << 5;
+
+/// This thread's MXCSR.
+fn mxcsr() -> u32 {
+    let mut word = 0_u32;
+    // SAFETY: it writes the four bytes of `word`.
+    unsafe { asm!("stmxcsr [{}]", in(reg) &mut word, options(nostack)) };
+    word
+}
+
+/// Whether an operation of this thread has rounded since that was set to no.
+pub fn has_rounded() -> bool {
+    mxcsr() & ROUNDED != 0
+}
+
+pub fn set_has_rounded(rounded: bool) {
+    let rounded = if rounded { ROUNDED } else { 0 };
+    let word = mxcsr() & !ROUNDED | rounded;
+    // SAFETY: it changes one of the status flags alone, which no code of Rust's relies on.
+    unsafe { asm!("ldmxcsr [{}]", in(reg) &word, options(nostack)) };
 }
 
 /// Microseconds that this thread has run: time during which something else ran does not count.

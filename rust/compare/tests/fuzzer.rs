@@ -52,6 +52,15 @@ fn says_7_for_minus_zero(job: &[u8], answer: &mut [u8]) -> usize {
     count
 }
 
+/// As if bit 2 were not looked at.
+fn never_says_15(job: &[u8], answer: &mut [u8]) -> usize {
+    let mut job = job.to_vec();
+    if let Some(flags @ 4..8) = job.get_mut(5) {
+        *flags &= 3;
+    }
+    stage(&job, answer)
+}
+
 fn writes_past_the_answer(job: &[u8], answer: &mut [u8]) -> usize {
     let count = stage(job, answer);
     if accepted(count) {
@@ -143,10 +152,11 @@ fn runs_on(job: &[u8], answer: &mut [u8]) -> usize {
     count
 }
 
-const WRONG: [(&str, Stage, &[How]); 14] = [
+const WRONG: [(&str, Stage, &[How]); 15] = [
     ("flips a byte", flips_a_byte, &[How::Differs]),
     ("11 for 14", says_11_for_14, &[How::Differs]),
     ("7 for minus zero", says_7_for_minus_zero, &[How::Differs]),
+    ("never 15", never_says_15, &[How::Differs]),
     ("past the answer", writes_past_the_answer, &[How::Differs]),
     (
         "in a short buffer",

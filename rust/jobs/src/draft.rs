@@ -104,6 +104,7 @@ impl Draft {
         Job {
             separate: self.separate,
             crossings: self.crossings,
+            on_grid: false,
             port_stub: scale.length(self.stub),
             route_lane_gap: scale.length(self.gap),
             edge_node_clearance: scale.length(self.clearance),

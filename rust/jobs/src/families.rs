@@ -6,6 +6,7 @@ use oracle::job::{Job, plus};
 use crate::boards;
 use crate::draft::{Draft, DraftBundle, EAST, INPUT, OUTPUT, Scale, WEST, rename};
 use crate::floats::{LARGEST, Palette, clean, near, power, step};
+use crate::grid;
 use crate::rng::Rng;
 use crate::zeros;
 
@@ -23,7 +24,7 @@ impl Family {
     }
 }
 
-pub const FAMILIES: [Family; 17] = [
+pub const FAMILIES: [Family; 18] = [
     Family {
         name: "small",
         shows: "realistic, one or two bands, two or three members",
@@ -38,9 +39,9 @@ pub const FAMILIES: [Family; 17] = [
     },
     Family {
         name: "grid",
-        shows: "multiples of 1/64, realistic and random walks",
+        shows: "multiples of 1/64 up to 2^20, bit 2 in most: all kinds of boards, the largest too",
         count: 30_000,
-        make: grid,
+        make: grid::job,
     },
     Family {
         name: "random",
@@ -103,6 +104,12 @@ pub const FAMILIES: [Family; 17] = [
         make: fans,
     },
     Family {
+        name: "off_grid",
+        shows: "bit 2 and numbers off the grid, or right at its limit, in each kind of field",
+        count: 20_000,
+        make: grid::off_grid,
+    },
+    Family {
         name: "zeros",
         shows: "minus zeros in number fields, alone in each kind and many at once",
         count: 30_000,
@@ -116,7 +123,7 @@ pub const FAMILIES: [Family; 17] = [
     },
     Family {
         name: "limits",
-        shows: "each field of one small job at, inside and past its limits, one at a time",
+        shows: "each field of one small job at, inside and past its limits, and the grid's, one at a time",
         count: LIMITS,
         make: limits,
     },
@@ -137,7 +144,10 @@ pub fn any_board(rng: &mut Rng, seed: u64) -> Job {
     match rng.below(20) {
         0..=5 => small_draft(rng).job(&Scale::ONE),
         6..=8 => realistic_draft(rng).job(&Scale::ONE),
-        9..=10 => grid_job(rng),
+        9..=10 => Job {
+            on_grid: true,
+            ..grid_job(rng)
+        },
         11..=13 => adversarial_job(rng),
         14 => boards::random(rng).job(&Scale::ONE),
         15 => match rng.below(2) {
@@ -197,12 +207,6 @@ pub fn grid_job(rng: &mut Rng) -> Job {
         shift_y: rng.between(-6400, 6400) as f64 / 64.0,
     };
     draft.job(&scale)
-}
-
-fn grid(seed: u64, index: u64) -> Vec<u8> {
-    let mut rng = Rng::new("grid", seed, index);
-    let job = grid_job(&mut rng);
-    finish(&mut rng, job)
 }
 
 fn random(seed: u64, index: u64) -> Vec<u8> {
@@ -805,7 +809,7 @@ const COUNTS: [(usize, u16); 7] = [
     (186, 64),
     (192, 255), // the lane
 ];
-const LIMITS: u64 = 4 * 256 + 14 * 22 + 2 * 5 + 7 * 6;
+const LIMITS: u64 = 4 * 256 + 14 * 22 + 2 * 5 + 7 * 6 + 14 * 12;
 
 fn limits(_: u64, index: u64) -> Vec<u8> {
     let mut bytes = one_of_each();
@@ -829,10 +833,37 @@ fn limits(_: u64, index: u64) -> Vec<u8> {
         return bytes;
     }
     index -= 2 * 5;
-    let (at, limit) = COUNTS[index / 6];
-    let value = [0, 1, limit - 1, limit, limit + 1, u16::MAX][index % 6];
-    bytes[at..at + 2].copy_from_slice(&value.to_be_bytes());
+    if index < 7 * 6 {
+        let (at, limit) = COUNTS[index / 6];
+        let value = [0, 1, limit - 1, limit, limit + 1, u16::MAX][index % 6];
+        bytes[at..at + 2].copy_from_slice(&value.to_be_bytes());
+        return bytes;
+    }
+    index -= 7 * 6;
+    bytes[5] |= 4;
+    let at = NUMBERS[index / 12];
+    let value = grid_number(index % 12);
+    bytes[at..at + 8].copy_from_slice(&value.to_be_bytes());
     bytes
+}
+
+/// At, inside and past the drafting grid's limit, and beside its numbers.
+fn grid_number(which: usize) -> f64 {
+    let (unit, limit) = (power(-6), power(20));
+    match which {
+        0 => limit,
+        1 => -limit,
+        2 => limit + unit,
+        3 => -limit - unit,
+        4 => step(limit, 1),
+        5 => step(limit, -1),
+        6 => limit - unit,
+        7 => unit,
+        8 => unit / 2.0,
+        9 => step(unit, 1),
+        10 => step(unit, -1),
+        _ => -0.0,
+    }
 }
 
 fn limit_number(which: usize) -> f64 {

@@ -102,7 +102,7 @@ fn records(first: &str, count: &str, make: impl Fn(u64) -> Vec<u8>) -> Result<bo
 /// The damaged jobs on standard output; how many of each number on standard error.
 fn damaged(seed: u64, jobs: u64, times: u64, longest: usize) -> Result<bool, String> {
     let mut to = BufWriter::new(io::stdout().lock());
-    let mut counts = [0_u64; 10];
+    let mut counts = [0_u64; survey::NUMBERS];
     let mut done = Ok(());
     damages::damages(seed, jobs, times, longest, &mut |job| {
         counts[oracle::job::read(job).map_or_else(usize::from, |_| 0)] += 1;

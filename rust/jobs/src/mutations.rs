@@ -6,7 +6,9 @@ use oracle::job::{self, Job, JobBundle, JobEdge, plus};
 use crate::damages::damage;
 use crate::families::{family, paid};
 use crate::floats::{LARGEST, clean, near, power, step};
+use crate::grid::snap;
 use crate::rng::Rng;
+use crate::values::{Axis, coordinates};
 use crate::zeros::put_in_job;
 
 /// Mutated jobs of one accepted job, so that few have to be looked for.
@@ -61,6 +63,10 @@ impl Mutations {
         for _ in 0..rng.pick(&[1, 1, 1, 2, 2, 3, 4]) {
             change(&mut job, from, &mut rng);
         }
+        // A number that is moved by less than 1/64 is off the grid.
+        if job.on_grid && rng.chance(3, 4) || rng.chance(1, 16) {
+            snap(&mut job);
+        }
         let mut bytes = job.encode();
         if rng.chance(1, 8) {
             put_in_job(&mut rng, &mut bytes);
@@ -103,31 +109,11 @@ fn change(job: &mut Job, from: &Accepted, rng: &mut Rng) {
         13 => change_order(job, rng),
         14 => change_grant(job, from, rng),
         _ => {
-            let separate = rng.chance(1, 2);
-            job.separate ^= separate;
-            job.crossings ^= !separate;
+            let flags = [&mut job.separate, &mut job.crossings, &mut job.on_grid];
+            let flag = rng.below(flags.len());
+            *flags[flag] ^= true;
         }
     }
-}
-
-#[derive(Clone, Copy)]
-pub(crate) enum Axis {
-    X,
-    Y,
-}
-
-/// The coordinates of one axis, nodes' before points'.
-pub(crate) fn coordinates(job: &mut Job, axis: Axis) -> Vec<&mut f64> {
-    let nodes = job.nodes.iter_mut().map(|node| match axis {
-        Axis::X => &mut node.x,
-        Axis::Y => &mut node.y,
-    });
-    let points = job.edges.iter_mut().flat_map(|edge| &mut edge.points);
-    let points = points.map(|point| match axis {
-        Axis::X => &mut point.0,
-        Axis::Y => &mut point.1,
-    });
-    nodes.chain(points).collect()
 }
 
 fn any_of<'job, T>(list: &'job mut [T], rng: &mut Rng) -> Option<&'job mut T> {

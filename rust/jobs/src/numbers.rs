@@ -21,6 +21,14 @@ pub struct Field {
     pub at: usize,
 }
 
+impl Field {
+    /// The bits of the number.
+    pub fn bits(self, bytes: &[u8]) -> u64 {
+        let number = bytes[self.at..self.at + 8].try_into();
+        u64::from_be_bytes(number.expect("eight bytes"))
+    }
+}
+
 pub const MINUS_ZERO: [u8; 8] = [0x80, 0, 0, 0, 0, 0, 0, 0];
 
 struct Walk<'a> {
@@ -134,4 +142,34 @@ pub fn minus_zeros<'a>(
 
 pub fn has_minus_zero(bytes: &[u8], fields: &[Field]) -> bool {
     minus_zeros(bytes, fields).next().is_some()
+}
+
+/// Whether bits are those of a multiple of 1/64 with magnitude at most 2^20 (document 02, F-2): in whole
+/// numbers, by exponent and mantissa.
+pub fn is_on_grid(bits: u64) -> bool {
+    const LIMIT: u64 = (1023 + 20) << 52; // 2^20
+    let magnitude = bits & !(1 << 63);
+    let mantissa = magnitude & ((1 << 52) - 1) | 1 << 52;
+    // The number is the mantissa by 2 to the power of (exponent - 1075); subnormals are far below 1/64.
+    let exponent = (magnitude >> 52) as i64;
+    let is_multiple = i64::from(mantissa.trailing_zeros()) + exponent - 1075 >= -6;
+    magnitude == 0 || magnitude <= LIMIT && is_multiple
+}
+
+/// Whether 7 lets a number pass in a field of this kind.
+fn is_in_range(kind: Kind, value: f64) -> bool {
+    let (low, high) = match kind {
+        Kind::Option => (0.0, 1_048_576.0),
+        Kind::Size => (0.0, 1_073_741_824.0),
+        Kind::Coordinate | Kind::Offset => (-1_073_741_824.0, 1_073_741_824.0),
+    };
+    low <= value && value <= high
+}
+
+/// The first number, by place, that 7 lets pass and that is off the drafting grid.
+pub fn first_off_grid(bytes: &[u8]) -> Option<Field> {
+    fields(bytes).into_iter().find(|field| {
+        let bits = field.bits(bytes);
+        is_in_range(field.kind, f64::from_bits(bits)) && !is_on_grid(bits)
+    })
 }

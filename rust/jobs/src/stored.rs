@@ -10,7 +10,7 @@ use oracle::wire::Writer;
 
 use crate::cases;
 use crate::families::family;
-use crate::numbers::{has_minus_zero, search_fields};
+use crate::numbers::{fields, has_minus_zero, search_fields};
 use crate::survey::{Shown, lone_without_x, look, marks};
 
 const SEED: u64 = 1;
@@ -33,6 +33,14 @@ fn turned(job: &[u8], bit: u8) -> Vec<u8> {
     let mut job = job.to_vec();
     job[5] ^= bit;
     oracle::answer_of(&job)
+}
+
+/// A number is 2^20 or minus 2^20.
+fn has_grid_limit(job: &[u8]) -> bool {
+    let limit = 1_048_576.0_f64.to_bits();
+    fields(job)
+        .iter()
+        .any(|field| field.bits(job) & !(1 << 63) == limit)
 }
 
 macro_rules! wanted {
@@ -106,7 +114,24 @@ const WANTED: &[Wanted] = wanted! {
     "mark 1 without a planned x", "degenerate", 4, 600, |shown, _| {
         accepted(shown) && shown.unplanned > 0
     };
-    "accepted", "grid", 10, 500, |shown, _| accepted(shown);
+    "accepted", "grid", 10, 500, |shown, _| accepted(shown) && shown.on_grid;
+    "on the grid, split", "grid", 4, 700, |shown, _| {
+        accepted(shown) && shown.on_grid && shown.events[2] > 0
+    };
+    "on the grid, separation", "grid", 4, 900, |shown, _| {
+        accepted(shown) && shown.on_grid && shown.events[4] > 0
+    };
+    "on the grid, refused by the drawing", "grid", 4, 600, |shown, _| {
+        matches!(shown.number, 10..=12) && shown.on_grid
+    };
+    "number 15", "off_grid", 12, 600, |shown, _| shown.number == 15;
+    "number 15, on its own", "off_grid", 6, 600, |shown, job| {
+        shown.number == 15 && oracle::number(&turned(job, 4)) == 0
+    };
+    "at the grid's limit", "off_grid", 6, 600, |shown, job| {
+        accepted(shown) && shown.on_grid && has_grid_limit(job)
+    };
+    "bit 2 and number 7", "off_grid", 4, 600, |shown, job| shown.number == 7 && job[5] & 4 != 0;
     "accepted", "random", 8, 400, |shown, _| accepted(shown);
     "accepted", "adversarial", 16, 500, |shown, _| accepted(shown);
     "accepted", "degenerate", 12, 500, |shown, _| accepted(shown);
@@ -141,12 +166,14 @@ fn literal() -> Vec<(&'static str, Vec<u8>)> {
         ("length one more than follows", vec![0, 0, 0, 2, 1]),
         ("version 0, nothing else", vec![0, 0, 0, 1, 0]),
         ("version 1, nothing else", vec![0, 0, 0, 1, 1]),
-        ("flags not listed, nothing else", vec![0, 0, 0, 2, 1, 4]),
-        ("flags, nothing else", vec![0, 0, 0, 2, 1, 3]),
+        ("flags not listed, nothing else", vec![0, 0, 0, 2, 1, 8]),
+        ("flags, nothing else", vec![0, 0, 0, 2, 1, 7]),
         ("the empty job", empty.clone()),
         ("the empty job, bit 0", with(5, 1)),
         ("the empty job, bit 1", with(5, 2)),
         ("the empty job, both bits", with(5, 3)),
+        ("the empty job, bit 2", with(5, 4)),
+        ("the empty job, all bits", with(5, 7)),
         ("the empty job, version 2", with(4, 2)),
         ("the empty job with a byte more", {
             let mut job = with(3, 0x3b);
@@ -332,7 +359,9 @@ fn stored_jobs() -> (Vec<u8>, String) {
             return false;
         }
         let (answer, shown) = look(job);
-        let flags = u8::from(shown.separate) | u8::from(shown.crossings) << 1;
+        let flags = u8::from(shown.separate)
+            | u8::from(shown.crossings) << 1
+            | u8::from(shown.on_grid) << 2;
         let [in_rail, in_interior, out_rail, out_interior] = shown.drawn;
         writeln!(
             index,

@@ -16,6 +16,7 @@ pub struct Shown {
     pub number: u8,
     pub separate: bool,
     pub crossings: bool,
+    pub on_grid: bool,
     /// Bundles drawn, by role and mark: Input rail, Input interior, Output rail, Output interior.
     pub drawn: [u32; 4],
     /// Components with both roles, of these given up, splits, input limits, separations.
@@ -46,6 +47,7 @@ pub fn look(bytes: &[u8]) -> (Vec<u8>, Shown) {
     if let Ok(job) = job::read(bytes) {
         shown.separate = job.separate;
         shown.crossings = job.crossings;
+        shown.on_grid = job.on_grid;
         shown.bundles = job.bundles.len();
         let roles = job
             .bundles
@@ -127,16 +129,19 @@ fn plan_events(job: &[u8], grant: u32, shown: &mut Shown) -> Result<(), Short> {
     Ok(())
 }
 
+/// The numbers from 0, accepted, to the last refusal that there is.
+pub const NUMBERS: usize = 16;
+
 /// Counts of a family, or of all.
 #[derive(Clone, Debug, Default)]
 struct Tally {
     jobs: u64,
-    numbers: [u64; 15],
+    numbers: [u64; NUMBERS],
     features: [u64; FEATURES.len()],
 }
 
 /// Where the features begin that count accepted jobs with a minus zero, by kind of field.
-const MINUS_ZEROS: usize = 16;
+const MINUS_ZEROS: usize = 17;
 const FEATURES: [&str; MINUS_ZEROS + NUMBER_KINDS] = [
     "in rail",
     "in inter",
@@ -154,6 +159,7 @@ const FEATURES: [&str; MINUS_ZEROS + NUMBER_KINDS] = [
     "alone none",
     "fallen",
     "unplanned",
+    "bit 2",
     "-0 option",
     "-0 coord",
     "-0 size",
@@ -180,6 +186,7 @@ impl Tally {
         self.features[13] += u64::from(lone_without_x(shown));
         self.features[14] += u64::from(shown.fallen);
         self.features[15] += u64::from(shown.unplanned);
+        self.features[16] += u64::from(accepted && shown.on_grid);
         for (place, &there) in shown.minus_zeros.iter().enumerate() {
             self.features[MINUS_ZEROS + place] += u64::from(accepted && there);
         }
@@ -202,14 +209,14 @@ pub fn lone_without_x(shown: &Shown) -> bool {
 }
 
 /// Prints how many of each number every family gives, and what else the jobs show. False where a
-/// number from 1 to 14 but 2 is not reached, less than a third of the jobs is accepted, or no
+/// number from 1 to 15 but 2 is not reached, less than a third of the jobs is accepted, or no
 /// accepted job has a minus zero in some kind of field.
 pub fn distribution(seed: u64, percent: u64) -> bool {
     let mut all = Tally::default();
     let mut lines = Vec::new();
     heading(
         "family",
-        &(0..15).map(|n| n.to_string()).collect::<Vec<_>>(),
+        &(0..NUMBERS).map(|n| n.to_string()).collect::<Vec<_>>(),
     );
     for family in &FAMILIES {
         let mut tally = Tally::default();
@@ -234,7 +241,7 @@ pub fn distribution(seed: u64, percent: u64) -> bool {
     }
     row("all", all.jobs, &all.features);
     println!();
-    let missing = (1..15)
+    let missing = (1..NUMBERS)
         .filter(|&number| number != 2 && all.numbers[number] == 0)
         .collect::<Vec<_>>();
     let third = all.numbers[0] * 3 >= all.jobs;

@@ -7,9 +7,9 @@ use crate::damages::damage;
 use crate::draft::{rename, rename_by};
 use crate::families::any_board;
 use crate::floats::clean;
-use crate::mutations::{Axis, coordinates};
 use crate::numbers::{Field, KINDS, MINUS_ZERO, fields, search_fields};
 use crate::rng::Rng;
+use crate::values::{Axis, coordinates};
 
 /// A board with minus zeros.
 pub fn job(seed: u64, index: u64) -> Vec<u8> {

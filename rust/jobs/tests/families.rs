@@ -4,13 +4,13 @@ use std::path::Path;
 
 use jobs::cases;
 use jobs::families::{FAMILIES, family};
-use jobs::survey::look;
+use jobs::survey::{NUMBERS, look};
 use oracle::calls::{call, op};
 use oracle::job::{self, Job};
 
 #[test]
 fn every_number_is_reached_and_a_third_accepted() {
-    let mut counts = [0_u32; 15];
+    let mut counts = [0_u32; NUMBERS];
     for family in &FAMILIES {
         let count = (family.count / 50).max(20);
         for place in 0..count {

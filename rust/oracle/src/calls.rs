@@ -645,7 +645,7 @@ fn write_board(out: &mut Writer, job: &Job) {
         )
     };
     let edge = |id: u32| place(job.edges.iter().position(|row| row.id == id));
-    out.u8(u8::from(job.separate) | u8::from(job.crossings) << 1);
+    out.u8(job.flags());
     for option in job.options() {
         out.f64(option);
     }

@@ -35,7 +35,7 @@ pub fn digest(bytes: &[u8]) -> Vec<u8> {
 
 fn digest_of(job: &Job) -> u64 {
     let mut digest = Digest(u64::from(job.separate));
-    digest.mix(u64::from(job.crossings));
+    digest.mix(u64::from(job.crossings) | u64::from(job.on_grid) << 1);
     for option in job.options() {
         digest.mix_number(option);
     }

@@ -2,6 +2,7 @@
 // Included by the copy, so `super` is the copy.
 
 use std::cell::Cell;
+use std::hint::black_box;
 
 use super::*;
 use crate::validation::IndexedBoundaryBundleMember;
@@ -13,6 +14,28 @@ thread_local! {
     static SEARCH_COST: Cell<u64> = const { Cell::new(0) };
     static SECOND_SPENT: Cell<bool> = const { Cell::new(false) };
     static EVENTS: Cell<[u32; 5]> = const { Cell::new([0; 5]) };
+    static AROUND: Cell<Around> = const { Cell::new(Around { before: || {}, after: || {} }) };
+}
+
+/// What is called before and after the pitch less the tolerance is worked out.
+#[derive(Clone, Copy)]
+struct Around {
+    before: fn(),
+    after: fn(),
+}
+
+pub(crate) fn set_around_tolerance(before: fn(), after: fn()) {
+    AROUND.set(Around { before, after });
+}
+
+/// Called by the copy for the one operation of a job on the drafting grid that rounds. What goes in
+/// and what comes out is held between the two calls.
+pub(super) fn less_tolerance(pitch: f64) -> f64 {
+    let Around { before, after } = AROUND.get();
+    before();
+    let less = black_box(black_box(pitch) - PRESERVED_GEOMETRY_EPSILON);
+    after();
+    less
 }
 
 /// What happens in a plan; the copy notes each as it comes to it.

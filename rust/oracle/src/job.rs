@@ -1,5 +1,5 @@
 //! The job's reader: document 01, sections "The job" and "Who can cause a refusal", numbers 1 and
-//! 3 to 9, with request F-1 of document 02. Written from the papers alone.
+//! 3 to 9, with requests F-1 and F-2 of document 02 (15). Written from the papers alone.
 
 use crate::wire::{Reader, Short, Writer};
 
@@ -16,6 +16,8 @@ pub const MAX_TAP_VISITS: u32 = 2_000_000;
 pub const MAX_GEOMETRY_VISITS: u32 = 20_000_000;
 const COORDINATE_LIMIT: f64 = 1_073_741_824.0; // 2^30
 const OPTION_LIMIT: f64 = 1_048_576.0; // 2^20
+const GRID_LIMIT: f64 = 1_048_576.0; // 2^20
+const TO_A_UNIT: f64 = 64.0; // of the drafting grid
 
 #[derive(Clone, Debug, PartialEq)]
 pub struct Job {
@@ -23,6 +25,8 @@ pub struct Job {
     pub separate: bool,
     /// Bit 1: strict crossings are permitted.
     pub crossings: bool,
+    /// Bit 2: all numbers are on the drafting grid. The Rust knows of no such flag.
+    pub on_grid: bool,
     pub port_stub: f64,
     pub route_lane_gap: f64,
     pub edge_node_clearance: f64,
@@ -110,12 +114,13 @@ pub fn read(bytes: &[u8]) -> Result<Job, u8> {
 }
 
 fn read_fields(from: &mut Reader<'_>) -> Result<Job, u8> {
-    let flags = listed(from.u8()?, 3)?;
-    let port_stub = option(from)?;
-    let route_lane_gap = option(from)?;
-    let edge_node_clearance = option(from)?;
-    let minimum_parallel_wire_spacing = option(from)?;
-    let member_endpoint_reserve = option(from)?;
+    let flags = listed(from.u8()?, 7)?;
+    let on_grid = flags & 4 != 0;
+    let port_stub = option(from, on_grid)?;
+    let route_lane_gap = option(from, on_grid)?;
+    let edge_node_clearance = option(from, on_grid)?;
+    let minimum_parallel_wire_spacing = option(from, on_grid)?;
+    let member_endpoint_reserve = option(from, on_grid)?;
     let tap_visits = grant(from, MAX_TAP_VISITS)?;
     let geometry_visits = grant(from, MAX_GEOMETRY_VISITS)?;
     let nodes = count(from, MAX_NODES)?;
@@ -127,6 +132,7 @@ fn read_fields(from: &mut Reader<'_>) -> Result<Job, u8> {
     let job = Job {
         separate: flags & 1 != 0,
         crossings: flags & 2 != 0,
+        on_grid,
         port_stub,
         route_lane_gap,
         edge_node_clearance,
@@ -134,9 +140,9 @@ fn read_fields(from: &mut Reader<'_>) -> Result<Job, u8> {
         member_endpoint_reserve,
         tap_visits,
         geometry_visits,
-        nodes: repeat(nodes, || node(from))?,
-        ports: repeat(ports, || port(from))?,
-        edges: repeat(edges, || edge(from, &mut points_left))?,
+        nodes: repeat(nodes, || node(from, on_grid))?,
+        ports: repeat(ports, || port(from, on_grid))?,
+        edges: repeat(edges, || edge(from, on_grid, &mut points_left))?,
         bundles: repeat(bundles, || bundle(from, &mut members_left))?,
     };
     if from.left() != 0 {
@@ -149,26 +155,26 @@ fn repeat<T>(count: u16, mut read: impl FnMut() -> Result<T, u8>) -> Result<Vec<
     (0..count).map(|_| read()).collect()
 }
 
-fn node(from: &mut Reader<'_>) -> Result<JobNode, u8> {
+fn node(from: &mut Reader<'_>, grid: bool) -> Result<JobNode, u8> {
     Ok(JobNode {
         id: from.u32()?,
-        x: coordinate(from)?,
-        y: coordinate(from)?,
-        width: size(from)?,
-        height: size(from)?,
+        x: coordinate(from, grid)?,
+        y: coordinate(from, grid)?,
+        width: size(from, grid)?,
+        height: size(from, grid)?,
     })
 }
 
-fn port(from: &mut Reader<'_>) -> Result<JobPort, u8> {
+fn port(from: &mut Reader<'_>, grid: bool) -> Result<JobPort, u8> {
     Ok(JobPort {
         node: from.u32()?,
         id: from.u32()?,
         side: listed(from.u8()?, 3)?,
-        offset: coordinate(from)?,
+        offset: coordinate(from, grid)?,
     })
 }
 
-fn edge(from: &mut Reader<'_>, points_left: &mut u32) -> Result<JobEdge, u8> {
+fn edge(from: &mut Reader<'_>, grid: bool, points_left: &mut u32) -> Result<JobEdge, u8> {
     Ok(JobEdge {
         id: from.u32()?,
         source_node: from.u32()?,
@@ -177,7 +183,9 @@ fn edge(from: &mut Reader<'_>, points_left: &mut u32) -> Result<JobEdge, u8> {
         target_port: from.u32()?,
         points: {
             let points = part_count(from, MAX_ROUTE_POINTS, points_left)?;
-            repeat(points, || Ok((coordinate(from)?, coordinate(from)?)))?
+            repeat(points, || {
+                Ok((coordinate(from, grid)?, coordinate(from, grid)?))
+            })?
         },
     })
 }
@@ -224,11 +232,15 @@ fn grant(from: &mut Reader<'_>, limit: u32) -> Result<u32, u8> {
     if value > limit { Err(5) } else { Ok(value) }
 }
 
-/// A number with minus zero taken as plus zero (document 02, F-1). 7: not finite, or out of range.
-fn number(from: &mut Reader<'_>, low: f64, high: f64) -> Result<f64, u8> {
+/// A number with minus zero taken as plus zero (document 02, F-1). 7: not finite, or out of range;
+/// then 15: off the drafting grid, where bit 2 is set (F-2).
+fn number(from: &mut Reader<'_>, grid: bool, low: f64, high: f64) -> Result<f64, u8> {
     let value = plus(from.f64()?);
     if !value.is_finite() || value < low || value > high {
         return Err(7);
+    }
+    if grid && !is_on_grid(value) {
+        return Err(15);
     }
     Ok(value)
 }
@@ -238,16 +250,21 @@ pub fn plus(value: f64) -> f64 {
     if value == 0.0 { 0.0 } else { value }
 }
 
-fn coordinate(from: &mut Reader<'_>) -> Result<f64, u8> {
-    number(from, -COORDINATE_LIMIT, COORDINATE_LIMIT)
+/// A multiple of 1/64 with magnitude at most 2^20. The product only moves the exponent.
+fn is_on_grid(value: f64) -> bool {
+    value.abs() <= GRID_LIMIT && (value * TO_A_UNIT).fract() == 0.0
 }
 
-fn size(from: &mut Reader<'_>) -> Result<f64, u8> {
-    number(from, 0.0, COORDINATE_LIMIT)
+fn coordinate(from: &mut Reader<'_>, grid: bool) -> Result<f64, u8> {
+    number(from, grid, -COORDINATE_LIMIT, COORDINATE_LIMIT)
 }
 
-fn option(from: &mut Reader<'_>) -> Result<f64, u8> {
-    number(from, 0.0, OPTION_LIMIT)
+fn size(from: &mut Reader<'_>, grid: bool) -> Result<f64, u8> {
+    number(from, grid, 0.0, COORDINATE_LIMIT)
+}
+
+fn option(from: &mut Reader<'_>, grid: bool) -> Result<f64, u8> {
+    number(from, grid, 0.0, OPTION_LIMIT)
 }
 
 /// 8: an id twice among nodes, edges, bundles or one node's ports; an edge twice in one role's
@@ -303,6 +320,11 @@ fn has_unknown(job: &Job) -> bool {
 }
 
 impl Job {
+    /// The byte of the flags.
+    pub fn flags(&self) -> u8 {
+        u8::from(self.separate) | u8::from(self.crossings) << 1 | u8::from(self.on_grid) << 2
+    }
+
     /// The five options in the job's order.
     pub fn options(&self) -> [f64; 5] {
         [
@@ -329,7 +351,7 @@ impl Job {
         let mut out = Writer::new();
         out.u32(0);
         out.u8(1);
-        out.u8(u8::from(self.separate) | u8::from(self.crossings) << 1);
+        out.u8(self.flags());
         for option in self.options() {
             out.f64(option);
         }

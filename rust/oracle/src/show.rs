@@ -27,9 +27,10 @@ fn show_job(text: &mut String, job: &Job) {
         text.push('\n');
     };
     line(format!(
-        "job separate {} crossings {} stub {} gap {} clearance {} spacing {} reserve {} grants {} {}",
+        "job separate {} crossings {} grid {} stub {} gap {} clearance {} spacing {} reserve {} grants {} {}",
         job.separate,
         job.crossings,
+        job.on_grid,
         job.port_stub,
         job.route_lane_gap,
         job.edge_node_clearance,

@@ -1,8 +1,8 @@
-//! The stage in document 01's order: 2, 1, 3, 4 to 7, 8, 9, the plan (13), the sheet bundle by
+//! The stage in document 01's order: 2, 1, 3, 4 to 7 and 15, 8, 9, the plan (13), the sheet bundle by
 //! bundle (10, 12, 11, 14), normalize_layout, the answer.
 
 use crate::board::Board;
-use crate::patched::harness::{Failed, Prepared, normalize};
+use crate::patched::harness::{self, Failed, Prepared, normalize};
 use crate::records::Layout;
 use crate::{answer, job};
 
@@ -43,6 +43,13 @@ pub fn answer_in_parts(job: &[u8], enter: impl FnMut(Part)) -> Vec<u8> {
 /// As `answer_of`, but with the sheet before its last shift; width and height are 0.
 pub fn answer_before_shift(job: &[u8]) -> Vec<u8> {
     sheet(job, |_| {}, |_| {}).unwrap_or_else(answer::notice)
+}
+
+/// For this thread, what is called before and after each pitch less the tolerance: the one operation
+/// that rounds for a job on the drafting grid (document 02, F-2), so that the CPU's flag for it can
+/// be kept out of it.
+pub fn set_around_tolerance(before: fn(), after: fn()) {
+    harness::set_around_tolerance(before, after);
 }
 
 /// The number in an answer or a notice.

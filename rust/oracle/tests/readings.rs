@@ -267,6 +267,7 @@ fn board() -> Job {
     Job {
         separate: false,
         crossings: false,
+        on_grid: false,
         port_stub: 10.0,
         route_lane_gap: 4.0,
         edge_node_clearance: 0.0,
@@ -442,6 +443,34 @@ fn pitch_0_makes_rails_count_as_interior() {
     assert_eq!(answer[36 + 20 + 6 + 32 + 4], 1);
 }
 
+/// Document 02, F-1 and F-2, in the first option of a job: minus zero is plus zero; 15 after 7 at the
+/// same number, by place among 4 to 7.
+#[test]
+fn minus_zero_and_the_drafting_grid() {
+    let of = |flags: u8, option: f64, grant: u32| {
+        let mut job = empty_job();
+        job[5] = flags;
+        job[6..14].copy_from_slice(&option.to_be_bytes());
+        job[46..50].copy_from_slice(&grant.to_be_bytes());
+        number(&answer_of(&job))
+    };
+    let limit = 1_048_576.0;
+    for flags in [0, 4] {
+        assert_eq!(of(flags, -0.0, 0), 0);
+        assert_eq!(of(flags, limit, 0), 0);
+        assert_eq!(of(flags, 3.0 / 64.0, 0), 0);
+        // Above an option's limit, below 0, no number.
+        for wrong in [limit + 1.0 / 64.0, -1.0 / 128.0, f64::NAN, f64::INFINITY] {
+            assert_eq!(of(flags, wrong, u32::MAX), 7);
+        }
+        let off = if flags == 4 { 15 } else { 0 };
+        for value in [1.0 / 128.0, 5e-324, 0.1, limit - 1.0 / 128.0] {
+            assert_eq!(of(flags, value, 0), off);
+            assert_eq!(of(flags, value, u32::MAX), if off == 0 { 5 } else { 15 });
+        }
+    }
+}
+
 #[test]
 fn order_of_refusals() {
     let of = |bytes: &[u8]| number(&answer_of(bytes));
@@ -450,7 +479,8 @@ fn order_of_refusals() {
     assert_eq!(of(&[0, 0, 0, 1, 2]), 3);
     assert_eq!(of(&[0, 0, 0, 1, 1]), 4);
     // 4 to 7 by place.
-    assert_eq!(of(&[0, 0, 0, 2, 1, 4]), 6);
+    assert_eq!(of(&[0, 0, 0, 2, 1, 8]), 6);
+    assert_eq!(of(&[0, 0, 0, 2, 1, 7]), 4);
     let mut job = empty_job();
     job[6..14].copy_from_slice(&f64::NAN.to_bits().to_be_bytes());
     job[46..50].copy_from_slice(&u32::MAX.to_be_bytes());
