@@ -31,6 +31,9 @@ pub struct Flags {
     pub separate_collectors: bool,
     /// A bundle and a foreign route may cross where neither ends.
     pub permit_crossings: bool,
+    /// All numbers of the board are on the drafting grid: multiples of 1/64 with magnitude at most
+    /// 2^20. Then nothing is rounded on the way to the sheet.
+    pub on_grid: bool,
 }
 
 /// Lengths that hold for the whole sheet, each from 0 to 2^20.
@@ -211,14 +214,51 @@ choice!(Role {
     0 => Role::Input,
     1 => Role::Output,
 });
-choice!(Flags {
-    0 => Flags { separate_collectors: false, permit_crossings: false },
-    1 => Flags { separate_collectors: true, permit_crossings: false },
-    2 => Flags { separate_collectors: false, permit_crossings: true },
-    3 => Flags { separate_collectors: true, permit_crossings: true },
-});
 listed!(Point "points");
 listed!(Member "members");
+
+/// A bit for each.
+impl Wire for Flags {
+    fn put(&self, to: &mut Writer) -> Result<(), TooMany> {
+        let bits = [
+            self.separate_collectors,
+            self.permit_crossings,
+            self.on_grid,
+        ];
+        let byte = bits
+            .into_iter()
+            .rev()
+            .fold(0, |byte, bit| 2 * byte + u8::from(bit));
+        byte.put(to)
+    }
+
+    fn take(from: &mut Reader<'_>, field: &'static str) -> Result<Flags, Malformed> {
+        from.listed(field, |byte: u8| {
+            (byte < 8).then_some(Flags {
+                separate_collectors: byte & 1 != 0,
+                permit_crossings: byte & 2 != 0,
+                on_grid: byte & 4 != 0,
+            })
+        })
+    }
+}
+
+impl Options {
+    /// The five options with their names, in the job's order.
+    pub(crate) fn named(&self) -> [(String, f64); 5] {
+        [
+            ("port_stub", self.port_stub),
+            ("route_lane_gap", self.route_lane_gap),
+            ("edge_node_clearance", self.edge_node_clearance),
+            (
+                "minimum_parallel_wire_spacing",
+                self.minimum_parallel_wire_spacing,
+            ),
+            ("member_endpoint_reserve", self.member_endpoint_reserve),
+        ]
+        .map(|(name, value)| (name.to_string(), value))
+    }
+}
 
 impl Board {
     /// The job's bytes. They fail only where a count is too large for the format; limits of the
@@ -247,7 +287,7 @@ impl Board {
         let mut from = Reader::new(bytes);
         from.length()?;
         version(&mut from)?;
-        let flags = from.field("the flags (0 to 3)")?;
+        let flags = from.field("the flags (0 to 7)")?;
         let options = from.field("the options")?;
         let grants = from.field("the grants")?;
         let nodes = from.field("the count of nodes")?;

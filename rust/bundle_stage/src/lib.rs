@@ -70,6 +70,7 @@
 #![forbid(unsafe_code)]
 
 mod board;
+mod grid;
 mod joints;
 mod refusal;
 mod sheet;
@@ -82,6 +83,7 @@ pub use board::{
     Board, Bundle, Edge, Endpoint, Flags, Id, Member, Node, Options, Point, Port, Role, Side,
     Visits,
 };
+pub use grid::{OffGrid, Record};
 pub use joints::{FalseJoint, Meeting};
 pub use refusal::{Cause, Refusal};
 pub use sheet::{Answer, DrawnBundle, PlacedNode, Route, Segment, Sheet, Tap};

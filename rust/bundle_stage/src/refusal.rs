@@ -3,7 +3,7 @@
 use std::error::Error;
 use std::fmt;
 
-/// Why there is no sheet: one case for each number of document 01.
+/// Why there is no sheet: one case for each number of document 01, and of request F-2 of document 02.
 #[derive(Clone, Copy, Debug, Eq, Hash, PartialEq)]
 pub enum Refusal {
     /// 1
@@ -34,6 +34,8 @@ pub enum Refusal {
     Split,
     /// 14
     Grant,
+    /// 15
+    OffGrid,
 }
 
 /// Who can cause a refusal.
@@ -51,7 +53,7 @@ pub enum Cause {
 
 impl Refusal {
     /// All of them, by number.
-    pub const ALL: [Refusal; 14] = [
+    pub const ALL: [Refusal; 15] = [
         Refusal::Length,
         Refusal::Buffer,
         Refusal::Version,
@@ -66,6 +68,7 @@ impl Refusal {
         Refusal::Interior,
         Refusal::Split,
         Refusal::Grant,
+        Refusal::OffGrid,
     ];
 
     /// The number in the notice.
@@ -84,7 +87,7 @@ impl Refusal {
     pub fn caused_by(self) -> Cause {
         match self.number() {
             1 | 2 => Cause::Caller,
-            3..=9 => Cause::Writer,
+            3..=9 | 15 => Cause::Writer,
             10..=13 => Cause::Drawing,
             _ => Cause::Grant,
         }
@@ -127,6 +130,9 @@ impl Refusal {
             Refusal::Grant => {
                 "the checks of the sheet need more geometry visits than the job grants"
             }
+            Refusal::OffGrid => {
+                "the job is said to be on the drafting grid, and a number is off it"
+            }
         }
     }
 
@@ -147,7 +153,7 @@ impl Refusal {
                  above 255, or grants above 2,000,000 tap and 20,000,000 geometry visits."
             }
             Refusal::NotListed => {
-                "Flags are 0 to 3, sides 0 to 3 (north, east, south, west), roles 0 and 1 (input, \
+                "Flags are 0 to 7, sides 0 to 3 (north, east, south, west), roles 0 and 1 (input, \
                  output)."
             }
             Refusal::Number => {
@@ -178,6 +184,10 @@ impl Refusal {
             Refusal::Grant => {
                 "Grant more geometry visits, up to 20,000,000, or give the board fewer runs and \
                  bundles."
+            }
+            Refusal::OffGrid => {
+                "Coordinates, sizes, offsets and options on the grid are multiples of 1/64 with \
+                 magnitude at most 2^20; move the number, or do not say that the board is on it."
             }
         }
     }

@@ -49,7 +49,7 @@ impl Sheet {
     /// Whether the last shift rounded, as far as it can be told. `board` is the one that the sheet is
     /// the answer to.
     pub fn last_shift(&self, board: &Board) -> LastShift {
-        let grid = on_drafting_grid(board);
+        let grid = board.off_grid().is_empty();
         let along = |axis| match self.subtracted(board, axis) {
             Some(0.0) => Shift::Nothing,
             _ if grid => Shift::Exact,
@@ -174,26 +174,6 @@ fn exact_difference(a: f64, b: f64) -> Option<f64> {
     let of_a = difference + of_b;
     let lost = (a - of_a) + (of_b - b);
     (lost == 0.0).then_some(difference)
-}
-
-/// Every number of the job is a multiple of 1/64 with magnitude at most 2^20.
-fn on_drafting_grid(board: &Board) -> bool {
-    let on_grid = |number: f64| number.abs() <= 1_048_576.0 && (64.0 * number).fract() == 0.0;
-    let options = board.options;
-    let lengths = [
-        options.port_stub,
-        options.route_lane_gap,
-        options.edge_node_clearance,
-        options.minimum_parallel_wire_spacing,
-        options.member_endpoint_reserve,
-    ];
-    let nodes = board.nodes.iter();
-    let nodes = nodes.flat_map(|node| [node.x, node.y, node.width, node.height]);
-    let ports = board.ports.iter().map(|port| port.offset);
-    let points = board.edges.iter().flat_map(|edge| edge.points.iter());
-    let points = points.flat_map(|point| [point.x, point.y]);
-    let mut all = lengths.into_iter().chain(nodes).chain(ports).chain(points);
-    all.all(on_grid)
 }
 
 #[cfg(test)]

@@ -104,19 +104,19 @@ fn odd_board() -> Board {
 
 #[test]
 fn boards_come_back() {
-    for separate_collectors in [false, true] {
-        for permit_crossings in [false, true] {
-            for mut board in [Board::default(), board(), odd_board()] {
-                board.flags = Flags {
-                    separate_collectors,
-                    permit_crossings,
-                };
-                let bytes = board.to_bytes().expect("small");
-                let back = Board::from_bytes(&bytes).expect("whole");
-                assert_eq!(back.to_bytes().expect("small"), bytes);
-                // A NaN is not equal to itself, so the words are compared.
-                assert_eq!(format!("{back:?}"), format!("{board:?}"));
-            }
+    for flags in 0..8_u8 {
+        for mut board in [Board::default(), board(), odd_board()] {
+            board.flags = Flags {
+                separate_collectors: flags & 1 != 0,
+                permit_crossings: flags & 2 != 0,
+                on_grid: flags & 4 != 0,
+            };
+            let bytes = board.to_bytes().expect("small");
+            assert_eq!(bytes[5], flags);
+            let back = Board::from_bytes(&bytes).expect("whole");
+            assert_eq!(back.to_bytes().expect("small"), bytes);
+            // A NaN is not equal to itself, so the words are compared.
+            assert_eq!(format!("{back:?}"), format!("{board:?}"));
         }
     }
 }
@@ -195,7 +195,7 @@ fn what_is_wrong_with_bytes_is_said() {
         Board::from_bytes(&wrong).expect_err("wrong").to_string()
     };
     assert_eq!(words(4, 2), "byte 4: expected version 1, found 2");
-    assert_eq!(words(5, 4), "byte 5: expected the flags (0 to 3), found 4");
+    assert_eq!(words(5, 8), "byte 5: expected the flags (0 to 7), found 8");
     assert_eq!(
         Board::from_bytes(&[]).expect_err("short").to_string(),
         "byte 0: expected the length of all bytes that follow, found the end"
@@ -230,7 +230,7 @@ fn every_refusal_by_name() {
     assert_eq!(changed(lane), Err(Refusal::Limit));
     let grant = |board: &mut Board| board.grants.tap += 1;
     assert_eq!(changed(grant), Err(Refusal::Limit));
-    assert_eq!(changed_bytes(|job| job[5] = 4), Err(Refusal::NotListed));
+    assert_eq!(changed_bytes(|job| job[5] = 8), Err(Refusal::NotListed));
     for wrong in [f64::NAN, f64::INFINITY, 2_f64.powi(30) + 1.0] {
         let moved = |board: &mut Board| board.nodes[0].x = wrong;
         assert_eq!(changed(moved), Err(Refusal::Number), "{wrong}");
@@ -255,6 +255,71 @@ fn every_refusal_by_name() {
     assert_eq!(split_board().draw(), Err(Refusal::Split));
     let nothing = |board: &mut Board| board.grants.geometry = 0;
     assert_eq!(changed(nothing), Err(Refusal::Grant));
+    let off_grid = |board: &mut Board| {
+        board.flags.on_grid = true;
+        board.nodes[0].x = 0.3;
+    };
+    assert_eq!(changed(off_grid), Err(Refusal::OffGrid));
+}
+
+/// Document 02, F-2: a multiple of 1/64 with magnitude at most 2^20, after 7 at the same number.
+#[test]
+fn the_drafting_grid() {
+    let (unit, limit) = (1.0 / 64.0, 2_f64.powi(20));
+    let with = |value: f64| {
+        let mut board = board();
+        board.flags.on_grid = true;
+        // A wire of its own, far from the bundle.
+        let mut wire = board.edges[0].clone();
+        wire.id = 3;
+        wire.points = vec![at(value, 500.0)];
+        board.edges.push(wire);
+        board
+    };
+    for on in [-unit, 1.5, -0.0, limit, -limit, limit - unit] {
+        assert!(with(on).off_grid().is_empty(), "{on}");
+        let sheet = with(on).draw().expect("drawn");
+        let mut free = with(on);
+        free.flags.on_grid = false;
+        assert_eq!(free.draw(), Ok(sheet), "{on}");
+    }
+    for (off, nearest) in [
+        (unit / 2.0, [0.0, unit]),
+        (-unit / 2.0, [-unit, 0.0]),
+        (limit + unit, [limit, limit]),
+        (-limit - 1.0, [-limit, -limit]),
+        (5e-324, [0.0, unit]),
+        (0.3, [19.0 * unit, 20.0 * unit]),
+    ] {
+        let board = with(off);
+        assert_eq!(board.draw(), Err(Refusal::OffGrid), "{off}");
+        let [found] = &board.off_grid()[..] else {
+            panic!("{:?}", board.off_grid());
+        };
+        assert_eq!(found.what, "the x of point 1 of edge 3");
+        assert_eq!((found.record, found.value), (Record::Edge(2), off));
+        let beside = found.nearest().expect("no NaN");
+        assert_eq!(beside.map(f64::to_bits), nearest.map(f64::to_bits), "{off}");
+    }
+    assert_eq!(with(f64::INFINITY).draw(), Err(Refusal::Number));
+    assert_eq!(with(f64::NAN).off_grid()[0].nearest(), None);
+    // Every kind of field, in the job's order.
+    let mut all = board();
+    all.options.member_endpoint_reserve = 0.1;
+    all.nodes[1].height = 0.1;
+    all.ports[2].offset = 0.1;
+    all.edges[0].points[3].y = 0.1;
+    let names = all.off_grid();
+    let names = names.iter().map(|off| off.what.as_str());
+    assert_eq!(
+        names.collect::<Vec<_>>(),
+        [
+            "member_endpoint_reserve",
+            "the height of node 2",
+            "the offset of port 2:2",
+            "the y of point 4 of edge 1"
+        ]
+    );
 }
 
 /// Document 02, F-1: the bytes keep the sign, the sheet is that of plus zero, and so is what is said
@@ -334,7 +399,7 @@ fn refusals_have_their_numbers_and_words() {
         let _: &dyn Error = &refusal;
     }
     assert_eq!(Refusal::of_number(0), None);
-    assert_eq!(Refusal::of_number(15), None);
+    assert_eq!(Refusal::of_number(16), None);
 }
 
 // ---- against the Rust
@@ -370,7 +435,10 @@ fn stored_jobs_and_answers() {
                 }
                 Err(malformed) => {
                     let refusal = said.into_result().expect_err("no job, so no sheet");
-                    assert!(refusal.number() <= 7, "{malformed}: {refusal}");
+                    assert!(
+                        matches!(refusal.number(), 1..=7 | 15),
+                        "{malformed}: {refusal}"
+                    );
                 }
             }
         }

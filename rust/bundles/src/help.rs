@@ -15,7 +15,9 @@ const COMMANDS: [Command; 6] = [
         long: "\
 BOARD is a text file, as docs/TEXT-FORM.md describes it and examples/clock-board.txt shows.
 A line that is not as it should be is named with what was expected there; no job is written then.
-Whether the stage accepts the board is not looked at: `bundles draw` says so.",
+Whether the stage accepts the board is not looked at: `bundles draw` says so. But where the text says
+`grid yes`, each number that is off the drafting grid is named on standard error, with its line and the
+numbers of the grid beside it; the job is written all the same.",
     },
     Command {
         name: "unpack",
@@ -33,7 +35,8 @@ bytes. A text's comments, blank lines and spaces are not in a job, so they do no
         long: "\
 The answer is the sheet with its bundles drawn, or the six bytes of a refusal, byte for byte what
 the program `sheet` writes; as there, at most 65,536 bytes of a job are looked at. A refusal is
-also said in words on standard error.
+also said in words on standard error; with 15, also each number that is off the drafting grid, as
+`bundles explain` with the JOB says it.
 
 With two jobs or more, each answer is written beside its job, with `.answer` in place of `.job` at
 the end of the name, or behind a name with another end; a file that is there is replaced. Each job

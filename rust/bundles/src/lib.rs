@@ -3,6 +3,7 @@
 #![forbid(unsafe_code)]
 
 pub mod explain;
+pub mod grid;
 pub mod joints;
 pub mod svg;
 pub mod text;

@@ -10,10 +10,10 @@ use std::io::{self, Read, Write};
 use std::path::{Path, PathBuf};
 use std::process::ExitCode;
 
-use bundle_stage::{Answer, Board, Sheet};
+use bundle_stage::{Answer, Board, Refusal, Sheet};
 use bundles::explain::{counted, explain};
 use bundles::svg::{svg, svg_refused};
-use bundles::text;
+use bundles::{grid, text};
 
 /// What the program `sheet` reads of a job.
 const JOB: u64 = 65_536;
@@ -78,7 +78,10 @@ fn command(words: &[&str]) -> Result<Done, String> {
 }
 
 fn pack(name: &str) -> Result<Done, String> {
-    let board = text::read(&read(name, u64::MAX)?).map_err(of(name))?;
+    let (board, lines) = text::read_with_lines(&read(name, u64::MAX)?).map_err(of(name))?;
+    for off in lines.off_grid(&board) {
+        eprintln!("{}: {off}", called(name));
+    }
     out(&board.to_bytes().map_err(of(name))?)
 }
 
@@ -87,10 +90,12 @@ fn unpack(name: &str) -> Result<Done, String> {
 }
 
 fn draw_one(name: &str) -> Result<Done, String> {
-    let (bytes, answer) = drawn(name)?;
+    let job = read(name, JOB)?;
+    let (bytes, answer) = drawn(name, &job)?;
     out(&bytes)?;
     if let Answer::Refused(refusal) = &answer {
         eprintln!("{}: {refusal}", called(name));
+        eprint!("{}", off_grid(*refusal, &job));
     }
     Ok(done(&answer))
 }
@@ -98,7 +103,7 @@ fn draw_one(name: &str) -> Result<Done, String> {
 fn draw_all(names: &[&str]) -> Result<Done, String> {
     let mut all = Done::Well;
     for (place, name) in names.iter().enumerate() {
-        let (bytes, answer) = drawn(name)?;
+        let (bytes, answer) = drawn(name, &read(name, JOB)?)?;
         let to = beside(name)?;
         fs::write(&to, bytes).map_err(of(to.display()))?;
         let said = match &answer {
@@ -115,10 +120,21 @@ fn draw_all(names: &[&str]) -> Result<Done, String> {
 }
 
 /// The bytes of a job's answer, and what they say.
-fn drawn(name: &str) -> Result<(Vec<u8>, Answer), String> {
-    let bytes = bundle_stage::answer(&read(name, JOB)?);
+fn drawn(name: &str, job: &[u8]) -> Result<(Vec<u8>, Answer), String> {
+    let bytes = bundle_stage::answer(job);
     let answer = Answer::from_bytes(&bytes).map_err(of(name))?;
     Ok((bytes, answer))
+}
+
+/// Where a job was refused with 15, a line for each number that is off the drafting grid.
+fn off_grid(refusal: Refusal, job: &[u8]) -> String {
+    let board = match refusal {
+        Refusal::OffGrid => Board::from_bytes(job).unwrap_or_default(),
+        _ => Board::default(),
+    };
+    let off = board.off_grid();
+    let lines = off.iter().map(|off| format!("  {}\n", grid::words(off)));
+    lines.collect()
 }
 
 /// Where the answer to one of several jobs goes.
@@ -136,7 +152,11 @@ fn explained(name: &str, job: Option<&str>) -> Result<Done, String> {
         (Answer::Drawn(sheet), Some(job)) => Some(board_of(job, name, sheet)?),
         _ => None,
     };
-    out(explain(&answer, board.as_ref()).as_bytes())?;
+    let mut words = explain(&answer, board.as_ref());
+    if let (Answer::Refused(refusal), Some(job)) = (&answer, job) {
+        words.push_str(&off_grid(*refusal, &read(job, u64::MAX)?));
+    }
+    out(words.as_bytes())?;
     Ok(done(&answer))
 }
 

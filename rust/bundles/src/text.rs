@@ -9,6 +9,8 @@ use bundle_stage::{
     Visits,
 };
 
+use crate::grid::Lines;
+
 /// A line that is not as it should be.
 #[derive(Clone, Debug, Eq, PartialEq)]
 pub struct Wrong {
@@ -34,7 +36,7 @@ const OPTIONS: [&str; 5] = [
     "member_endpoint_reserve",
 ];
 const GRANTS: [&str; 2] = ["tap_visits", "geometry_visits"];
-const FLAGS: [&str; 2] = ["separate_collectors", "permit_crossings"];
+const FLAGS: [&str; 3] = ["separate_collectors", "permit_crossings", "grid"];
 
 const SIDES: [(&str, Side); 4] = [
     ("north", Side::North),
@@ -89,8 +91,9 @@ pub fn write(board: &Board) -> String {
     let Flags {
         separate_collectors,
         permit_crossings,
+        on_grid,
     } = board.flags;
-    let flags = [separate_collectors, permit_crossings];
+    let flags = [separate_collectors, permit_crossings, on_grid];
     settings(&mut lines, FLAGS, flags, |flag| {
         name(&ANSWERS, flag).to_string()
     });
@@ -180,23 +183,26 @@ const MOST: usize = u16::MAX as usize;
 struct Settings {
     options: [Option<f64>; 5],
     grants: [Option<u32>; 2],
-    flags: [Option<bool>; 2],
+    flags: [Option<bool>; 3],
 }
 
 /// The board that a text says, or the first line that is not as it should be.
 pub fn read(text: &[u8]) -> Result<Board, Wrong> {
+    read_with_lines(text).map(|(board, _)| board)
+}
+
+/// The same, with the lines of its numbers.
+pub fn read_with_lines(text: &[u8]) -> Result<(Board, Lines), Wrong> {
     let text = utf8(text)?;
     let mut board = Board::default();
     let mut settings = Settings::default();
-    for (place, line) in text.lines().enumerate() {
-        let said = line.split('#').next().unwrap_or_default();
-        let wrong = |words| Wrong {
-            line: place + 1,
-            words,
-        };
+    let mut lines = Lines::default();
+    for (line, said) in (1..).zip(text.lines()) {
+        let said = said.split('#').next().unwrap_or_default();
         Words::new(said)
             .line(&mut board, &mut settings)
-            .map_err(wrong)?;
+            .map_err(|words| Wrong { line, words })?;
+        lines.note(line, &board, &settings.options);
     }
     if let Some(place) = settings.options.iter().position(Option::is_none) {
         return Err(Wrong {
@@ -219,8 +225,9 @@ pub fn read(text: &[u8]) -> Result<Board, Wrong> {
     board.flags = Flags {
         separate_collectors: settings.flags[0].unwrap_or_default(),
         permit_crossings: settings.flags[1].unwrap_or_default(),
+        on_grid: settings.flags[2].unwrap_or_default(),
     };
-    Ok(board)
+    Ok((board, lines))
 }
 
 fn utf8(text: &[u8]) -> Result<&str, Wrong> {

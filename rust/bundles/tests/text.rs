@@ -4,7 +4,7 @@
 
 use std::fs;
 
-use bundle_stage::{Board, Visits};
+use bundle_stage::{Board, Flags, Visits};
 use bundles::text::{number, read, write};
 
 fn repository(name: &str) -> Vec<u8> {
@@ -88,7 +88,7 @@ fn the_example_of_the_document_is_drawn() {
 fn what_is_not_said() {
     let board = read(SETTINGS.as_bytes()).expect("settings alone");
     assert_eq!(board.grants, Visits::MOST);
-    assert!(!board.flags.separate_collectors && !board.flags.permit_crossings);
+    assert_eq!(board.flags, Flags::default());
     for line in SETTINGS.lines() {
         let text = SETTINGS.replace(&format!("{line}\n"), "");
         let error = read(text.as_bytes()).expect_err("a setting is missing");
@@ -172,6 +172,7 @@ fn errors_name_the_line_and_what_was_expected() {
             "expected a whole number of visits, found `many`",
         ),
         ("permit_crossings 1", "expected yes or no, found `1`"),
+        ("grid on", "expected yes or no, found `on`"),
     ] {
         assert_eq!(wrong(line), words);
     }

@@ -155,6 +155,42 @@ fn minus_zero_in_a_board() {
     assert_eq!(plus.1, minus.1);
 }
 
+/// Document 02, F-2: where a number is off the grid, its line and field and what is beside it; the job
+/// is packed all the same, and refused with 15.
+#[test]
+fn numbers_off_the_grid() {
+    let folder = folder("grid");
+    let job = folder.join("off.job").to_str().expect("text").to_string();
+    let board = "port_stub 10\nroute_lane_gap 10\nedge_node_clearance 0.1\n\
+                 minimum_parallel_wire_spacing 0\nmember_endpoint_reserve 20\n# a comment\n\
+                 node 1 at 0,30 size 40,40.5\nport 1:1 east 20\n\
+                 edge 1 from 1:1 to 1:1 via 40,50 60,1048577\n";
+    let free = bundles(&["pack"], board.as_bytes());
+    assert!(free.stderr.is_empty());
+    let output = bundles(&["pack"], format!("{board}grid yes\n").as_bytes());
+    assert_eq!(output.status.code(), Some(0));
+    let due = [
+        "edge_node_clearance is 0.1, off the drafting grid; nearest to it are 0.09375 and 0.109375",
+        "the y of point 2 of edge 1 is 1048577, off the drafting grid; nearest to it is 1048576",
+    ];
+    assert_eq!(
+        text(output.stderr),
+        format!(
+            "standard input: line 3: {}\nstandard input: line 9: {}\n",
+            due[0], due[1]
+        )
+    );
+    assert_eq!(output.stdout[5], free.stdout[5] | 4);
+    fs::write(&job, output.stdout).expect("a file");
+    let drawn = bundles(&["draw", &job], b"");
+    assert_eq!(drawn.stdout, [0, 0, 0, 2, 1, 15]);
+    let said = format!("  {}\n  {}\n", due[0], due[1]);
+    assert!(text(drawn.stderr).ends_with(&said));
+    let words = text(out(1, &["explain", "-", &job], &drawn.stdout));
+    assert!(words.starts_with("refused with 15, caused by the job's writer: "));
+    assert!(words.ends_with(&said), "{words}");
+}
+
 #[test]
 fn a_refusal() {
     assert_eq!(out(1, &["draw"], NO_JOB), NOTICE);
@@ -172,7 +208,7 @@ fn a_refusal() {
 fn only_65536_bytes_of_a_job_are_looked_at() {
     // As the program sheet: the length counts what is read, and the bytes after it are not there.
     let mut long = vec![0; 70_000];
-    long[..6].copy_from_slice(&[0, 0, 0xff, 0xfc, 1, 4]);
+    long[..6].copy_from_slice(&[0, 0, 0xff, 0xfc, 1, 8]);
     assert_eq!(out(1, &["draw"], &long)[5], 6);
     long[3] = 0xfd;
     assert_eq!(out(1, &["draw"], &long)[5], 1);
