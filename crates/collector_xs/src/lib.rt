@@ -5,7 +5,7 @@
 // promotion_collector_candidates. The members' routes are windows of points in one lent slice of
 // coordinates, the route of member m being counts[m] points from point starts[m] on.
 ghost use mathlib.Core.Path.{_≡_};
-ghost use Prim.Native.Nat.{_≤_, _<_};
+ghost use Prim.Native.Nat.{_+_, _*_, _≤_, _<_};
 ghost use lib.ListN.{length};
 ghost use Rattle.search.specs.Stretches.{members, routes, Windows, runs-in};
 ghost use Rattle.search.specs.Search.{common-xs, search-of, Lists};
@@ -16,8 +16,9 @@ use search::Outcome;
 use search::Searched;
 use search::TapVisits;
 
-// All common candidates in the order in which they are tried, at the front of xs. What the rest of
-// xs and scratch hold afterwards is left open.
+// All common candidates in the order in which they are tried, at the front of xs. The runs' stretches
+// are kept at the front of scratch, and its end, as long as xs, is for sorting. What the rest of xs and
+// scratch hold afterwards is left open.
 pub fn common_horizontal_collector_xs(
     points: &[f64],
     starts: &[usize],
@@ -31,15 +32,16 @@ pub fn common_horizontal_collector_xs(
 ) -> Listed
     requires { ⌜ Windows (now points) (now starts) (now counts) ⌝ }
     requires { ⌜ runs-in (members role pitch (routes (now points) (now starts) (now counts))) < length (now xs) ⌝ }
-    requires { ⌜ length (now xs) ≤ length (now scratch) ⌝ }
+    requires { ⌜ length (now xs) + 2 * runs-in (members role pitch (routes (now points) (now starts) (now counts))) ≤ length (now scratch) ⌝ }
     ensures { λ r. ⌜ Lists r (now (xs .exit)) (length (now (xs .entry))) (common-xs role b (members role pitch (routes (now (points .entry)) (now (starts .entry)) (now (counts .entry)))) (granted .0)) ⌝ }
 {
-    let g = search_lists::gather(points, starts, counts, role, pitch, b, granted, xs);
+    let keep = scratch.len() - xs.len();
+    let g = search_lists::gather(points, starts, counts, role, pitch, b, granted, xs, scratch);
     match g {
         Listed::Spent => Listed::Spent,
         Listed::All(n, left) => {
-            let k = search_lists::put_in_order(role, &mut xs[..n], scratch);
-            search_lists::try_candidates(points, starts, counts, role, pitch, left, &mut xs[..k])
+            let k = search_lists::put_in_order(role, &mut xs[..n], &mut scratch[keep..]);
+            search_lists::try_candidates(&scratch[..], counts, left, &mut xs[..k])
         }
     }
 }
@@ -58,7 +60,7 @@ pub fn common_horizontal_collector_x(
 ) -> Searched
     requires { ⌜ Windows (now points) (now starts) (now counts) ⌝ }
     requires { ⌜ runs-in (members role pitch (routes (now points) (now starts) (now counts))) < length (now xs) ⌝ }
-    requires { ⌜ length (now xs) ≤ length (now scratch) ⌝ }
+    requires { ⌜ length (now xs) + 2 * runs-in (members role pitch (routes (now points) (now starts) (now counts))) ≤ length (now scratch) ⌝ }
     ensures { λ r. ⌜ r ≡ search-of role b (members role pitch (routes (now (points .entry)) (now (starts .entry)) (now (counts .entry)))) (granted .0) ⌝ }
 {
     let g = common_horizontal_collector_xs(

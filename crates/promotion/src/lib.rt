@@ -32,7 +32,7 @@ fn add_adjacent(
 ) -> Promoted
     requires { ⌜ Windows (now points) (now starts) (now counts) ⌝ }
     requires { ⌜ n + runs-in (members role pitch (routes (now points) (now starts) (now counts))) < length (now xs) ⌝ }
-    requires { ⌜ length (now xs) ≤ length (now scratch) ⌝ }
+    requires { ⌜ length (now xs) + 2 * runs-in (members role pitch (routes (now points) (now starts) (now counts))) ≤ length (now scratch) ⌝ }
     ensures { λ r. ⌜ Promotes r (now (xs .exit)) (length (now (xs .entry))) (with-adjacent role pitch b (members role pitch (routes (now (points .entry)) (now (starts .entry)) (now (counts .entry)))) (take n (now (xs .entry))) (left .0)) ⌝ }
 {
     let lane = search_runs::adjacent_lane(role, pitch, b.desired);
@@ -80,7 +80,7 @@ pub fn promotion_candidates(
 ) -> Promoted
     requires { ⌜ Windows (now points) (now starts) (now counts) ⌝ }
     requires { ⌜ 2 * runs-in (members role pitch (routes (now points) (now starts) (now counts))) + 1 < length (now xs) ⌝ }
-    requires { ⌜ length (now xs) ≤ length (now scratch) ⌝ }
+    requires { ⌜ length (now xs) + 2 * runs-in (members role pitch (routes (now points) (now starts) (now counts))) ≤ length (now scratch) ⌝ }
     ensures { λ r. ⌜ Promotes r (now (xs .exit)) (length (now (xs .entry))) (promotion-xs role pitch b (members role pitch (routes (now (points .entry)) (now (starts .entry)) (now (counts .entry)))) (granted .0)) ⌝ }
 {
     let g = collector_xs::common_horizontal_collector_xs(

@@ -2,21 +2,23 @@
 -- Assumes nothing.
 use mathlib.Core.Path.{_≡_, refl, sym, _∙_, ap}
 use mathlib.Core.Bool.{Bool, true, false}
-use mathlib.Core.List.{List, [], _∷_, _++_}
+use mathlib.Core.List.{List, [], _∷_, _++_, map}
 use Prim.Native.Nat.{ℕ, zero, suc, _+_, _-_, _≤_, _<_}
 use native.Mathlib.Omega.{arith}
 use native.Mathlib.Numerals.{add-one}
-use lib.ListN.{length, getD, take, drop, set, drop-of-length-le}
+use lib.ListN.{length, getD, take, drop, set, length-append, length-map, drop-of-length-le}
 use lib.Seq.{drop-cons, take-suc-set}
 use lib.Ieee.{Float, nan}
 use Rattle.geometry.specs.declared.Role.{Role}
 use Rattle.geometry.specs.declared.Stretch.{Stretch}
 use Rattle.geometry.specs.Stretch.{stretch, holds}
 use Rattle.geometry.specs.Points.{runs, point-at, points-from}
+use Rattle.geometry.specs.View.{points-length}
 use Rattle.search.specs.declared.Bounds.{Bounds}
 use Rattle.search.specs.declared.Candidate.{Candidate}
 use Rattle.search.specs.declared.Candidate.the-variants.{At}
-use Rattle.search.specs.Stretches.{stretches, members, routes, all-runs}
+use Rattle.search.specs.Stretches.{stretches, members, routes, all-runs, runs-in}
+use Rattle.search.specs.Kept.{kept, spanned, members-from}
 use Rattle.search.specs.Search.{Listing, listing, spent, candidate, onto, gathered-onto, Tried, held, lacked, unpaid, after, or-else, tried-on, tried-on-all, tried}
 
 module _ (points : List Float) (role : Role) (pitch : Float) where
@@ -85,6 +87,42 @@ pub stored : (xs : List Float) (n : ℕ) (x : Float) → n < length xs → onto 
 stored xs n x h = rw (add-one, take-suc-set xs n x h)
 
 -- ---- the second pass
+module _ (ks : List Float) where
+  -- what is kept of a route of n points, from pair at on
+  abbrev pub K : ℕ → ℕ → List Stretch
+  K at n = map spanned (points-from ks at (n - 1))
+
+  pub kept-more : (at n : ℕ) → 1 < n → K at n ≡ spanned (point-at ks at) ∷ K (at + 1) (n - 1)
+  unfolding points-from
+  kept-more at n h =
+      let e : n - 1 ≡ suc (n - 1 - 1) = omega arith in
+      ap (λ (k : ℕ). map spanned (points-from ks at k)) e ∙ ap (λ (i : ℕ). spanned (point-at ks at) ∷ map spanned (points-from ks i (n - 1 - 1))) (sym (add-one at))
+
+  pub kept-none : (at n : ℕ) → n ≤ 1 → K at n ≡ []
+  unfolding points-from
+  kept-none at n h = let e : n - 1 ≡ 0 = omega arith in rw e
+
+  module _ (counts : List ℕ) where
+    -- the members from m on, the first of them from pair at on
+    abbrev pub N : ℕ → ℕ → List (List Stretch)
+    N at m = members-from ks at (drop m counts)
+
+    pub kept-next : (at m : ℕ) → m < length counts → N at m ≡ K at (getD counts m 0) ∷ N (at + (getD counts m 0 - 1)) (m + 1)
+    unfolding members-from
+    kept-next at m h = rw (add-one, drop-cons counts m 0 h)
+
+    pub kept-end : (at m : ℕ) → length counts ≤ m → N at m ≡ []
+    unfolding members-from
+    kept-end at m h = rw (drop-of-length-le counts h)
+
+    -- and how many runs they have
+    pub runs-next-kept : (at m : ℕ) → m < length counts → runs-in (N at m) ≡ (getD counts m 0 - 1) + runs-in (N (at + (getD counts m 0 - 1)) (m + 1))
+    runs-next-kept at m h =
+        let c = getD counts m 0 in
+        ap runs-in (kept-next at m h) ∙ ap length (runs-next (K at c) (N (at + (c - 1)) (m + 1)))
+        ∙ length-append (K at c) (all-runs (N (at + (c - 1)) (m + 1)))
+        ∙ ap (λ (n : ℕ). n + runs-in (N (at + (c - 1)) (m + 1))) (length-map (points-from ks at (c - 1)) spanned ∙ points-length ks at (c - 1))
+
 module _ (x : Float) where
   pub try-end : (v : ℕ) → tried-on x [] v ≡ lacked v
   unfolding tried-on

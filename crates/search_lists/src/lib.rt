@@ -5,10 +5,11 @@
 // promotion_collector_candidates. The members' routes are windows of points in one lent slice of
 // coordinates, the route of member m being counts[m] points from point starts[m] on.
 ghost use mathlib.Core.List.{[]};
-ghost use Prim.Native.Nat.{_≤_, _<_};
+ghost use Prim.Native.Nat.{_*_, _≤_, _<_};
 ghost use lib.ListN.{length};
-ghost use Rattle.search.specs.Stretches.{members, routes, Windows, runs-in};
+ghost use Rattle.search.specs.Stretches.{members, routes, Windows, all-runs, runs-in};
 ghost use Rattle.search.specs.Search.{gathered, tried, Lists, InOrder};
+ghost use Rattle.search.specs.Kept.{members-from, Keeps};
 use geometry::Role;
 use search::Bounds;
 use search::Candidate;
@@ -16,7 +17,7 @@ use search::Listed;
 use search::TapVisits;
 
 // The first pass: the desired x and a candidate of each run that has one, one visit paid before
-// each run.
+// each run. Each run's stretch, or that it has none, is kept as a pair at the front of kept.
 pub fn gather(
     points: &[f64],
     starts: &[usize],
@@ -26,13 +27,17 @@ pub fn gather(
     b: Bounds,
     granted: TapVisits,
     xs: &mut [f64],
+    kept: &mut [f64],
 ) -> Listed
     requires { ⌜ Windows (now points) (now starts) (now counts) ⌝ }
     requires { ⌜ runs-in (members role pitch (routes (now points) (now starts) (now counts))) < length (now xs) ⌝ }
-    ensures { λ r. ⌜ Lists r (now (xs .exit)) (length (now (xs .entry))) (gathered role b (members role pitch (routes (now (points .entry)) (now (starts .entry)) (now (counts .entry)))) (granted .0)) ⌝ }
+    requires { ⌜ 2 * runs-in (members role pitch (routes (now points) (now starts) (now counts))) ≤ length (now kept) ⌝ }
+    ensures found { λ r. ⌜ Lists r (now (xs .exit)) (length (now (xs .entry))) (gathered role b (members role pitch (routes (now (points .entry)) (now (starts .entry)) (now (counts .entry)))) (granted .0)) ⌝ }
+    ensures keeps { λ r. ⌜ Keeps r (now (kept .exit)) (all-runs (members role pitch (routes (now (points .entry)) (now (starts .entry)) (now (counts .entry))))) ⌝ }
 {
     xs[0] = b.desired;
     let mut n = 1;
+    let mut k = 0;
     let mut left = granted.0;
     let mut m = 0;
     while m < starts.len() {
@@ -44,11 +49,10 @@ pub fn gather(
                 return Listed::Spent;
             }
             left -= 1;
-            let c = search_runs::candidate_of(
-                role,
-                b,
-                search_runs::run_stretch(points, at, rest, role, pitch),
-            );
+            let s = search_runs::run_stretch(points, at, rest, role, pitch);
+            route_views::put_point(kept, k, search_runs::kept_of(s));
+            k += 1;
+            let c = search_runs::candidate_of(role, b, s);
             at += 1;
             rest -= 1;
             if let Candidate::At(x) = c {
@@ -61,19 +65,17 @@ pub fn gather(
 }
 
 // The second pass: each candidate is tried on the members in order, one visit paid before each run
-// looked at. Those that are common are kept, at the front of xs. The outermost loop is left where a
-// visit is due and 0 are left.
+// looked at. A look is at what the first pass kept of the run, a pair for each run in the members'
+// order; a member that holds the candidate has its later pairs passed over. The candidates that are
+// common are put at the front of xs. The outermost loop is left where a visit is due and 0 are left.
 pub fn try_candidates(
-    points: &[f64],
-    starts: &[usize],
+    kept: &[f64],
     counts: &[usize],
-    role: Role,
-    pitch: f64,
     granted: TapVisits,
     xs: &mut [f64],
 ) -> Listed
-    requires { ⌜ Windows (now points) (now starts) (now counts) ⌝ }
-    ensures { λ r. ⌜ Lists r (now (xs .exit)) (length (now (xs .entry))) (tried (members role pitch (routes (now (points .entry)) (now (starts .entry)) (now (counts .entry)))) (now (xs .entry)) [] (granted .0)) ⌝ }
+    requires { ⌜ 2 * runs-in (members-from (now kept) 0 (now counts)) ≤ length (now kept) ⌝ }
+    ensures { λ r. ⌜ Lists r (now (xs .exit)) (length (now (xs .entry))) (tried (members-from (now (kept .entry)) 0 (now (counts .entry))) (now (xs .entry)) [] (granted .0)) ⌝ }
 {
     let mut left = granted.0;
     let mut n = 0;
@@ -84,9 +86,9 @@ pub fn try_candidates(
         }
         let x = xs[i];
         i += 1;
+        let mut at = 0;
         let mut m = 0;
-        'members: while m < starts.len() {
-            let mut at = starts[m];
+        'members: while m < counts.len() {
             let mut rest = counts[m];
             m += 1;
             while 1 < rest {
@@ -94,11 +96,13 @@ pub fn try_candidates(
                     break 'candidates;
                 }
                 left -= 1;
-                if search_runs::run_holds(points, at, rest, role, pitch, x) {
-                    continue 'members;
-                }
+                let held = search_runs::kept_holds(kept, at, x);
                 at += 1;
                 rest -= 1;
+                if held {
+                    at += rest - 1;
+                    continue 'members;
+                }
             }
             continue 'candidates;
         }

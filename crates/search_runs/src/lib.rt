@@ -11,6 +11,8 @@ ghost use Rattle.geometry.specs.Stretch.{stretch, holds};
 ghost use Rattle.geometry.specs.Points.{point-at};
 ghost use Rattle.search.specs.Promotion.{adjacent, between};
 ghost use Rattle.search.specs.Search.{candidate, falls};
+ghost use Rattle.search.specs.Kept.{kept, spanned};
+use geometry::Point;
 use geometry::Role;
 use geometry::Stretch;
 use search::Bounds;
@@ -25,12 +27,23 @@ pub fn run_stretch(points: &[f64], start: usize, count: usize, role: Role, pitch
     shapes::shared_trunk_horizontal_range(run.start, run.end, role, pitch)
 }
 
-// Whether the stretch of a route's first run holds x.
-pub fn run_holds(points: &[f64], start: usize, count: usize, role: Role, pitch: f64, x: f64) -> bool
-    requires { ⌜ (1 < count) × (2 * (start + count) ≤ length (now points)) ⌝ }
-    ensures { λ r. ⌜ r ≡ holds x (stretch role pitch (point-at (now (points .entry)) start) (point-at (now (points .entry)) (start + 1))) ⌝ }
+// What is kept of a run: the ends of its stretch, or, where it has none, a low end above its high end.
+pub fn kept_of(s: Stretch) -> Point
+    ensures { λ r. ⌜ r ≡ kept s ⌝ }
 {
-    shapes::stretch_holds(run_stretch(points, start, count, role, pitch), x)
+    match s {
+        Stretch::Nowhere => Point { x: 1.0, y: 0.0 },
+        Stretch::Of(low, high) => Point { x: low, y: high },
+    }
+}
+
+// Whether x lies between the ends of kept pair i: two loads and two comparisons, without a branch
+// for each, since most visits of a search end here and it would be mispredicted often.
+pub fn kept_holds(pairs: &[f64], i: usize, x: f64) -> bool
+    requires { ⌜ 2 * i + 1 < length (now pairs) ⌝ }
+    ensures { λ r. ⌜ r ≡ holds x (spanned (point-at (now (pairs .entry)) i)) ⌝ }
+{
+    (x >= pairs[2 * i]) & (x <= pairs[2 * i + 1])
 }
 
 pub fn candidate_of(role: Role, b: Bounds, s: Stretch) -> Candidate
