@@ -4,6 +4,7 @@
 // Ported from cachanova/schemweave, commit c4a1a2c60a, crates/schemweave/src/boundary_bundles.rs
 // (Apache-2.0, see NOTICE); the refusals are added.
 ghost use Rattle.search_calls.specs.Entry.{bounds, collector-bounds, search-number, search-says, promotion-number, promotion-says, Replied, Untouched};
+use limits::ENTRY_WORK;
 use limits::LARGEST_LIST;
 use limits::MOST_KEPT;
 use limits::PROMOTION_SCRATCH;
@@ -12,6 +13,8 @@ use search::Bounds;
 use search::TapVisits;
 use search_calls::SearchAnswer;
 
+// The stretches are kept, and the candidates sorted, in an array of its own, for which scratch would
+// be too short.
 pub fn search_checked(
     points: &[f64],
     starts: &[usize],
@@ -52,6 +55,7 @@ pub fn search_checked(
         return search_replies::refuse(number, granted);
     }
     let side = search_refusals::role_from(role);
+    let mut work = [0.0; ENTRY_WORK];
     let g = collector_xs::common_horizontal_collector_xs(
         points,
         starts,
@@ -61,7 +65,7 @@ pub fn search_checked(
         b,
         TapVisits(granted),
         &mut candidates[..LARGEST_LIST],
-        scratch,
+        &mut work[..],
     );
     search_replies::search_reply(g, candidates, xs)
 }
@@ -117,6 +121,7 @@ pub fn promotion_checked(
         };
     }
     let side = search_refusals::role_from(role);
+    let mut work = [0.0; ENTRY_WORK];
     let p = promotion::promotion_candidates(
         points,
         starts,
@@ -126,7 +131,7 @@ pub fn promotion_checked(
         b,
         TapVisits(granted),
         &mut candidates[..PROMOTION_SCRATCH],
-        scratch,
+        &mut work[..],
     );
     search_replies::promotion_reply(p, candidates, xs)
 }

@@ -2,9 +2,10 @@
 //
 // Ported from cachanova/schemweave, commit c4a1a2c60a, crates/schemweave/src/boundary_bundles.rs
 // (Apache-2.0, see NOTICE).
+ghost use mathlib.Core.Path.{_≡_};
 ghost use Prim.Native.Nat.{_*_, _≤_};
 ghost use lib.ListN.{length};
-ghost use Rattle.limits.specs.Limits.{max-edges, max-members, candidate-room};
+ghost use Rattle.limits.specs.Limits.{max-edges, max-members, candidate-room, search-work};
 ghost use Rattle.promise.specs.Stage.{planned, after-plan, told-bytes};
 ghost use Rattle.job_tables.specs.Came.{job-in, Came};
 ghost use Rattle.draw_job.specs.JobTables.{Writes, TapsOf, MembersOn, Lent};
@@ -17,8 +18,8 @@ use drawing::GeometryVisits;
 use drawing::Verdict;
 use geometry::Point;
 use job::Job;
-use limits::CANDIDATE_ROOM;
 use limits::MAX_MEMBERS;
+use limits::SEARCH_WORK;
 use search::TapVisits;
 
 // ---- the sheet (10, 11, 12, 14) and the answer
@@ -51,8 +52,8 @@ pub fn tap_rows(table: Edges, members: Members, taps: &[f64]) -> DrawnTaps
 }
 
 // The plan (13), the sheet of it and the last shift, in lent slices; the answer, or the notice of a
-// refusal. One function for all of it: a table that is handed on is copied. The slots of the present
-// routes hold the search's numbers first: nothing is in them before the sheet.
+// refusal. One function for all of it: a table that is handed on is copied. The search keeps its
+// stretches and sorts in the slots of the present routes: nothing is in them before the sheet.
 pub fn draw_in(
     j: Job,
     given: &[f64],
@@ -68,7 +69,7 @@ pub fn draw_in(
 ) -> usize
     requires { ⌜ Came j (now given) × (6 ≤ length (now answer)) ⌝ }
     requires { ⌜ length (told-bytes (after-plan (job-in j (now given)) (planned (job-in j (now given))))) ≤ length (now answer) ⌝ }
-    requires { ⌜ (candidate-room ≤ length (now points)) × (candidate-room ≤ length (now sorted)) ⌝ }
+    requires { ⌜ (search-work ≤ length (now points)) × (length (now sorted) ≡ candidate-room) ⌝ }
     requires { ⌜ Lent j (now edges) (now lanes) (now taps) (now points) (now counts) (now mask) (now scratch) ⌝ }
     ensures { λ r. ⌜ Writes (now (answer .entry)) (now (answer .exit)) r (after-plan (job-in j (now (given .entry))) (planned (job-in j (now (given .entry))))) ⌝ }
 {
@@ -90,8 +91,8 @@ pub fn draw_in(
         given,
         j.flags.separates_collectors,
         TapVisits(j.grants.tap_visits),
-        &mut points[..CANDIDATE_ROOM],
         &mut sorted[..],
+        &mut points[..SEARCH_WORK],
     );
     if s.refused {
         return answer::write_notice(&mut answer[..], 13);

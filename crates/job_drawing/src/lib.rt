@@ -14,7 +14,7 @@ use limits::FEW_SLOT_NUMBERS;
 
 // ---- the sheet (10, 11, 12, 14) and the answer
 
-// Reads the job and draws it, with the slots of the present routes its own: 32 where that is enough, as
+// Reads the job and draws it, with the slots of the present routes its own: 91 where that is enough, as
 // most of a small board's time would go into clearing 256.
 pub fn read_and_draw(
     job: &[u8],
@@ -29,7 +29,7 @@ pub fn read_and_draw(
     answer: &mut [u8],
 ) -> usize
     requires { ⌜ (length (now given) ≡ point-numbers) × (answer-room ≤ length (now answer)) ⌝ }
-    requires { ⌜ candidate-room ≤ length (now sorted) ⌝ }
+    requires { ⌜ length (now sorted) ≡ candidate-room ⌝ }
     requires { ⌜ (length (now edges) ≡ max-members) × (length (now lanes) ≡ max-members) × (length (now taps) ≡ tap-numbers) × (length (now counts) ≡ max-edges) × (length (now mask) ≡ max-edges) × (length (now scratch) ≡ slot-numbers) ⌝ }
     ensures { λ r. ⌜ Writes (now (answer .entry)) (now (answer .exit)) r (told (now (job .entry))) ⌝ }
 {

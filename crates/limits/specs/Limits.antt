@@ -79,9 +79,9 @@ slot-numbers = 2 * slot-points
 abbrev pub all-slot-numbers : ℕ
 all-slot-numbers = slot-numbers * max-edges
 
--- up to so many routes have slots of their own, since clearing those of all would take most of a small job's time
+-- up to so many routes have slots of their own, since clearing those of all would take most of a small job's time; their slots have room for what the plan's search works in
 abbrev pub few-routes : ℕ
-few-routes = 32
+few-routes = 91
 
 abbrev pub few-slot-numbers : ℕ
 few-slot-numbers = slot-numbers * few-routes
@@ -106,6 +106,9 @@ route-numbers = 2 * max-route-points
 
 abbrev pub member-numbers : ℕ
 member-numbers = max-bundle-members * route-numbers
+-- what the plan's search works in: two numbers kept for each run, and room to sort its candidates
+abbrev pub search-work : ℕ
+search-work = 2 * bundle-runs + candidate-room
 
 -- the longest list of a search that is called by itself: 2,048 points in routes of at most 64 have at most 2,016 runs, each with one candidate, and there is the desired x
 abbrev pub largest-list : ℕ
@@ -117,6 +120,10 @@ search-scratch = max-points
 
 abbrev pub promotion-scratch : ℕ
 promotion-scratch = 2 * search-scratch
+
+-- what both work in: two numbers kept for each run, and room to sort the longest list
+abbrev pub entry-work : ℕ
+entry-work = 2 * largest-list + promotion-scratch
 
 -- promotion_collector_candidates "keeps at most 32": MAX_INTERIOR_PROMOTION_CANDIDATES
 abbrev pub most-kept : ℕ

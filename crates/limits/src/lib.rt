@@ -59,8 +59,8 @@ pub const SLOT_NUMBERS: usize = 2 * SLOT_POINTS;
 pub const ALL_SLOT_NUMBERS: usize = SLOT_NUMBERS * MAX_EDGES;
 
 // Up to so many routes have slots of their own, since clearing those of all would take most of a
-// small job's time.
-pub const FEW_ROUTES: usize = 32;
+// small job's time. Their slots have room for what the plan's search works in.
+pub const FEW_ROUTES: usize = 91;
 
 pub const FEW_SLOT_NUMBERS: usize = SLOT_NUMBERS * FEW_ROUTES;
 
@@ -79,6 +79,8 @@ pub const CANDIDATE_ROOM: usize = BUNDLE_RUNS + 1;
 pub const ROUTE_NUMBERS: usize = 2 * MAX_ROUTE_POINTS;
 
 pub const MEMBER_NUMBERS: usize = MAX_BUNDLE_MEMBERS * ROUTE_NUMBERS;
+// What the plan's search works in: two numbers kept for each run, and room to sort its candidates.
+pub const SEARCH_WORK: usize = 2 * BUNDLE_RUNS + CANDIDATE_ROOM;
 
 // The longest list of a search that is called by itself: a candidate for each run, and the desired x.
 pub const LARGEST_LIST: usize = 2017;
@@ -87,6 +89,9 @@ pub const LARGEST_LIST: usize = 2017;
 pub const SEARCH_SCRATCH: usize = MAX_POINTS;
 
 pub const PROMOTION_SCRATCH: usize = 2 * SEARCH_SCRATCH;
+
+// What both work in: two numbers kept for each run, and room to sort the longest list.
+pub const ENTRY_WORK: usize = 2 * LARGEST_LIST + PROMOTION_SCRATCH;
 
 // The candidates that a promotion keeps.
 pub const MOST_KEPT: usize = 32;

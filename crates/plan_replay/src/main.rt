@@ -4,14 +4,15 @@
 ghost use mathlib.Core.Path.{_≡_};
 ghost use Prim.Native.Nat.{ℕ, _+_, _≤_, _<_};
 ghost use lib.ListN.{length, getD};
-ghost use Rattle.limits.specs.Limits.{max-edges, max-bundles, max-members, point-numbers, bundle-runs};
+ghost use Rattle.limits.specs.Limits.{max-edges, max-bundles, max-members, point-numbers};
 ghost use Rattle.plan.specs.BoardTables.{Sound, RoutesIn, no-member};
-ghost use Rattle.plan.specs.Prepared.{Inside, Searchable, AllAmong, Listing};
+ghost use Rattle.plan.specs.Prepared.{Inside, SearchRoom, Searchable, AllAmong, Listing};
 use board::Bundle;
 use board::Members;
 use geometry::Role;
 use job::Job;
 use limits::CANDIDATE_ROOM;
+use limits::SEARCH_WORK;
 use limits::JOB_ROOM;
 use limits::MAX_BUNDLES;
 use limits::MAX_EDGES;
@@ -320,7 +321,7 @@ fn put_plan(
     at: usize,
 ) -> usize
     requires { ⌜ Sound (j .nodes) (j .ports) (j .bundles) (j .members) × RoutesIn (now points) (j .edges) (j .members) ⌝ }
-    requires { ⌜ (bundle-runs < length (now xs)) × (length (now xs) ≤ length (now scratch)) ⌝ }
+    requires { ⌜ SearchRoom (now xs) (now scratch) ⌝ }
 {
     let bundles = j.bundles;
     let flags = j.flags;
@@ -573,7 +574,7 @@ fn put_routed(
     at: usize,
 ) -> usize
     requires { ⌜ Sound (j .nodes) (j .ports) (j .bundles) (j .members) × RoutesIn (now points) (j .edges) (j .members) ⌝ }
-    requires { ⌜ (bundle-runs < length (now xs)) × (length (now xs) ≤ length (now scratch)) ⌝ }
+    requires { ⌜ SearchRoom (now xs) (now scratch) ⌝ }
 {
     let mut starts = [0; MAX_MEMBERS];
     let mut counts = [0; MAX_MEMBERS];
@@ -641,7 +642,7 @@ fn put_all(
     at: usize,
 ) -> usize
     requires { ⌜ Sound (j .nodes) (j .ports) (j .bundles) (j .members) × RoutesIn (now points) (j .edges) (j .members) ⌝ }
-    requires { ⌜ (bundle-runs < length (now xs)) × (length (now xs) ≤ length (now scratch)) ⌝ }
+    requires { ⌜ SearchRoom (now xs) (now scratch) ⌝ }
 {
     let a = put_offsets(j, &mut out[..], at);
     let b = put_corridors(j, &mut out[..], a);
@@ -670,7 +671,7 @@ fn call(
     out: &mut [u8],
 ) -> usize
     requires { ⌜ Sound (j .nodes) (j .ports) (j .bundles) (j .members) × RoutesIn (now points) (j .edges) (j .members) ⌝ }
-    requires { ⌜ (bundle-runs < length (now xs)) × (length (now xs) ≤ length (now scratch)) ⌝ }
+    requires { ⌜ SearchRoom (now xs) (now scratch) ⌝ }
 {
     if op == 0x35 {
         return put_plan(j, points, &mut xs[..], &mut scratch[..], &mut out[..], 0);
@@ -730,7 +731,7 @@ fn answer(
     scratch: &mut [f64],
     out: &mut [u8],
 ) -> usize
-    requires { ⌜ (length (now points) ≡ point-numbers) × (bundle-runs < length (now xs)) × (length (now xs) ≤ length (now scratch)) ⌝ }
+    requires { ⌜ (length (now points) ≡ point-numbers) × SearchRoom (now xs) (now scratch) ⌝ }
 {
     let op = records::u8_at(record, 0);
     let from = start_of(op);
@@ -763,7 +764,7 @@ fn replay_one(
     scratch: &mut [f64],
     out: &mut [u8],
 ) -> bool
-    requires { ⌜ (length (now points) ≡ point-numbers) × (bundle-runs < length (now xs)) × (length (now xs) ≤ length (now scratch)) ⌝ }
+    requires { ⌜ (length (now points) ≡ point-numbers) × SearchRoom (now xs) (now scratch) ⌝ }
 {
     let r = records::next(&mut space[..]);
     match r {
@@ -788,7 +789,7 @@ fn main() {
     let mut space = [0u8; JOB_ROOM];
     let mut points = [0.0; POINT_NUMBERS];
     let mut xs = [0.0; CANDIDATE_ROOM];
-    let mut scratch = [0.0; CANDIDATE_ROOM];
+    let mut scratch = [0.0; SEARCH_WORK];
     let mut out = [0u8; 65536];
     let mut turn: u32 = 0;
     while turn < 4000000000 {

@@ -1,5 +1,5 @@
 -- `checked_search::promotion_checked` meets its contract. Assumes nothing.
-use mathlib.Core.Path.{_≡_, sym, _∙_, ap, subst}
+use mathlib.Core.Path.{_≡_, refl, sym, _∙_, ap, subst}
 use mathlib.Core.Bool.{Bool}
 use mathlib.Core.List.{List, _++_}
 use Prim.Native.Nat.{ℕ, _≤_, _<_}
@@ -85,18 +85,21 @@ slice-aggregate-promotion-candidates c =
     let a = e .before .before .before .before .before .before .before .before .before .args in
     sym (length-take-le promotion-scratch (a .candidates .now) (room e .1))
 
+slice-aggregate-promotion-candidates-2 :
+    tie.Need-slice-aggregate-promotion-candidates-2
+slice-aggregate-promotion-candidates-2 c = refl
+
 promotion-candidates-requires : tie.Need-promotion-candidates-requires
 promotion-candidates-requires c κs =
     let e = c .before .before .before .before in
     let a = e .before .before .before .before .before .before .before .before .before .args in
     let h = length-take-le promotion-scratch (a .candidates .now) (room e .1) in
     let f = accepted e .few (c .before .before .role-from .result) (a .pitch) in
-    let w = room e .2 in
     (accepted e .placed, (omega arith, omega arith))
 
 promotion-reply-requires : tie.Need-promotion-reply-requires
 promotion-reply-requires c κs =
-    let x = c .before .before .before .before .before .before in
+    let x = c .before .before .before .before .before in
     let e = x .before .before .before .before .before in
     let a = e .before .before .before .before .before .before .before .before .before .args in
     let g = x .promotion-candidates in
@@ -110,13 +113,10 @@ same-length c = search needs
 same-length-2 : tie.Need-same-length-2
 same-length-2 c = search needs
 
-same-length-3 : tie.Need-same-length-3
-same-length-3 c = search needs
-
 returns-3 : tie.Need-returns-3
 returns-3 c =
     let r = c .before .before in
-    let x = r .before .before .before .before .before .before .before in
+    let x = r .before .before .before .before .before .before in
     let e = x .before .before .before .before .before in
     let st = e .before .before .before .before .before .before .before .before .before in
     let a = st .args in
@@ -138,9 +138,9 @@ promotion-checked-spec =
     role-from-requires
     slice-relend-prefix-promotion-candidates
     slice-aggregate-promotion-candidates
+    slice-aggregate-promotion-candidates-2
     promotion-candidates-requires
     promotion-reply-requires
     same-length
     same-length-2
-    same-length-3
     returns-3)

@@ -1,5 +1,5 @@
 -- `checked_search::search_checked` meets its contract. Assumes nothing.
-use mathlib.Core.Path.{_≡_, sym, _∙_, ap, subst}
+use mathlib.Core.Path.{_≡_, refl, sym, _∙_, ap, subst}
 use mathlib.Core.Bool.{Bool}
 use mathlib.Core.List.{List, _++_}
 use Prim.Native.Nat.{ℕ, _≤_, _<_}
@@ -81,18 +81,21 @@ slice-aggregate-common-horizontal-collector-xs c =
     let a = e .before .before .before .before .before .before .before .before .before .args in
     sym (length-take-le largest-list (a .candidates .now) (lent e))
 
+slice-aggregate-common-horizontal-collector-xs-2 :
+    tie.Need-slice-aggregate-common-horizontal-collector-xs-2
+slice-aggregate-common-horizontal-collector-xs-2 c = refl
+
 common-horizontal-collector-xs-requires : tie.Need-common-horizontal-collector-xs-requires
 common-horizontal-collector-xs-requires c κs =
     let e = c .before .before .before in
     let a = e .before .before .before .before .before .before .before .before .before .args in
     let h = length-take-le largest-list (a .candidates .now) (lent e) in
     let f = accepted e .few (c .before .before .role-from .result) (a .pitch) in
-    let w = room e .2 in
     (accepted e .placed, (omega arith, omega arith))
 
 search-reply-requires : tie.Need-search-reply-requires
 search-reply-requires c κs =
-    let x = c .before .before .before .before .before .before in
+    let x = c .before .before .before .before .before in
     let e = x .before .before .before .before in
     let a = e .before .before .before .before .before .before .before .before .before .args in
     let g = x .common-horizontal-collector-xs in
@@ -107,13 +110,10 @@ same-length c = search needs
 same-length-2 : tie.Need-same-length-2
 same-length-2 c = search needs
 
-same-length-3 : tie.Need-same-length-3
-same-length-3 c = search needs
-
 returns-2 : tie.Need-returns-2
 returns-2 c =
     let r = c .before .before in
-    let x = r .before .before .before .before .before .before .before in
+    let x = r .before .before .before .before .before .before in
     let e = x .before .before .before .before in
     let st = e .before .before .before .before .before .before .before .before .before in
     let a = st .args in
@@ -133,9 +133,9 @@ search-checked-spec =
     role-from-requires
     slice-relend-prefix-common-horizontal-collector-xs
     slice-aggregate-common-horizontal-collector-xs
+    slice-aggregate-common-horizontal-collector-xs-2
     common-horizontal-collector-xs-requires
     search-reply-requires
     same-length
     same-length-2
-    same-length-3
     returns-2)

@@ -54,7 +54,7 @@ common-horizontal-collector-x-requires c κs =
     let h : a .u .first + k ≤ length (a .starts .now) = omega (arith, s .pre .1 .fits) in
     let few : k ≤ max-bundle-members = omega (arith, s .pre .1 .few) in (
       laws.part-windows (a .points .now) (a .starts .now) (a .counts .now) (a .xs .now) (a .scratch .now) (s .pre .0) (a .u .first) k h few,
-      (laws.part-runs (a .points .now) (a .starts .now) (a .counts .now) (a .xs .now) (a .scratch .now) (s .pre .0) (a .u .first) k h few (a .u .role) (a .pitch), s .pre .0 .scratch-room),
+      laws.part-rooms (a .points .now) (a .starts .now) (a .counts .now) (a .xs .now) (a .scratch .now) (s .pre .0) (a .u .first) k h few (a .u .role) (a .pitch),
     )
 
 returns : tie.Need-returns

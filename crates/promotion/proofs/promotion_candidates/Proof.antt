@@ -13,7 +13,9 @@ use Rattle.promotion.proofs.promotion_candidates.Statement.{statement}
 use Rattle.promotion.proofs.promotion_candidates.Tie as tie
 
 common-horizontal-collector-xs-requires : tie.Need-common-horizontal-collector-xs-requires
-common-horizontal-collector-xs-requires c κs = search needs
+common-horizontal-collector-xs-requires c κs =
+    let st = c .before .before .before .before .before .before .before in
+    (st .pre .0, (omega (arith, st .pre .1 .0), st .pre .1 .1))
 
 enum-told : tie.Need-enum-told
 enum-told c = search needs
