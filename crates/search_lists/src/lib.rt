@@ -68,12 +68,7 @@ pub fn gather(
 // looked at. A look is at what the first pass kept of the run, a pair for each run in the members'
 // order; a member that holds the candidate has its later pairs passed over. The candidates that are
 // common are put at the front of xs. The outermost loop is left where a visit is due and 0 are left.
-pub fn try_candidates(
-    kept: &[f64],
-    counts: &[usize],
-    granted: TapVisits,
-    xs: &mut [f64],
-) -> Listed
+pub fn try_candidates(kept: &[f64], counts: &[usize], granted: TapVisits, xs: &mut [f64]) -> Listed
     requires { ⌜ 2 * runs-in (members-from (now kept) 0 (now counts)) ≤ length (now kept) ⌝ }
     ensures { λ r. ⌜ Lists r (now (xs .exit)) (length (now (xs .entry))) (tried (members-from (now (kept .entry)) 0 (now (counts .entry))) (now (xs .entry)) [] (granted .0)) ⌝ }
 {

@@ -6,7 +6,7 @@ use native.Mathlib.Omega.{arith}
 use lib.ListN.{length, getD, take, drop}
 use lib.Seq.{length-take-le, length-front}
 use lib.Ieee.{Float}
-use Rattle.limits.specs.Limits.{candidate-room}
+use Rattle.limits.specs.Limits.{search-work}
 use Rattle.board.specs.declared.DrawnBundles.{DrawnBundles}
 use Rattle.job_tables.specs.Came.{Sizes}
 use Rattle.job_tables.specs.Ready.{tables-sound, routes-in}
@@ -55,7 +55,7 @@ on-sheet c =
     let a = s .args in
     let p = c .before .before .before .before .before .before .before .before .before .before .before .before .before .before .before .before .before .before .before .before .before .before .before .before .before .before .before .before .before .before .before .before .before .plan-interior-collectors in
     let d = c .before .before .before .before .before .before .before .before .before .before .before .before .before .before .before .before .before .draw-sheet in
-    let lent = laws.lent-as (a .j) _ _ _ _ (p .last .1 .1 .1 .1 .1 .1 .1 .1 .1 .1 .0 ++ drop candidate-room (a .points .now)) _ _ _ (length-front (a .points .now) (p .last .1 .1 .1 .1 .1 .1 .1 .1 .1 .1 .0) candidate-room (p .kept .1 .1 .1 .1 .1 .1 .1 .1 .1 .1 .0)) (s .pre .1 .1 .1) in
+    let lent = laws.lent-as (a .j) _ _ _ _ (p .last .1 .1 .1 .1 .1 .1 .1 .1 .1 .1 .1 .0 ++ drop search-work (a .points .now)) _ _ _ (length-front (a .points .now) (p .last .1 .1 .1 .1 .1 .1 .1 .1 .1 .1 .1 .0) search-work (p .kept .1 .1 .1 .1 .1 .1 .1 .1 .1 .1 .1 .0)) (s .pre .1 .1 .1) in
     laws.on-sheet (a .j) (a .given .now) (s .pre .0 .0) (sizes s) _ _ _ _ _ _ _ lent (d .result .verdict) (drawn-by c) (edges-by c) (d .last .1 .1 .1 .1 .1 .1 .1 .1 .1 .1 .1 .0) (taps-by c) (points-by c) (counts-by c) (d .kept .1 .1 .1 .1 .1 .1 .1 .1 .1 .1 .1 .1 .0) (d .kept .1 .1 .1 .1 .1 .1 .1 .1 .1 .1 .1 .1 .1 .0) (d .kept .1 .1 .1 .1 .1 .1 .1 .1 .1 .1 .1 .1 .1 .1 .0) _ (c .before .v2 .given .1) (d .ensures .1 .0) (d .ensures .1 .1 .0) (d .ensures .1 .1 .1 .0) (d .ensures .1 .1 .1 .1)
 
 windows : (c : tie.After-known-told2) → Windows (drawn-by c .count) (drawn-by c .rows) (start c .args .j .members .count)
@@ -72,16 +72,16 @@ slice-relend-prefix-plan-interior-collectors c = search needs
 
 slice-aggregate-plan-interior-collectors : tie.Need-slice-aggregate-plan-interior-collectors
 slice-aggregate-plan-interior-collectors c =
-    let s = c .before .before .before .before .before .before .before .before .before .before .before .before in
+    let s = c .before .before .before .before .before .before .before .before .before .before .before .before .before in
     let a = s .args in
-    sym (length-take-le candidate-room (a .points .now) (s .pre .1 .1 .0 .0))
+    sym (length-take-le search-work (a .points .now) (s .pre .1 .1 .0 .0))
 
 plan-interior-collectors-requires : tie.Need-plan-interior-collectors-requires
 plan-interior-collectors-requires c κs =
     let s = c .before .before .before .before .before .before .before .before .before .before .before .before .before in
     let a = s .args in
-    let x = length-take-le candidate-room (a .points .now) (s .pre .1 .1 .0 .0) in
-    ((tables-sound (a .j) (a .given .now) (s .pre .0 .0) (sizes s), routes-in (a .j) (a .given .now) (s .pre .0 .0) (sizes s)), ((omega (arith, x), omega (arith, x, s .pre .1 .1 .0 .1)), c .before .before .corridor-depth-offsets .ensures))
+    let x = length-take-le search-work (a .points .now) (s .pre .1 .1 .0 .0) in
+    ((tables-sound (a .j) (a .given .now) (s .pre .0 .0) (sizes s), routes-in (a .j) (a .given .now) (s .pre .0 .0) (sizes s)), ((omega (arith, s .pre .1 .1 .0 .1), omega (arith, x, s .pre .1 .1 .0 .1)), c .before .before .corridor-depth-offsets .ensures))
 
 write-notice-requires : tie.Need-write-notice-requires
 write-notice-requires c κs = c .before .before .before .before .before .before .before .before .before .before .before .before .before .before .before .before .before .before .before .before .pre .0 .1
@@ -108,7 +108,7 @@ draw-sheet-requires c κs =
     let s = c .before .before .before .before .before .before .before .before .before .before .before .before .before .before .before .before .before .before .before .before .before .before .before .before .before .before .before .before .before in
     let a = s .args in
     let p = c .before .before .before .before .before .before .before .before .before .before .before .before .before .before .before .plan-interior-collectors in
-    let lent = laws.lent-as (a .j) _ _ _ _ _ _ _ _ (length-front (a .points .now) (p .last .1 .1 .1 .1 .1 .1 .1 .1 .1 .1 .0) candidate-room (p .kept .1 .1 .1 .1 .1 .1 .1 .1 .1 .1 .0)) (s .pre .1 .1 .1) in
+    let lent = laws.lent-as (a .j) _ _ _ _ _ _ _ _ (length-front (a .points .now) (p .last .1 .1 .1 .1 .1 .1 .1 .1 .1 .1 .1 .0) search-work (p .kept .1 .1 .1 .1 .1 .1 .1 .1 .1 .1 .1 .0)) (s .pre .1 .1 .1) in
     ((tables-sound (a .j) (a .given .now) (s .pre .0 .0) (sizes s), routes-in (a .j) (a .given .now) (s .pre .0 .0) (sizes s)), ((ready.follow (a .j) (a .given .now) (s .pre .0 .0) (sizes s), ready.once-a-role (a .j) (a .given .now) (s .pre .0 .0) (sizes s)), ((lent .edges-long, lent .lanes-long, lent .counts-long), lent .room)))
 
 enum-known-v : tie.Need-enum-known-v
@@ -156,7 +156,7 @@ write-answer-requires c κs =
     }
 
 same-length-4 : tie.Need-same-length-4
-same-length-4 c = let k = c .before .before .before .before .before .before .before .before .before .before .before .before .before .before .before .before .before .before .before .before .before .before .before .before .before .before .before .before .before .before .before .before .before .before .before .before .before .plan-interior-collectors .kept .1 .1 .1 .1 .1 .1 .1 .1 .1 .1 .1 .0 in omega (arith, k)
+same-length-4 c = let k = c .before .before .before .before .before .before .before .before .before .before .before .before .before .before .before .before .before .before .before .before .before .before .before .before .before .before .before .before .before .before .before .before .before .before .before .before .before .plan-interior-collectors .kept .1 .1 .1 .1 .1 .1 .1 .1 .1 .1 .0 in omega (arith, k)
 
 same-length-5 : tie.Need-same-length-5
 same-length-5 c = search needs
@@ -170,7 +170,7 @@ same-length-7 c = search needs
 same-length-8 : tie.Need-same-length-8
 same-length-8 c =
     let p = c .before .before .before .before .before .before .before .before .before .before .before .before .before .before .before .before .before .before .before .before .before .before .before .before .before .before .before .before .before .before .before .before .before .before .before .before .before .plan-interior-collectors in
-    let kept = length-front (c .before .before .before .before .before .before .before .before .before .before .before .before .before .before .before .before .before .before .before .before .before .before .before .before .before .before .before .before .before .before .before .before .before .before .before .before .before .before .before .before .before .before .before .before .before .before .before .before .before .before .before .args .points .now) (p .last .1 .1 .1 .1 .1 .1 .1 .1 .1 .1 .0) candidate-room (p .kept .1 .1 .1 .1 .1 .1 .1 .1 .1 .1 .0) in
+    let kept = length-front (c .before .before .before .before .before .before .before .before .before .before .before .before .before .before .before .before .before .before .before .before .before .before .before .before .before .before .before .before .before .before .before .before .before .before .before .before .before .before .before .before .before .before .before .before .before .before .before .before .before .before .before .args .points .now) (p .last .1 .1 .1 .1 .1 .1 .1 .1 .1 .1 .1 .0) search-work (p .kept .1 .1 .1 .1 .1 .1 .1 .1 .1 .1 .1 .0) in
     omega (arith, kept, c .before .before .before .before .before .before .before .before .before .before .before .before .before .before .before .before .before .before .before .before .before .draw-sheet .kept .1 .1 .1 .1 .1 .1 .1 .1 .1 .1 .1 .1 .1 .0)
 
 same-length-9 : tie.Need-same-length-9
@@ -196,7 +196,7 @@ returns-2 c =
     laws.notice-writes _ _ _ _ _ (laws.all-refused (a .j) (a .given .now) (s .pre .0 .0) (sizes s) (p .result) (p .ensures) (c .before .before .before .before .before .before .before .before .before .before .before .before .before .before .before .before .before .before .before .before .before .before .before .before .before .before .before .before .before .before .before .before .if1 .left) (take (a .j .bundles .count) (o .result .rows)) (d .result .verdict) (d .last .1 .1 .1 .1 .1 .1 .1 .1 .1 .1 .0) (d .result .drawn) (d .last .1 .1 .1 .1 .1 .1 .1 .1 .1 .1 .1 .1 .1 .0) (d .last .1 .1 .1 .1 .1 .1 .1 .1 .1 .1 .1 .1 .1 .1 .0) (d .last .1 .1 .1 .1 .1 .1 .1 .1 .1 .1 .1 .1 .0) (o .ensures (take (a .j .edges .count) (a .j .edges .rows))) (d .ensures .0) _ _ (c .before .before .before .before .before .v .given .1)) (w .0) (w .1)
 
 same-length-13 : tie.Need-same-length-13
-same-length-13 c = let k = c .before .before .before .before .before .before .before .before .before .before .before .before .before .before .before .before .before .before .before .before .before .before .before .before .before .before .before .before .before .before .before .before .before .before .before .before .before .before .before .before .before .before .before .before .before .before .before .before .before .plan-interior-collectors .kept .1 .1 .1 .1 .1 .1 .1 .1 .1 .1 .1 .0 in omega (arith, k)
+same-length-13 c = let k = c .before .before .before .before .before .before .before .before .before .before .before .before .before .before .before .before .before .before .before .before .before .before .before .before .before .before .before .before .before .before .before .before .before .before .before .before .before .before .before .before .before .before .before .before .before .before .before .before .before .plan-interior-collectors .kept .1 .1 .1 .1 .1 .1 .1 .1 .1 .1 .0 in omega (arith, k)
 
 same-length-14 : tie.Need-same-length-14
 same-length-14 c = omega (arith, c .before .before .before .before .before .before .before .before .before .before .before .before .before .before .before .before .before .before .before .before .before .before .before .before .before .before .before .before .before .before .before .before .before .draw-sheet .kept .1 .1 .1 .1 .1 .1 .1 .1 .1 .1 .0)
@@ -210,7 +210,7 @@ same-length-16 c = omega (arith, c .before .before .before .before .before .befo
 same-length-17 : tie.Need-same-length-17
 same-length-17 c =
     let p = c .before .before .before .before .before .before .before .before .before .before .before .before .before .before .before .before .before .before .before .before .before .before .before .before .before .before .before .before .before .before .before .before .before .before .before .before .before .before .before .before .before .before .before .before .before .before .before .before .before .plan-interior-collectors in
-    let kept = length-front (c .before .before .before .before .before .before .before .before .before .before .before .before .before .before .before .before .before .before .before .before .before .before .before .before .before .before .before .before .before .before .before .before .before .before .before .before .before .before .before .before .before .before .before .before .before .before .before .before .before .before .before .before .before .before .before .before .before .before .before .before .before .before .before .args .points .now) (p .last .1 .1 .1 .1 .1 .1 .1 .1 .1 .1 .0) candidate-room (p .kept .1 .1 .1 .1 .1 .1 .1 .1 .1 .1 .0) in
+    let kept = length-front (c .before .before .before .before .before .before .before .before .before .before .before .before .before .before .before .before .before .before .before .before .before .before .before .before .before .before .before .before .before .before .before .before .before .before .before .before .before .before .before .before .before .before .before .before .before .before .before .before .before .before .before .before .before .before .before .before .before .before .before .before .before .before .before .args .points .now) (p .last .1 .1 .1 .1 .1 .1 .1 .1 .1 .1 .1 .0) search-work (p .kept .1 .1 .1 .1 .1 .1 .1 .1 .1 .1 .1 .0) in
     omega (arith, kept, c .before .before .before .before .before .before .before .before .before .before .before .before .before .before .before .before .before .before .before .before .before .before .before .before .before .before .before .before .before .before .before .before .before .draw-sheet .kept .1 .1 .1 .1 .1 .1 .1 .1 .1 .1 .1 .1 .1 .0, c .before .before .before .before .before .before .before .before .before .before .before .before .normalize-layout .kept .1 .1 .0)
 
 same-length-18 : tie.Need-same-length-18

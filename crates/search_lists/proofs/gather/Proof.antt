@@ -134,7 +134,6 @@ stepped e o g =
     let k : candidate (a .role) (a .b) (run (a .points .now) (a .role) (a .pitch) (r .loop2 .at)) ≡ o = ap (candidate (a .role) (a .b)) (sym (e .before .before .before .before .before .before .run-stretch .ensures)) ∙ sym (e .candidate-of .ensures) ∙ g in
     rw (next-run t) (walk.gather-step (a .role) (a .b) (take (r .loop2 .n) (r .loop2 .xs)) (run (a .points .now) (a .role) (a .pitch) (r .loop2 .at)) (R (a .points .now) (a .role) (a .pitch) (r .loop2 .at + 1) (r .loop2 .rest - 1) ++ from s (s .loop .m + 1)) (r .loop2 .left) o v k)
 
-
 -- a run's pair is kept
 kept-more : (e : tie.After-candidate-of Inv-runs μ-runs Inv-members μ-members)
     → let p = e .before .before .before in
@@ -228,15 +227,11 @@ members-again c =
 
 same-length : tie.Need-same-length Inv-runs μ-runs Inv-members μ-members
 same-length c =
-    let r = c .before .before in
-    let s = r .before .before .before .before in
-    r .loop2 .inv .0 ∙ s .loop .inv .0 ∙ simp length-set
+    c .before .before .loop2 .inv .0 ∙ c .before .before .before .before .before .before .loop .inv .0 ∙ simp length-set
 
 same-length-2 : tie.Need-same-length-2 Inv-runs μ-runs Inv-members μ-members
 same-length-2 c =
-    let r = c .before .before in
-    let s = r .before .before .before .before in
-    r .loop2 .inv .4 ∙ s .loop .inv .3
+    c .before .before .loop2 .inv .4 ∙ c .before .before .before .before .before .before .loop .inv .3
 
 returns : tie.Need-returns Inv-runs μ-runs Inv-members μ-members
 returns c =
@@ -293,13 +288,7 @@ slice-write-xs-2 c =
     omega arith
 
 add-n : tie.Need-add-n Inv-runs μ-runs Inv-members μ-members
-add-n c =
-    let t = c .before .before .before .before .before .before .before .before .before .before .before in
-    let h = room t in
-    let r = t .before in
-    let s = r .before .before .before .before in
-    let e = r .loop2 .inv .0 ∙ s .loop .inv .0 ∙ length-set (s .before .before .before .before .before .before .args .xs .now) 0 _ in
-    omega (arith, s .before .before .before .before .before .before .good)
+add-n c = omega (arith, mul-xs c)
 
 runs-less : tie.Need-loop2-less Inv-runs μ-runs Inv-members μ-members
 runs-less c = search needs
@@ -312,14 +301,13 @@ runs-again c =
     let t = p .before .before .before .before .before in
     let r = t .before in
     let room′ = room t in
-    let pairs = pair-after e in
     let h : r .loop2 .n < length (r .loop2 .xs) = omega arith in (
       length-set (r .loop2 .xs) (r .loop2 .n) x ∙ r .loop2 .inv .0,
       omega arith,
       omega (arith, length-set (r .loop2 .xs) (r .loop2 .n) x),
       r .loop2 .inv .3 ∙ stepped e (At x) (c .before .c .given .1) ∙ rw (walk.stored (r .loop2 .xs) (r .loop2 .n) x h),
       p .put-point .kept .0 ∙ r .loop2 .inv .4,
-      pairs,
+      pair-after e,
       r .loop2 .inv .6 ∙ kept-more e,
     )
 
@@ -335,14 +323,13 @@ runs-again-2 c =
     let p = e .before .before .before in
     let t = p .before .before .before .before .before in
     let r = t .before in
-    let room′ = room t in
-    let pairs = pair-after e in (
+    let room′ = room t in (
       r .loop2 .inv .0,
       omega arith,
       omega arith,
       r .loop2 .inv .3 ∙ stepped e Missing (c .enum-told .given .1),
       p .put-point .kept .0 ∙ r .loop2 .inv .4,
-      pairs,
+      pair-after e,
       r .loop2 .inv .6 ∙ kept-more e,
     )
 
