@@ -1,13 +1,17 @@
-// Where a bus and a run meet: the contact test and the spacing test.
+// Where a bus and a run meet: the contact test, which says which kind of contact, and the spacing
+// test.
 //
 // Ported from cachanova/schemweave, commit c4a1a2c60a, crates/schemweave/src/boundary_bundles.rs
 // (Apache-2.0, see NOTICE); names are those of that module where it has one. Every test compares
 // and rounds as the definition that its contract cites says: nothing here has a tolerance but
 // preserved_point_matches.
 ghost use mathlib.Core.Path.{_≡_};
-ghost use Rattle.geometry.specs.Contact.{matches, slanted, across, upright, place, in-line, crossing, meet, at-tap, strict, disallowed, contact};
+ghost use Rattle.geometry.specs.Contact.{matches, slanted, across, upright, place, in-line, crossing, meet, at-tap, strict};
+ghost use Rattle.geometry.specs.Kind.{kind-at, kind-of, kind, disallowed, number};
+ghost use Rattle.geometry.specs.Crossing.{is-strict, crossing-place};
 ghost use Rattle.geometry.specs.Apart.{trunk, over, beside, apart};
 ghost use Rattle.geometry.specs.Spacing.{overlap-positive, too-close};
+use geometry::Contact;
 use geometry::Meet;
 use geometry::Point;
 use geometry::Segment;
@@ -24,7 +28,7 @@ pub fn preserved_point_matches(left: Point, right: Point) -> bool
     x & y
 }
 
-// ---- segments_have_disallowed_contact
+// ---- segments_have_disallowed_contact, told apart by kind
 
 pub fn is_slanted(a: Point, b: Point) -> bool
     ensures { λ r. ⌜ r ≡ slanted a b ⌝ }
@@ -151,65 +155,106 @@ fn is_strict(bus: Segment, route_start: Point, route_end: Point, p: Point) -> bo
     !at_start & !at_end & !at_a & !at_b
 }
 
-// Whether a meeting of a bus and a run is disallowed.
-pub fn is_disallowed(
-    bus: Segment,
-    route_start: Point,
-    route_end: Point,
-    permitted_tap: Tap,
-    allow_strict_crossings: bool,
-    m: Meet,
-) -> bool
-    ensures { λ r. ⌜ r ≡ disallowed bus «route_start» «route_end» «permitted_tap» «allow_strict_crossings» m ⌝ }
+// The kind of a bus and a run that meet at p alone.
+fn kind_at(bus: Segment, route_start: Point, route_end: Point, tap: Tap, p: Point) -> Contact
+    ensures { λ r. ⌜ r ≡ kind-at bus «route_start» «route_end» tap p ⌝ }
+{
+    let s = bus.start;
+    let e = bus.end;
+    let perpendicular = (s.y == e.y) != (route_start.y == route_end.y);
+    let inner = is_strict(bus, route_start, route_end, p);
+    if perpendicular & inner {
+        return Contact::StrictCrossing;
+    }
+    let tapped = is_at_tap(tap, p);
+    let at_a = preserved_point_matches(route_start, p);
+    let at_b = preserved_point_matches(route_end, p);
+    if tapped & (at_a | at_b) {
+        return Contact::TouchAtTap;
+    }
+    Contact::TouchElsewhere
+}
+
+// The kind by where the two meet, neither being slanted.
+fn kind_of(bus: Segment, route_start: Point, route_end: Point, tap: Tap, m: Meet) -> Contact
+    ensures { λ r. ⌜ r ≡ kind-of bus «route_start» «route_end» tap m ⌝ }
 {
     match m {
-        Meet::Apart => false,
-        Meet::Overlap => true,
-        Meet::One(p) => {
-            let s = bus.start;
-            let e = bus.end;
-            let perpendicular = (s.y == e.y) != (route_start.y == route_end.y);
-            let inner = is_strict(bus, route_start, route_end, p);
-            let tapped = is_at_tap(permitted_tap, p);
-            let at_a = preserved_point_matches(route_start, p);
-            let at_b = preserved_point_matches(route_end, p);
-            if allow_strict_crossings & perpendicular & inner {
-                false
-            } else {
-                !tapped | (!at_a & !at_b)
-            }
-        }
+        Meet::Apart => Contact::Apart,
+        Meet::Overlap => Contact::Overlap,
+        Meet::One(p) => kind_at(bus, route_start, route_end, tap, p),
     }
 }
 
-pub fn segments_have_disallowed_contact(
-    bus: Segment,
-    route_start: Point,
-    route_end: Point,
-    permitted_tap: Tap,
-    allow_strict_crossings: bool,
-) -> bool
-    ensures { λ r. ⌜ r ≡ contact bus «route_start» «route_end» «permitted_tap» «allow_strict_crossings» ⌝ }
+// The test of a bus against a run: request F-6.
+pub fn contact_kind(bus: Segment, route_start: Point, route_end: Point, tap: Tap) -> Contact
+    ensures { λ r. ⌜ r ≡ kind bus «route_start» «route_end» tap ⌝ }
 {
     if (route_start.x == route_end.x) & (route_start.y == route_end.y) {
-        return false;
+        return Contact::Apart;
     }
     let s = bus.start;
     let e = bus.end;
     let bus_slanted = is_slanted(s, e);
     let route_slanted = is_slanted(route_start, route_end);
     if bus_slanted | route_slanted {
-        return true;
+        return Contact::Slanted;
     }
     let m = meeting(bus, route_start, route_end);
-    is_disallowed(
-        bus,
-        route_start,
-        route_end,
-        permitted_tap,
-        allow_strict_crossings,
-        m,
-    )
+    kind_of(bus, route_start, route_end, tap, m)
+}
+
+// Which kinds a caller disallows: segments_have_disallowed_contact by the kind. permitted is flag
+// bit 1.
+pub fn is_disallowed(kind: Contact, permitted: bool) -> bool
+    ensures { λ r. ⌜ r ≡ disallowed permitted kind ⌝ }
+{
+    match kind {
+        Contact::Apart => false,
+        Contact::TouchAtTap => false,
+        Contact::StrictCrossing => !permitted,
+        Contact::TouchElsewhere => true,
+        Contact::Overlap => true,
+        Contact::Slanted => true,
+    }
+}
+
+// The kind's number, for those who colour by it.
+pub fn contact_number(kind: Contact) -> u8
+    ensures { λ r. ⌜ r ≡ number kind ⌝ }
+{
+    match kind {
+        Contact::Apart => 0,
+        Contact::TouchAtTap => 1,
+        Contact::StrictCrossing => 2,
+        Contact::TouchElsewhere => 3,
+        Contact::Overlap => 4,
+        Contact::Slanted => 5,
+    }
+}
+
+pub fn is_strict_crossing(kind: Contact) -> bool
+    ensures { λ r. ⌜ r ≡ is-strict kind ⌝ }
+{
+    contact_number(kind) == 2
+}
+
+// Where a bus and a run that cross strictly do: no number is worked out.
+pub fn crossing_point(bus: Segment, route_start: Point) -> Point
+    ensures { λ r. ⌜ r ≡ crossing-place bus «route_start» ⌝ }
+{
+    let s = bus.start;
+    let e = bus.end;
+    if s.y == e.y {
+        return Point {
+            x: route_start.x,
+            y: s.y,
+        };
+    }
+    Point {
+        x: s.x,
+        y: route_start.y,
+    }
 }
 
 // ---- parallel_segments_are_too_close

@@ -33,7 +33,8 @@ pub fn charge(left: &mut u32) -> bool
 pub fn clashes(o: Options, allow: bool, bus: Segment, tap: Tap, run: Segment) -> bool
     ensures { λ r. ⌜ r ≡ clash o allow bus tap run ⌝ }
 {
-    contact_test::segments_have_disallowed_contact(bus, run.start, run.end, tap, allow)
+    let kind = contact_test::contact_kind(bus, run.start, run.end, tap);
+    contact_test::is_disallowed(kind, allow)
         || contact_test::parallel_segments_are_too_close(bus, run, o.minimum_parallel_wire_spacing)
 }
 

@@ -20,7 +20,8 @@ use Rattle.geometry.specs.declared.Segment.{Segment}
 use Rattle.geometry.specs.declared.Role.the-variants.{Input}
 use Rattle.geometry.specs.declared.Side.the-variants.{East}
 use Rattle.geometry.specs.Points.{Route, runs}
-use Rattle.geometry.specs.Contact.{meet, contact}
+use Rattle.geometry.specs.Contact.{meet}
+use Rattle.geometry.specs.Kind.{kind}
 use Rattle.geometry.specs.Enters.{passes-inside}
 use Rattle.geometry.specs.Spacing.{too-close}
 use Rattle.exact.specs.Exact.{nought, unit, Exact, exact, near-exact, HasLength}
@@ -102,11 +103,11 @@ fine s a b c d =
     )
 
 keeps-routes : WithRoutes routes drawn
-unfolding ofInt ofBits Clear drawn-tests over-routes run-tests runs clash contact meet too-close tap-of near magnitude lt le eq add sub neg
+unfolding ofInt ofBits Clear drawn-tests over-routes run-tests runs clash kind meet too-close tap-of near magnitude lt le eq add sub neg
 keeps-routes = with-routes (board 60 .options) routes drawn (fine (line 38 15 40 15) tt tt tt tt) ((refl, (refl, (refl, (refl, (refl, (refl, tt)))))), ((refl, (refl, (refl, (refl, (refl, (refl, tt)))))), tt))
 
 keeps-bundles : WithBundles drawn
-unfolding ofInt ofBits Clear Apart pair-tests clash contact meet too-close lt le eq add sub neg
+unfolding ofInt ofBits Clear Apart pair-tests clash kind meet too-close lt le eq add sub neg
 keeps-bundles = with-bundles (board 60 .options) routes drawn (fine (line 38 15 40 15) tt tt tt tt) (((refl, (refl, (refl, (refl, tt)))), tt), (tt, tt))
 
 -- the members of both bundles, with one run each
@@ -226,7 +227,7 @@ abbrev crossed : List Drawn
 crossed = first ∷ second (line 15 12 40 12) ∷ []
 
 pub two-bundles : (NoFalseJoint (board 60) routes crossed → ⊥) × WithRoutes routes crossed × MembersOut (board 60) routes
-unfolding ofInt ofBits Clear drawn-tests over-routes run-tests runs clash contact meet too-close tap-of near magnitude lt le eq add sub neg
+unfolding ofInt ofBits Clear drawn-tests over-routes run-tests runs clash kind meet too-close tap-of near magnitude lt le eq add sub neg
 two-bundles = (
   broken,
   with-routes (board 60 .options) routes crossed (fine (line 15 12 40 12) tt tt tt tt) ((refl, (refl, (refl, (refl, (refl, (refl, tt)))))), ((refl, (refl, (refl, (refl, (refl, (refl, tt)))))), tt)),
