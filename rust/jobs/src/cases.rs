@@ -4,6 +4,7 @@ use oracle::calls::{call, op};
 use oracle::job::Job;
 use oracle::wire::Writer;
 
+use crate::contacts;
 use crate::families::{FAMILIES, any_board};
 use crate::floats::{Palette, clean, near, power};
 use crate::rng::Rng;
@@ -12,14 +13,24 @@ use crate::zeros::put_in_search;
 pub struct Kind {
     pub name: &'static str,
     pub shows: &'static str,
-    make: fn(&mut Rng, u64) -> Vec<u8>,
+    make: fn(&mut Rng, u64, u64) -> Vec<u8>,
 }
 
-pub const KINDS: [Kind; 7] = [
+pub const KINDS: [Kind; 9] = [
     Kind {
         name: "leaves",
         shows: "operations 01 to 0C",
         make: leaf,
+    },
+    Kind {
+        name: "contacts",
+        shows: "operation 0D, the deciding cases first",
+        make: contacts::some,
+    },
+    Kind {
+        name: "contact-grid",
+        shows: "operation 0D on three small grids, all in turn; the seed does nothing",
+        make: contacts::on_grid,
     },
     Kind {
         name: "routes",
@@ -55,7 +66,7 @@ pub const KINDS: [Kind; 7] = [
 
 impl Kind {
     pub fn record(&self, seed: u64, index: u64) -> Vec<u8> {
-        (self.make)(&mut Rng::new(self.name, seed, index), seed)
+        (self.make)(&mut Rng::new(self.name, seed, index), seed, index)
     }
 }
 
@@ -63,12 +74,12 @@ pub fn kind(name: &str) -> Option<&'static Kind> {
     KINDS.iter().find(|kind| kind.name == name)
 }
 
-fn put(out: &mut Writer, (x, y): (f64, f64)) {
+pub(crate) fn put(out: &mut Writer, (x, y): (f64, f64)) {
     out.f64(x);
     out.f64(y);
 }
 
-fn put_run(out: &mut Writer, (start, end): ((f64, f64), (f64, f64))) {
+pub(crate) fn put_run(out: &mut Writer, (start, end): ((f64, f64), (f64, f64))) {
     put(out, start);
     put(out, end);
 }
@@ -80,7 +91,7 @@ fn put_points(out: &mut Writer, points: &[(f64, f64)]) {
     }
 }
 
-fn leaf(rng: &mut Rng, _: u64) -> Vec<u8> {
+fn leaf(rng: &mut Rng, _: u64, _: u64) -> Vec<u8> {
     let palette = Palette::new(rng);
     let mut out = Writer::new();
     let operation = rng.pick(&[
@@ -110,7 +121,10 @@ fn leaf(rng: &mut Rng, _: u64) -> Vec<u8> {
             put_run(&mut out, run);
             out.f64(some_length(rng, &palette, run));
         }
-        op::CONTACT => contact(rng, &palette, &mut out),
+        op::CONTACT => {
+            bus_run_and_tap(rng, &palette, &mut out);
+            out.u8(rng.below(2) as u8);
+        }
         op::SPACING => {
             let (left, mut right) = (palette.run(rng), palette.run(rng));
             if rng.chance(1, 2) {
@@ -226,7 +240,8 @@ fn some_length(rng: &mut Rng, palette: &Palette, run: ((f64, f64), (f64, f64))) 
     }
 }
 
-fn contact(rng: &mut Rng, palette: &Palette, out: &mut Writer) {
+/// A bus, a run that often meets it, and a tap that often is where they do.
+pub(crate) fn bus_run_and_tap(rng: &mut Rng, palette: &Palette, out: &mut Writer) {
     let bus = palette.run(rng);
     let mut run = palette.run(rng);
     if rng.chance(1, 2) {
@@ -265,10 +280,9 @@ fn contact(rng: &mut Rng, palette: &Palette, out: &mut Writer) {
     };
     out.u8(u8::from(tap.is_some()));
     put(out, tap.unwrap_or((0.0, 0.0)));
-    out.u8(rng.below(2) as u8);
 }
 
-fn route(rng: &mut Rng, _: u64) -> Vec<u8> {
+fn route(rng: &mut Rng, _: u64, _: u64) -> Vec<u8> {
     let palette = Palette::new(rng);
     let mut out = Writer::new();
     let operation = rng.pick(&[
@@ -388,7 +402,7 @@ fn some_place(rng: &mut Rng, palette: &Palette, points: &[(f64, f64)], length: f
     }
 }
 
-fn search(rng: &mut Rng, _: u64) -> Vec<u8> {
+fn search(rng: &mut Rng, _: u64, _: u64) -> Vec<u8> {
     let mut record = match rng.chance(1, 40) {
         true => many_candidates(rng),
         false => some_search(rng),
@@ -507,7 +521,7 @@ fn many_candidates(rng: &mut Rng) -> Vec<u8> {
 }
 
 /// A job of any family, whole or damaged.
-fn read(rng: &mut Rng, seed: u64) -> Vec<u8> {
+fn read(rng: &mut Rng, seed: u64, _: u64) -> Vec<u8> {
     let family = loop {
         let family = &FAMILIES[rng.below(FAMILIES.len())];
         if family.name != "largest" || rng.chance(1, 200) {
@@ -520,14 +534,14 @@ fn read(rng: &mut Rng, seed: u64) -> Vec<u8> {
     out.bytes
 }
 
-fn plan(rng: &mut Rng, seed: u64) -> Vec<u8> {
+fn plan(rng: &mut Rng, seed: u64, _: u64) -> Vec<u8> {
     let mut out = Writer::new();
     out.u8(op::PLANNING);
     out.raw(&any_board(rng, seed).encode());
     out.bytes
 }
 
-fn range(rng: &mut Rng, seed: u64) -> Vec<u8> {
+fn range(rng: &mut Rng, seed: u64, _: u64) -> Vec<u8> {
     let job = any_board(rng, seed);
     let operation = rng.pick(&[
         op::DEPTH_OFFSETS,
@@ -557,7 +571,7 @@ fn range(rng: &mut Rng, seed: u64) -> Vec<u8> {
     out.bytes
 }
 
-fn sheet(rng: &mut Rng, seed: u64) -> Vec<u8> {
+fn sheet(rng: &mut Rng, seed: u64, _: u64) -> Vec<u8> {
     let mut job = any_board(rng, seed);
     let mut plan = Writer::new();
     put_plan(rng, &mut plan, &job);

@@ -5,6 +5,7 @@
 pub mod boards;
 pub mod cases;
 pub mod check;
+pub mod contacts;
 pub mod damages;
 pub mod draft;
 pub mod families;

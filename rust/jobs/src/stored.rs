@@ -208,9 +208,21 @@ impl Quota {
     }
 }
 
-const QUOTAS: [Quota; 7] = [
+const QUOTAS: [Quota; 9] = [
     Quota {
         kind: "leaves",
+        each: 20,
+        most_bytes: 200,
+        tries: 8_000,
+    },
+    Quota {
+        kind: "contacts",
+        each: 20,
+        most_bytes: 200,
+        tries: 8_000,
+    },
+    Quota {
+        kind: "contact-grid",
         each: 20,
         most_bytes: 200,
         tries: 8_000,

@@ -3,6 +3,7 @@
 use crate::answer;
 use crate::board::{self, Board};
 use crate::job::{self, Job};
+use crate::kinds;
 use crate::patched::harness::{self, Bounds, Entered, Lone, Promoted, Ranged, leaf};
 use crate::records::{
     BoundaryBundleGeometry, BoundaryBundleRole, BoundaryBundleSegment, LayoutOptions, NodeGeometry,
@@ -25,6 +26,7 @@ pub mod op {
     pub const SEPARATED: u8 = 0x0a;
     pub const OVERLAP: u8 = 0x0b;
     pub const NUMBERS: u8 = 0x0c;
+    pub const KIND: u8 = 0x0d;
 
     pub const PUSH_POINT: u8 = 0x10;
     pub const FIRST_VERTICAL_LINE: u8 = 0x11;
@@ -201,6 +203,18 @@ fn geometry(operation: u8, from: &mut Reader<'_>, out: &mut Writer) -> Made {
                 std::cmp::Ordering::Equal => 1,
                 std::cmp::Ordering::Greater => 2,
             });
+        }
+        op::KIND => {
+            let bus = segment(from)?;
+            let (start, end) = run(from)?;
+            let has_tap = mark(from)?;
+            let tap = point(from)?;
+            let (number, place) = kinds::kind(bus, start, end, has_tap.then_some(tap))
+                .ok_or(Malformed::Value(operation))?;
+            out.u8(number);
+            if let Some(place) = place {
+                answer::point(out, place);
+            }
         }
         other => return Err(Malformed::Operation(other)),
     }

@@ -12,10 +12,12 @@ pub mod stage;
 pub mod wire;
 
 mod board;
+mod kinds;
 mod left_out;
 mod records;
 mod show;
 mod validation;
+mod whole;
 
 #[allow(dead_code, clippy::all)]
 mod patched {
