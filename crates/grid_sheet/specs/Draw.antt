@@ -9,6 +9,7 @@ use lib.ListN.{length, getD, set}
 use lib.IntN.{ℤ, pos, natAbs, _+ℤ_, _-ℤ_, _*ℤ_}
 use Rattle.geometry.specs.declared.Role.{Role}
 use Rattle.geometry.specs.declared.Role.the-variants.{Input, Output}
+use Rattle.geometry.specs.Kind.{disallowed}
 use Rattle.board.specs.declared.Edge.{Edge}
 use Rattle.board.specs.declared.Bundle.{Bundle}
 use Rattle.board.specs.declared.Member.{Member}
@@ -17,7 +18,7 @@ use Rattle.drawing.specs.declared.Verdict.{Verdict}
 use Rattle.drawing.specs.declared.Verdict.the-variants.{Clean, Refused}
 use Rattle.drawing.specs.Check.{Test, due, barred, walk, among, own, no-edge, every-route}
 use Rattle.grid_plan.specs.Board.{Point, Segment, PlacedNode, Options, Board, Route, runs, rail-depth, endpoint-of, members-in, pitch-of, inward}
-use Rattle.grid_sheet.specs.Touch.{slanted, contact, too-close, passes-inside}
+use Rattle.grid_sheet.specs.Touch.{slanted, kind, too-close, passes-inside}
 use Rattle.grid_sheet.specs.Reroute.{Crossing, Nowhere, On, first-shared-trunk-intersection, last-shared-trunk-intersection, rewrite-input-shared-trunk, rewrite-output-shared-trunk, rewrite-input-route, rewrite-output-route}
 use Rattle.grid.specs.On.{at-most, same, smaller, larger, half-of}
 
@@ -173,7 +174,7 @@ over-routes f chosen (r ∷ rs) i = cond (chosen i) (f i r) [] ++ over-routes f 
 
 -- what a bundle's segment must not have with a run; allow permits strict crossings
 unfoldable pub clash : Options → Bool → Segment → Option Point → Segment → Bool
-clash o allow bus tap run = contact bus (run .start) (run .end) tap allow || too-close bus run (o .spacing)
+clash o allow bus tap run = disallowed allow (kind bus (run .start) (run .end) tap) || too-close bus run (o .spacing)
 
 unfoldable pub run-tests : Options → Bool → Segment → Option Point → List Segment → List Test
 run-tests o allow bus tap [] = []

@@ -10,6 +10,7 @@ use lib.Ieee.{binary64, add, sub, mul, div}
 use Rattle.binary64.specs.Order.{magnitude}
 use Rattle.geometry.specs.declared.Role.{Role}
 use Rattle.geometry.specs.Contact as T
+use Rattle.geometry.specs.Kind as kinds
 use Rattle.geometry.specs.Spacing as U
 use Rattle.geometry.specs.Enters as E
 use Rattle.geometry.specs.Stretch as G
@@ -89,7 +90,7 @@ pub record Numbers (b : Z.Board) (routes : List Z.Route) : Type 0 where
   -- "lane separation a distance of at least the pitch"
   pub separation : (x : ℤ) (ys : List ℤ) → Near x → Every Near ys → K.clear (L.parting-pitch (board b)) (on x) (map on ys) ≡ P.clear (Z.parting-pitch b) x ys
   pub stretch-is : (role : Role) (pitch : ℤ) (a c : Z.Point) → Fit (a .x) pitch → Fit (c .x) pitch → G.stretch role (on pitch) (point a) (point c) ≡ stretch (C.stretch role pitch a c)
-  pub contact : (bus : Z.Segment) (a c : Z.Point) (tap : Option Z.Point) (allow : Bool) → LiesOn bus → Lies a → Lies c → OfTap tap → T.contact (segment bus) (point a) (point c) (I.tap tap) allow ≡ Y.contact bus a c tap allow
+  pub kind : (bus : Z.Segment) (a c : Z.Point) (tap : Option Z.Point) → LiesOn bus → Lies a → Lies c → OfTap tap → kinds.kind (segment bus) (point a) (point c) (I.tap tap) ≡ Y.kind bus a c tap
   pub spacing : (l r : Z.Segment) (s : ℤ) → LiesOn l → LiesOn r → U.too-close (segment l) (segment r) (on s) ≡ Y.too-close l r s
   pub enters : (a c : Z.Point) (n : Z.Node) → Sides n → E.passes-inside (point a) (point c) (node n) ≡ Y.passes-inside a c n
   pub interior : (u : Bundle) (c s : Z.Segment) (ts : List W.TapOn) → Tame (s .start .x) → Tame (s .end .x) → B.counts-interior (board b) u (segment c) (segment s) (map I.tap-on ts) ≡ W.counts-interior b u c s ts

@@ -16,6 +16,7 @@ use Rattle.geometry.specs.declared.Role.{Role}
 use Rattle.geometry.specs.declared.Role.the-variants.{Input, Output}
 use Rattle.geometry.specs.declared.Tap.{Tap}
 use Rattle.geometry.specs.Contact as C
+use Rattle.geometry.specs.Kind.{disallowed}
 use Rattle.geometry.specs.Spacing as G
 use Rattle.geometry.specs.Enters as E
 use Rattle.geometry.specs.Points.{Route, runs}
@@ -42,7 +43,7 @@ use Rattle.grid_sheet.specs.Reroute as R
 use Rattle.grid_sheet.specs.Draw as W
 use Rattle.grid_sheet.specs.Image as M
 use Rattle.grid_sheet.specs.Image.{tap, tap-on, drawn}
-use Rattle.grid_sheet.specs.Touching.{slanted-on, contact-on, too-close-on, passes-on}
+use Rattle.grid_sheet.specs.Touching.{slanted-on, kind-on, too-close-on, passes-on}
 use Rattle.grid_sheet.specs.Rerouting.{kept-lies, runs-every, OfCrossing, At, first-trunk-on, last-trunk-on, first-trunk-of, last-trunk-of, Pitch}
 use Rattle.sorting.specs.Lists.{Every}
 use Rattle.grid.specs.On.{on, same, smaller, larger}
@@ -176,8 +177,8 @@ trunk-taps-of role p x (m ∷ ms) rs n k =
 clash-on : (o : Z.Options) (allow : Bool) (bus : Z.Segment) (t : Option Z.Point) (run : Z.Segment) → LiesOn bus → OfTap t → LiesOn run → K.clash (options o) allow (segment bus) (tap t) (segment run) ≡ W.clash o allow bus t run
 unfolding K.clash W.clash
 clash-on o allow bus t run h k l =
-    ap (λ (w : Bool). w || G.too-close (segment bus) (segment run) (on (o .spacing))) (contact-on bus (run .start) (run .end) t allow h (l .0) (l .1) k)
-    ∙ ap (λ (w : Bool). Y.contact bus (run .start) (run .end) t allow || w) (too-close-on bus run (o .spacing) h l)
+    ap (λ (w : Bool). w || G.too-close (segment bus) (segment run) (on (o .spacing))) (ap (disallowed allow) (kind-on bus (run .start) (run .end) t h (l .0) (l .1) k))
+    ∙ ap (λ (w : Bool). disallowed allow (Y.kind bus (run .start) (run .end) t) || w) (too-close-on bus run (o .spacing) h l)
 
 run-tests-on : (o : Z.Options) (allow : Bool) (bus : Z.Segment) (t : Option Z.Point) (rs : List Z.Segment) → LiesOn bus → OfTap t → Every LiesOn rs → K.run-tests (options o) allow (segment bus) (tap t) (map segment rs) ≡ W.run-tests o allow bus t rs
 unfolding K.run-tests W.run-tests

@@ -1,9 +1,11 @@
--- The tests on segments in whole numbers over 128: the twin of geometry/specs/Contact, Spacing, Enters and Line, name for name; the same place is plain equality. segments_have_disallowed_contact, parallel_segments_are_too_close, verify_member_route_node_interiors and segment_vertical_line_intersection of boundary_bundles.rs. Definitions only.
+-- The tests on segments in whole numbers over 128: the twin of geometry/specs/Contact, Kind, Spacing, Enters and Line, name for name; the same place is plain equality. segments_have_disallowed_contact (by its kinds), parallel_segments_are_too_close, verify_member_route_node_interiors and segment_vertical_line_intersection of boundary_bundles.rs. Definitions only.
 -- Assumes nothing.
 use mathlib.Core.Bool.{Bool, true, false, not, _&&_, _||_, Bool·beq, cond}
 use mathlib.Core.Option.{Option, none, some}
 use lib.IntN.{ℤ, pos, natAbs, _+ℤ_, _-ℤ_}
 use Rattle.geometry.specs.declared.Role.{Role}
+use Rattle.geometry.specs.declared.Contact.{Contact}
+use Rattle.geometry.specs.declared.Contact.the-variants as kinds
 use Rattle.grid_plan.specs.Board.{Point, Segment, Node}
 use Rattle.grid_plan.specs.Search.{stretch, holds}
 use Rattle.grid.specs.On.{below, at-most, same, smaller, larger}
@@ -65,7 +67,6 @@ meet bus a b =
     (cond (level a b) (in-line true (across (bus .start) (bus .end)) (across a b)) (crossing (across (bus .start) (bus .end)) (upright a b)))
     (cond (level a b) (crossing (across a b) (upright (bus .start) (bus .end))) (in-line false (upright (bus .start) (bus .end)) (upright a b)))
 
--- ---- which meetings are disallowed
 -- there is a tap, and p is in the same place
 abbrev pub at-tap : Option Point → Point → Bool
 at-tap none p = false
@@ -79,21 +80,26 @@ perpendicular bus a b = not (Bool·beq (level (bus .start) (bus .end)) (level a 
 abbrev pub strict : Segment → Point → Point → Point → Bool
 strict bus a b p = not (matches (bus .start) p) && not (matches (bus .end) p) && not (matches a p) && not (matches b p)
 
--- a strict crossing is allowed where they are permitted, and one point that is both at the tap and at an end of the run
-abbrev pub disallowed : Segment → Point → Point → Option Point → Bool → Meet → Bool
-disallowed bus a b tap allow Apart = false
-disallowed bus a b tap allow Overlap = true
-disallowed bus a b tap allow (One p) =
-    cond (allow && perpendicular bus a b && strict bus a b p) false
-    (not (at-tap tap p) || not (matches a p) && not (matches b p))
+-- ---- which kind of contact it is (request F-6)
+-- the two meet at p alone
+abbrev pub kind-at : Segment → Point → Point → Option Point → Point → Contact
+kind-at bus a b tap p =
+    cond (perpendicular bus a b && strict bus a b p) kinds.StrictCrossing
+    (cond (at-tap tap p && (matches a p || matches b p)) kinds.TouchAtTap kinds.TouchElsewhere)
 
--- segments_have_disallowed_contact
-unfoldable pub contact : Segment → Point → Point → Option Point → Bool → Bool
+-- by where they meet, neither being slanted
+abbrev pub kind-of : Segment → Point → Point → Option Point → Meet → Contact
+kind-of bus a b tap Apart = kinds.Apart
+kind-of bus a b tap Overlap = kinds.Overlap
+kind-of bus a b tap (One p) = kind-at bus a b tap p
+
+-- "the test of a bus against a run"
+unfoldable pub kind : Segment → Point → Point → Option Point → Contact
 unfolding meet
-contact bus a b tap allow =
-    cond (coincide a b) false
-    (cond (slanted (bus .start) (bus .end) || slanted a b) true
-    (disallowed bus a b tap allow (meet bus a b)))
+kind bus a b tap =
+    cond (coincide a b) kinds.Apart
+    (cond (slanted (bus .start) (bus .end) || slanted a b) kinds.Slanted
+    (kind-of bus a b tap (meet bus a b)))
 
 -- ---- spacing
 abbrev pub overlap-positive : ℤ → ℤ → ℤ → ℤ → Bool

@@ -16,7 +16,10 @@ use Rattle.geometry.specs.declared.Span.{Span}
 use Rattle.geometry.specs.declared.Meet.{Meet}
 use Rattle.geometry.specs.declared.Meet.the-variants as M
 use Rattle.geometry.specs.declared.Stretch.{Stretch}
+use Rattle.geometry.specs.declared.Contact.{Contact}
+use Rattle.geometry.specs.declared.Contact.the-variants as kinds
 use Rattle.geometry.specs.Contact as C
+use Rattle.geometry.specs.Kind as F
 use Rattle.geometry.specs.Spacing as P
 use Rattle.geometry.specs.Enters as E
 use Rattle.geometry.specs.Line as L
@@ -147,7 +150,7 @@ meet-of bus a b h p q =
     (in-line-of true (Y.across s e) (Y.across a b) (across-of s e (h .0) (h .1)) (across-of a b p q)) (crossing-of (Y.across s e) (Y.upright a b) (across-of s e (h .0) (h .1)) (upright-of a b p q))
     (crossing-of (Y.across a b) (Y.upright s e) (across-of a b p q) (upright-of s e (h .0) (h .1))) (in-line-of false (Y.upright s e) (Y.upright a b) (upright-of s e (h .0) (h .1)) (upright-of a b p q))
 
--- ---- contact
+-- ---- the kind of contact
 at-tap-on : (t : Option Z.Point) (p : Z.Point) → OfTap t → Lies p → C.at-tap (tap t) (point p) ≡ Y.at-tap t p
 at-tap-on none p h k = refl
 at-tap-on (some q) p h k = matches-on q p h k
@@ -155,20 +158,20 @@ at-tap-on (some q) p h k = matches-on q p h k
 perpendicular-on : (bus : Z.Segment) (a b : Z.Point) → C.perpendicular (segment bus) (point a) (point b) ≡ Y.perpendicular bus a b
 perpendicular-on bus a b = ap (λ (t : Bool). not (Bool·beq t (C.level (point a) (point b)))) (level-on (bus .start) (bus .end)) ∙ ap (λ (t : Bool). not (Bool·beq (Y.level (bus .start) (bus .end)) t)) (level-on a b)
 
-disallowed-on : (bus : Z.Segment) (a b : Z.Point) (t : Option Z.Point) (allow : Bool) (m : Y.Meet) → LiesOn bus → Lies a → Lies b → OfTap t → OfMeet m → C.disallowed (segment bus) (point a) (point b) (tap t) allow (meeting m) ≡ Y.disallowed bus a b t allow m
-disallowed-on bus a b t allow Y.Apart h p q k l = refl
-disallowed-on bus a b t allow Y.Overlap h p q k l = refl
-disallowed-on bus a b t allow (Y.One o) h p q k l =
+kind-of-on : (bus : Z.Segment) (a b : Z.Point) (t : Option Z.Point) (m : Y.Meet) → LiesOn bus → Lies a → Lies b → OfTap t → OfMeet m → F.kind-of (segment bus) (point a) (point b) (tap t) (meeting m) ≡ Y.kind-of bus a b t m
+kind-of-on bus a b t Y.Apart h p q k l = refl
+kind-of-on bus a b t Y.Overlap h p q k l = refl
+kind-of-on bus a b t (Y.One o) h p q k l =
     rw (perpendicular-on bus a b, matches-on (bus .start) o (h .0) l, matches-on (bus .end) o (h .1) l, matches-on a o p l, matches-on b o q l, at-tap-on t o k l)
 
-pub contact-on : (bus : Z.Segment) (a b : Z.Point) (t : Option Z.Point) (allow : Bool) → LiesOn bus → Lies a → Lies b → OfTap t → C.contact (segment bus) (point a) (point b) (tap t) allow ≡ Y.contact bus a b t allow
-unfolding C.contact Y.contact
-contact-on bus a b t allow h p q k =
-    ap (λ (w : Bool). cond w false (cond (C.slanted (point (bus .start)) (point (bus .end)) || C.slanted (point a) (point b)) true (C.disallowed (segment bus) (point a) (point b) (tap t) allow (C.meet (segment bus) (point a) (point b))))) (coincide-on a b)
-    ∙ ap (λ (w : Bool). cond (Y.matches a b) false (cond (w || C.slanted (point a) (point b)) true (C.disallowed (segment bus) (point a) (point b) (tap t) allow (C.meet (segment bus) (point a) (point b))))) (slanted-on (bus .start) (bus .end))
-    ∙ ap (λ (w : Bool). cond (Y.matches a b) false (cond (Y.slanted (bus .start) (bus .end) || w) true (C.disallowed (segment bus) (point a) (point b) (tap t) allow (C.meet (segment bus) (point a) (point b))))) (slanted-on a b)
-    ∙ ap (λ (w : Meet). cond (Y.matches a b) false (cond (Y.slanted (bus .start) (bus .end) || Y.slanted a b) true (C.disallowed (segment bus) (point a) (point b) (tap t) allow w))) (meet-on bus a b)
-    ∙ ap (λ (w : Bool). cond (Y.matches a b) false (cond (Y.slanted (bus .start) (bus .end) || Y.slanted a b) true w)) (disallowed-on bus a b t allow (Y.meet bus a b) h p q k (meet-of bus a b h p q))
+pub kind-on : (bus : Z.Segment) (a b : Z.Point) (t : Option Z.Point) → LiesOn bus → Lies a → Lies b → OfTap t → F.kind (segment bus) (point a) (point b) (tap t) ≡ Y.kind bus a b t
+unfolding F.kind Y.kind
+kind-on bus a b t h p q k =
+    ap (λ (w : Bool). cond w kinds.Apart (cond (C.slanted (point (bus .start)) (point (bus .end)) || C.slanted (point a) (point b)) kinds.Slanted (F.kind-of (segment bus) (point a) (point b) (tap t) (C.meet (segment bus) (point a) (point b))))) (coincide-on a b)
+    ∙ ap (λ (w : Bool). cond (Y.matches a b) kinds.Apart (cond (w || C.slanted (point a) (point b)) kinds.Slanted (F.kind-of (segment bus) (point a) (point b) (tap t) (C.meet (segment bus) (point a) (point b))))) (slanted-on (bus .start) (bus .end))
+    ∙ ap (λ (w : Bool). cond (Y.matches a b) kinds.Apart (cond (Y.slanted (bus .start) (bus .end) || w) kinds.Slanted (F.kind-of (segment bus) (point a) (point b) (tap t) (C.meet (segment bus) (point a) (point b))))) (slanted-on a b)
+    ∙ ap (λ (w : Meet). cond (Y.matches a b) kinds.Apart (cond (Y.slanted (bus .start) (bus .end) || Y.slanted a b) kinds.Slanted (F.kind-of (segment bus) (point a) (point b) (tap t) w))) (meet-on bus a b)
+    ∙ ap (λ (w : Contact). cond (Y.matches a b) kinds.Apart (cond (Y.slanted (bus .start) (bus .end) || Y.slanted a b) kinds.Slanted w)) (kind-of-on bus a b t (Y.meet bus a b) h p q k (meet-of bus a b h p q))
 
 -- ---- spacing
 overlap-on : (a b c d : ℤ) → P.overlap-positive (on a) (on b) (on c) (on d) ≡ Y.overlap-positive a b c d

@@ -106,6 +106,7 @@ route-numbers = 2 * max-route-points
 
 abbrev pub member-numbers : ℕ
 member-numbers = max-bundle-members * route-numbers
+
 -- what the plan's search works in: two numbers kept for each run, and room to sort its candidates
 abbrev pub search-work : ℕ
 search-work = 2 * bundle-runs + candidate-room
