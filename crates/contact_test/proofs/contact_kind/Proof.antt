@@ -1,6 +1,7 @@
 use Rattle.geometry.specs.Kind.{kind}
-use mathlib.Core.Path.{refl}
+use mathlib.Core.Path.{_∙_}
 use borrow.Author.Needs.{needs}
+use Rattle.contact_test.proofs.Branch.{chosen, passed}
 use Rattle.contact_test.proofs.contact_kind.Statement.{statement}
 use Rattle.contact_test.proofs.contact_kind.Tie as tie
 use Rattle.contact_test.proofs.contact_kind.Reads as reads
@@ -11,7 +12,7 @@ use Rattle.contact_test.proofs.kind_of.Reads as kind-of-reads
 
 returns : tie.Need-returns
 unfolding kind
-returns c = rw (c .if1 .taken) refl
+returns c = chosen _ _ _ (c .if1 .taken)
 
 is-slanted-requires : tie.Need-is-slanted-requires
 is-slanted-requires c κs = search needs
@@ -21,7 +22,7 @@ is-slanted-requires-2 c κs = search needs
 
 returns-2 : tie.Need-returns-2
 unfolding kind
-returns-2 c = rw (c .before .before .before .before .before .if1 .left, ← c .before .before .is-slanted .ensures, ← c .before .is-slanted2 .ensures, c .if2 .taken) refl
+returns-2 c = rw (← c .before .before .is-slanted .ensures, ← c .before .is-slanted2 .ensures) (chosen _ _ _ (c .if2 .taken) ∙ passed _ _ _ (c .before .before .before .before .before .if1 .left))
 
 meeting-requires : tie.Need-meeting-requires
 meeting-requires c κs = search needs
@@ -31,7 +32,7 @@ kind-of-requires c κs = search needs
 
 returns-3 : tie.Need-returns-3
 unfolding kind
-returns-3 c = rw (c .before .before .before .before .before .before .before .if1 .left, ← c .before .before .before .before .is-slanted .ensures, ← c .before .before .before .is-slanted2 .ensures, c .before .before .if2 .left, ← c .before .meeting .ensures) (c .kind-of .ensures)
+returns-3 c = rw (← c .before .before .before .before .is-slanted .ensures, ← c .before .before .before .is-slanted2 .ensures, ← c .before .meeting .ensures) (c .kind-of .ensures ∙ passed _ _ _ (c .before .before .if2 .left) ∙ passed _ _ _ (c .before .before .before .before .before .before .before .if1 .left))
 
 pub contact-kind-spec : {M : Type 1} → statement M
 contact-kind-spec =
