@@ -80,63 +80,83 @@ fn in_line(a: &At, b: &At, c: &At, d: &At) -> Shared {
     }
 }
 
-/// The kind's number (0 apart, 1 touch at the tap, 2 strict crossing, 3 touch elsewhere, 4 overlap,
-/// 5 slanted), and the point of a strict crossing: the x of the upright segment's start and the y
-/// of the level one's. None if a number is not finite.
-pub(crate) fn kind(
-    bus: BoundaryBundleSegment,
-    start: Point,
-    end: Point,
-    tap: Option<Point>,
-) -> Option<(u8, Option<Point>)> {
+/// A bus from a to b and a run from c to d.
+struct Pair {
+    a: At,
+    b: At,
+    c: At,
+    d: At,
+}
+
+/// None if a number is not finite.
+fn pair(bus: BoundaryBundleSegment, start: Point, end: Point) -> Option<Pair> {
     let numbers = [bus.start, bus.end, start, end].map(|p| [p.x, p.y]);
     let numbers: [f64; 8] = numbers.concat().try_into().expect("eight numbers");
     if !numbers.iter().all(|number| number.is_finite()) {
         return None;
     }
     let [ax, ay, bx, by, cx, cy, dx, dy] = multiples(numbers);
-    let (a, b, c, d) = ((ax, ay), (bx, by), (cx, cy), (dx, dy));
+    Some(Pair {
+        a: (ax, ay),
+        b: (bx, by),
+        c: (cx, cy),
+        d: (dx, dy),
+    })
+}
+
+fn slants(from: &At, to: &At) -> bool {
+    from.0 != to.0 && from.1 != to.1
+}
+
+/// Where a strict crossing is: the x of the upright segment's start and the y of the level one's.
+/// That it is the one point found, and an end of neither, is looked at.
+fn crossing(pair: &Pair, bus: BoundaryBundleSegment, start: Point, found: &Shared) -> Point {
+    let Shared::One { x, y, over } = found else {
+        panic!("a strict crossing shares not just one point");
+    };
+    let is = |px: &Whole, py: &Whole| px.times(over) == *x && py.times(over) == *y;
+    for end in [&pair.a, &pair.b, &pair.c, &pair.d] {
+        assert!(!is(&end.0, &end.1), "a strict crossing at an end");
+    }
+    let (place, told) = match pair.a.1 == pair.b.1 {
+        true => ((&pair.c.0, &pair.a.1), (start.x, bus.start.y)),
+        false => ((&pair.a.0, &pair.c.1), (bus.start.x, start.y)),
+    };
+    assert!(is(place.0, place.1), "a strict crossing elsewhere");
+    Point {
+        x: told.0,
+        y: told.1,
+    }
+}
+
+/// The kind's number (0 apart, 1 touch at the tap, 2 strict crossing, 3 touch elsewhere, 4 overlap,
+/// 5 slanted), and the point of a strict crossing. None if a number is not finite.
+pub(crate) fn kind(
+    bus: BoundaryBundleSegment,
+    start: Point,
+    end: Point,
+    tap: Option<Point>,
+) -> Option<(u8, Option<Point>)> {
+    let pair = pair(bus, start, end)?;
     // A run of no length is answered apart.
-    if c == d {
+    if pair.c == pair.d {
         return Some((0, None));
     }
     let forbidden = leaf::contact(bus, start, end, tap, false);
     let permitted = leaf::contact(bus, start, end, tap, true);
-    assert!(forbidden || !permitted, "contact only when permitted");
-    let found = shared(&a, &b, &c, &d);
-    let slants = |from: &At, to: &At| from.0 != to.0 && from.1 != to.1;
-    let number = match (forbidden, permitted, found) {
+    let found = shared(&pair.a, &pair.b, &pair.c, &pair.d);
+    let number = match (forbidden, permitted, &found) {
+        (false, true, _) => panic!("contact only when crossings are permitted"),
         // No contact even with crossings forbidden: apart if no point is shared, else touch at the
         // tap, which shares one.
-        (false, _, Shared::Nothing) => 0,
-        (false, _, Shared::One { .. }) => 1,
-        (false, _, Shared::More) => panic!("a touch at the tap shares more than one point"),
-        // Contact only when they are forbidden: a strict crossing, at one point that is an end of
-        // neither.
-        (true, false, Shared::One { x, y, over }) => {
-            let is = |p: (&Whole, &Whole)| p.0.times(&over) == x && p.1.times(&over) == y;
-            assert!(
-                ![&a, &b, &c, &d].iter().any(|p| is((&p.0, &p.1))),
-                "a strict crossing at an end"
-            );
-            let (level, upright) = match a.1 == b.1 {
-                true => ((&a, bus.start), (&c, start)),
-                false => ((&c, start), (&a, bus.start)),
-            };
-            assert!(
-                is((&upright.0.0, &level.0.1)),
-                "a strict crossing elsewhere"
-            );
-            let place = Point {
-                x: upright.1.x,
-                y: level.1.y,
-            };
-            return Some((2, Some(place)));
-        }
-        (true, false, _) => panic!("a strict crossing shares not just one point"),
+        (false, false, Shared::Nothing) => 0,
+        (false, false, Shared::One { .. }) => 1,
+        (false, false, Shared::More) => panic!("a touch at the tap shares more than one point"),
+        // Contact only when they are forbidden: a strict crossing.
+        (true, false, _) => return Some((2, Some(crossing(&pair, bus, start, &found)))),
         // Any other contact: slanted if a segment is neither level nor upright, else overlap if
         // more than one point is shared, else touch elsewhere.
-        _ if slants(&a, &b) || slants(&c, &d) => 5,
+        _ if slants(&pair.a, &pair.b) || slants(&pair.c, &pair.d) => 5,
         (true, true, Shared::More) => 4,
         (true, true, Shared::One { .. }) => 3,
         (true, true, Shared::Nothing) => panic!("a contact that shares no point"),
