@@ -45,7 +45,7 @@ use Rattle.grid.specs.Operations.{add-on, sub-on}
 use Rattle.grid_plan.specs.BoundSteps.{found-held}
 use Rattle.grid_plan.specs.BoundSteps.{Holding, OfCollector, first-x-of, first-x-on, last-x-of, last-x-on, lowered-of, lowered-on, raised-of, raised-on, tighter-of, tighter-on, unless-crossed-of, unless-crossed-on}
 use Rattle.grid_plan.specs.Sizes.{Sized, Job, Fit, OfOption}
-use Rattle.grid_plan.specs.OnGrid.{OnGrid}
+use Rattle.grid_plan.specs.OnGrid.{OnDraftingGrid}
 
 -- ---- a stretch holds only what lies between the ends of its run
 between-sizes : (a b x : ℤ) (n : ℕ) → natAbs a ≤ n → natAbs b ≤ n → T (at-most a x) → T (at-most x b) → natAbs x ≤ n
@@ -58,7 +58,7 @@ between-sizes a b x n A B h k =
     go a b (lib.IntN.pos x) n ea eb A B p q = omega arith
     go a b (lib.IntN.negsuc x) n ea eb A B p q = omega arith
 
-module _ (b : Z.Board) (routes : List Z.Route) (good : OnGrid b routes) where
+module _ (b : Z.Board) (routes : List Z.Route) (good : OnDraftingGrid b routes) where
   pub route-on : (m : Member) → M.route-of (board b) (map route routes) m ≡ route (B.route-of b routes m)
   route-on m = List·getD-map route routes (m .edge) []
 

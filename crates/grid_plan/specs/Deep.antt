@@ -42,7 +42,7 @@ use Rattle.grid.specs.On.{on, below}
 use Rattle.grid.specs.OnLaws.{on-zero}
 use Rattle.grid.specs.Operations.{lt-on, on-cond, greatest-on, add-on, sub-on}
 use Rattle.grid_plan.specs.Sizes.{Sized, Job, Length, OfOption}
-use Rattle.grid_plan.specs.OnGrid.{OnGrid}
+use Rattle.grid_plan.specs.OnGrid.{OnDraftingGrid}
 
 add-sized : {m n : ℕ} (a b : ℤ) → m + n < 2 ^ 53 → Sized m a → Sized n b → add binary64 (on a) (on b) ≡ on (a +ℤ b)
 add-sized a b h s t = add-on a b (let p = s .size in let q = t .size in omega arith)
@@ -99,7 +99,7 @@ wider-option (some z) h s = wider h s
 wider-used : {m n : ℕ} (w : D.Used) → m ≤ n → OfUsed (Sized m) w → OfUsed (Sized n) w
 wider-used w h s = (wider-option (w .input) h (s .0), wider-option (w .output) h (s .1))
 
-module _ (b : Z.Board) (routes : List Z.Route) (good : OnGrid b routes) where
+module _ (b : Z.Board) (routes : List Z.Route) (good : OnDraftingGrid b routes) where
   -- ---- the options
   pub pitch-on : L.parting-pitch (board b) ≡ on (Z.parting-pitch b)
   pitch-on = greatest-on (b .options .gap) (b .options .spacing)

@@ -1,24 +1,16 @@
--- Which boards in whole numbers are on the drafting grid: multiples of 1/64, so even over 128, of magnitude at most 2 ^ 20, so 2 ^ 27 over 128. Definitions of theorems.
+-- Which boards in whole numbers are on the drafting grid: multiples of 1/64, so even over 128, of magnitude at most 2 ^ 20, so 2 ^ 27 over 128; lanes, bundles and windows within the limits of document 01. Definitions only.
 -- Assumes nothing.
 use Prim.Native.Nat.{_+_, _≤_}
 use mathlib.Core.List.{List}
 use lib.ListN.{length}
-use Rattle.geometry.specs.declared.Point.{Point}
-use Rattle.geometry.specs.Points.{Route}
-use Rattle.board.specs.declared.PlacedNode.{PlacedNode}
-use Rattle.board.specs.declared.Port.{Port}
 use Rattle.board.specs.declared.Bundle.{Bundle}
 use Rattle.board.specs.declared.Member.{Member}
-use Rattle.board.specs.Board.{Board}
-use Rattle.search.specs.declared.Outcome.the-variants as O
 use Rattle.grid_plan.specs.Board as Z
-use Rattle.grid_plan.specs.Depths as D
-use Rattle.grid_plan.specs.Search as S
-use Rattle.grid_plan.specs.Plan as P
 use Rattle.sorting.specs.Lists.{Every}
 use Rattle.grid_plan.specs.Sizes.{Job, Length}
 
-pub record OnGrid (b : Z.Board) (routes : List Z.Route) : Type 0 where
+-- the job's numbers, in whole numbers over 128, and its counts
+pub record OnDraftingGrid (b : Z.Board) (routes : List Z.Route) : Type 0 where
   pub stub : Length (b .options .stub)
   pub gap : Length (b .options .gap)
   pub clearance : Length (b .options .clearance)

@@ -43,9 +43,9 @@ use Rattle.grid_plan.specs.BoundSteps.{clamped-on, clamped-of}
 use Rattle.grid_plan.specs.PlanSteps.{at-on, desired-on, drop-all-of, drop-all-on, exceeds-on, found?-on, largest-on, maximum-on, minimum-on, never-13, of-role-on, smallest-on}
 use Rattle.grid_plan.specs.PlanSearches.{F, Ranging, again-of, again-on, component-on, fine-at, required-of, required-on}
 use Rattle.grid_plan.specs.Sizes.{Sized, OfOption, Placed}
-use Rattle.grid_plan.specs.OnGrid.{OnGrid}
+use Rattle.grid_plan.specs.OnGrid.{OnDraftingGrid}
 
-module _ (b : Z.Board) (routes : List Z.Route) (good : OnGrid b routes) where
+module _ (b : Z.Board) (routes : List Z.Route) (good : OnDraftingGrid b routes) where
   -- ---- a component: numbers up to 2 ^ 46
   abbrev pub Far : ℤ → Type 0
   Far z = natAbs z ≤ 2 ^ 46
@@ -191,21 +191,21 @@ module _ (b : Z.Board) (routes : List Z.Route) (good : OnGrid b routes) where
       chosen-of (below limit (low +ℤ (pitch b routes good))) (record { xs = P.drop-all order (p .xs); left = p .left }) (P.outputs-last b routes ss inputs outputs (P.limited b routes ss limit inputs q)) (drop-all-of order (p .xs) k)
       (outputs-last-of ss inputs outputs (P.limited b routes ss limit inputs q) fs (limited-of ss limit inputs q fs (split-of ss low limit deepest earliest inputs p fs k)))
 
-  minimum-far : (ss : List P.Ranged) → Every (Fine b routes good) ss → (i : ℕ) → Far (P.minimum-at ss i)
+  pub minimum-far : (ss : List P.Ranged) → Every (Fine b routes good) ss → (i : ℕ) → Far (P.minimum-at ss i)
   minimum-far ss fs i = go (P.ranged-at ss i .bounds) ((fine-at b routes good) ss i fs .1)
     where
       go : (r : Option S.Bounds) → (Ranging b routes good) r (P.ranged-at ss i .bundle) → Far (P.if-between r (pos 0) (λ t. t .minimum))
       go none h = omega arith
       go (some r) h = let q = h .0 .size in omega arith
 
-  maximum-far : (ss : List P.Ranged) → Every (Fine b routes good) ss → (i : ℕ) → Far (P.maximum-at ss i)
+  pub maximum-far : (ss : List P.Ranged) → Every (Fine b routes good) ss → (i : ℕ) → Far (P.maximum-at ss i)
   maximum-far ss fs i = go (P.ranged-at ss i .bounds) ((fine-at b routes good) ss i fs .1)
     where
       go : (r : Option S.Bounds) → (Ranging b routes good) r (P.ranged-at ss i .bundle) → Far (P.if-between r (pos 0) (λ t. t .maximum))
       go none h = omega arith
       go (some r) h = let q = h .2 .size in omega arith
 
-  desired-sized : (ss : List P.Ranged) → Every (Fine b routes good) ss → (i : ℕ) → Sized (2 ^ 27) (P.desired-at ss i)
+  pub desired-sized : (ss : List P.Ranged) → Every (Fine b routes good) ss → (i : ℕ) → Sized (2 ^ 27) (P.desired-at ss i)
   desired-sized ss fs i = go (P.ranged-at ss i .bounds) ((fine-at b routes good) ss i fs .1)
     where
       go : (r : Option S.Bounds) → (Ranging b routes good) r (P.ranged-at ss i .bundle) → Sized (2 ^ 27) (P.if-between r (pos 0) (λ t. t .desired))

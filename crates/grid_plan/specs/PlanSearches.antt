@@ -49,9 +49,9 @@ use Rattle.grid.specs.Operations.{greatest-on, add-on, add-size}
 use Rattle.grid_plan.specs.BoundSteps.{OfCollector, found-of}
 use Rattle.grid_plan.specs.PlanSteps.{at-on, every-set, found-x-on, found?-on, narrowed-on, set-map, walk-same}
 use Rattle.grid_plan.specs.Sizes.{Sized, Job, Fit, OfOption, Placed, Near}
-use Rattle.grid_plan.specs.OnGrid.{OnGrid}
+use Rattle.grid_plan.specs.OnGrid.{OnDraftingGrid}
 
-module _ (b : Z.Board) (routes : List Z.Route) (good : OnGrid b routes) where
+module _ (b : Z.Board) (routes : List Z.Route) (good : OnDraftingGrid b routes) where
   abbrev pub F : List Route
   F = map route routes
 

@@ -44,10 +44,10 @@ use Rattle.grid_plan.specs.BoundSteps.{clamped-on, clamped-of}
 use Rattle.grid_plan.specs.PlanSteps.{NearLanes, add-lane-near, add-lane-on, clear-on, found-x-on, indices-on, initials-on, lanes-near, largest-of-near, largest-of-on, smallest-of-near, smallest-of-on}
 use Rattle.grid_plan.specs.PlanSearches.{F, Ranging, add-pitch-close, first-pass-of, first-pass-on, held-sized}
 use Rattle.grid_plan.specs.PlanComponents.{components-of, components-on, sub-pitch}
-use Rattle.grid_plan.specs.OnGrid.{OnGrid}
+use Rattle.grid_plan.specs.OnGrid.{OnDraftingGrid}
 use Rattle.grid_plan.specs.Sizes.{Placed, Near}
 
-module _ (b : Z.Board) (routes : List Z.Route) (good : OnGrid b routes) where
+module _ (b : Z.Board) (routes : List Z.Route) (good : OnDraftingGrid b routes) where
   -- ---- the separation of collectors of one role
   pitch-near : Near (pitch b routes good)
   pitch-near = pitch-sized b routes good .size

@@ -36,7 +36,7 @@ use Rattle.sorting.specs.Lists.{Every}
 use Rattle.grid.specs.On.{on}
 use Rattle.grid.specs.DraftingGrid.{on-drafting-grid, units}
 use Rattle.grid.specs.DraftingLaws.{units-even, units-small, units-back, units-length}
-use Rattle.grid_plan.specs.OnGrid.{OnGrid}
+use Rattle.grid_plan.specs.OnGrid.{OnDraftingGrid}
 
 abbrev Gridded : Float → Type 0
 Gridded x = on-drafting-grid x ≡ true
@@ -129,7 +129,7 @@ module _ (j : Job) (s : Sound j) (q : j .flags .«on_grid» ≡ true) where
       ∙ ap (λ (l : List PlacedNode). record { options = b .options; nodes = l; ports = map I.port (map port (b .ports)); edges = b .edges; bundles = b .bundles; members = b .members }) node-back
       ∙ ap (λ (l : List Port). record { options = b .options; nodes = b .nodes; ports = l; edges = b .edges; bundles = b .bundles; members = b .members }) port-back
 
-  pub on-grid : OnGrid (wholes (j .board)) (whole-routes (given-routes j))
+  pub on-grid : OnDraftingGrid (wholes (j .board)) (whole-routes (given-routes j))
   on-grid = record {
     stub = length-number 20 _ q (s .options .stub);
     gap = length-number 20 _ q (s .options .gap);

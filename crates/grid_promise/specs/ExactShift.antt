@@ -34,7 +34,7 @@ use Rattle.grid_plan.specs.Plan as P
 use Rattle.grid_plan.specs.Image as I
 use Rattle.grid_plan.specs.Sizes.{Placed, Length}
 use Rattle.grid_plan.specs.Sizes as sizes
-use Rattle.grid_plan.specs.OnGrid.{OnGrid}
+use Rattle.grid_plan.specs.OnGrid.{OnDraftingGrid}
 use Rattle.grid_plan.specs.Planning.{plan-near}
 use Rattle.grid_sheet.specs.Draw as W
 use Rattle.grid_sheet.specs.Image as M
@@ -87,7 +87,7 @@ pub record Wholly (u : S.Progress) : Type 0 where
   pub is : u ≡ M.progress whole
   pub stands : Standing whole
 
-module _ (b : Z.Board) (routes : List Z.Route) (good : OnGrid b routes) where
+module _ (b : Z.Board) (routes : List Z.Route) (good : OnDraftingGrid b routes) where
   wholly : (allow : Bool) (xs : List (Option ℤ)) (geometry : ℕ) (u : S.Progress) → Every Placed xs → drawn-of (I.board b) allow (map I.route routes) (map I.bound xs) geometry ≡ S.going u → Wholly u
   unfolding is-going the-sheet
   wholly allow xs geometry u near e = go (sheet-drawn b routes allow xs geometry) (drawing-of b routes good allow xs geometry near) (sym (drawing-on b routes good allow xs geometry near) ∙ e)

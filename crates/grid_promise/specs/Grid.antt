@@ -12,6 +12,7 @@ use Rattle.promise.specs.Stage as stage
 use Rattle.promise.specs.Stage.{page-told, planned, told-bytes}
 use Rattle.grid_plan.specs.Board as Z
 use Rattle.grid_plan.specs.Image as I
+use Rattle.grid_plan.specs.OnGrid.{OnDraftingGrid}
 use Rattle.grid_plan.specs.Plan as P
 use Rattle.grid_sheet.specs.Image.{page}
 use Rattle.grid_sheet.specs.Numbers.{Numbers}
@@ -46,6 +47,8 @@ pub record Grid (bytes answer : List ℕ) (j : Job) : Type 0 where
   -- the board and the given routes in whole numbers over 128 are the job's
   pub board-is : I.board (whole-board j) ≡ j .board
   pub routes-are : map I.route (given j) ≡ given-routes j
+  -- its numbers have the sizes and its counts the limits that the next field's equations ask for
+  pub on-grid : OnDraftingGrid (whole-board j) (given j)
   -- every number worked out, definition by definition; same place is equality, separation a distance of at least the pitch
   pub numbers-are : Numbers (whole-board j) (given j)
   -- the plan is that in whole numbers, which has no refusal

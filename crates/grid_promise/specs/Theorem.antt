@@ -76,6 +76,7 @@ grid bytes room any j e bit =
     record {
       board-is = board-back j s g;
       routes-are = routes-back j s g;
+      on-grid = on-grid j s g;
       numbers-are = numbers (whole-board j) (given j) (on-grid j s g);
       plan-is = plan-is j s g;
       told-is = t;

@@ -1,7 +1,7 @@
 -- Every number worked out for a board of the grid is exact: the record `Numbers`, field by field.
 -- Assumes nothing.
 use mathlib.Core.Path.{_≡_, sym, ap, _∙_, subst}
-use Prim.Native.Nat.{_+_, _^_, _≤_}
+use Prim.Native.Nat.{ℕ, _+_, _^_, _≤_}
 use mathlib.Core.List.{List}
 use lib.IntN.{ℤ, natAbs, _-ℤ_}
 use lib.Dec.{T, eqb→eq}
@@ -13,6 +13,7 @@ use Rattle.grid_plan.specs.Bounding as bounding
 use Rattle.grid_plan.specs.Searching as searching
 use Rattle.grid_plan.specs.PlanSearches as searches
 use Rattle.grid_plan.specs.PlanComponents as components
+use Rattle.grid_plan.specs.Plan as P
 use Rattle.grid_plan.specs.Planning as planning
 use Rattle.grid_plan.specs.Image.{point}
 use Rattle.grid_sheet.specs.Touch as Y
@@ -31,9 +32,11 @@ use Rattle.grid_sheet.specs.Drawing.{OfOutcome}
 use Rattle.grid_sheet.specs.WholeSheet.{start}
 use Rattle.grid_sheet.specs.Paging as paging
 use Rattle.grid.specs.Operations.{add-on, sub-on, magnitude-on}
+use Rattle.grid.specs.Lanes as lanes
+use Rattle.grid_plan.specs.Sizes.{Sized}
 use native.Mathlib.Omega.{arith}
 use Rattle.grid_sheet.specs.Numbers.{Numbers}
-use Rattle.grid_plan.specs.OnGrid.{OnGrid}
+use Rattle.grid_plan.specs.OnGrid.{OnDraftingGrid}
 
 route-corridor : (role : Role) (tap : Z.Point) (depth : ℤ) → natAbs (tap .x) ≤ 2 ^ 46 → natAbs depth ≤ 2 ^ 46 → F.corridor-x role (point tap) (on depth) ≡ on (R.corridor-x role tap depth)
 unfolding F.corridor-x
@@ -48,8 +51,20 @@ only-equal p q e =
     let h = both-true (same (p .x) (q .x)) (same (p .y) (q .y)) e in
     ap (λ (z : ℤ). record { x = z; y = p .y }) (one-number (p .x) (q .x) (h .0)) ∙ ap (λ (z : ℤ). record { x = q .x; y = z }) (one-number (p .y) (q .y) (h .1))
 
-pub numbers : (b : Z.Board) (routes : List Z.Route) → OnGrid b routes → Numbers b routes
+-- of what the first searches found
+first-sizes : (b : Z.Board) (routes : List Z.Route) (good : OnDraftingGrid b routes) (v i : ℕ) → let ranges = P.first-pass b routes (b .bundles) v .ranges in
+    (natAbs (P.minimum-at ranges i) ≤ 2 ^ 46) × (natAbs (P.maximum-at ranges i) ≤ 2 ^ 46) × Sized (2 ^ 27) (P.desired-at ranges i)
+first-sizes b routes good v i =
+    let ranges = P.first-pass b routes (b .bundles) v .ranges in
+    let fine = searches.first-pass-of b routes good (b .bundles) v (good .windows) in
+    (components.minimum-far b routes good ranges fine i, components.maximum-far b routes good ranges fine i, components.desired-sized b routes good ranges fine i)
+
+pub numbers : (b : Z.Board) (routes : List Z.Route) → OnDraftingGrid b routes → Numbers b routes
 numbers b routes good = record {
+  sum = add-on;
+  less = sub-on;
+  times = lanes.lanes-on;
+  half = lanes.half-on;
   pitch = deep.pitch-on b routes good;
   rail = deep.rail-on b routes good;
   endpoint = deep.endpoint-on b routes good;
@@ -65,6 +80,7 @@ numbers b routes good = record {
   bounds-are = bounding.bounds-on b routes good;
   stretches = bounding.trunks-on b routes good;
   first = searches.first-pass-on b routes good (b .bundles);
+  first-small = λ v i. first-sizes b routes good v i;
   plus-pitch = components.plus-pitch b routes good;
   less-pitch = components.sub-pitch b routes good;
   middle = components.middle-on b routes good;
@@ -89,6 +105,8 @@ numbers b routes good = record {
   stretch-is = searching.stretch-on;
   kind = touching.kind-on;
   spacing = touching.too-close-on;
+  far-sides = λ n h. (add-on (n .corner .x) (n .width) (h .0), add-on (n .corner .y) (n .height) (h .1));
+  nodes-small = drawing.node-sides b routes good;
   enters = touching.passes-on;
   interior = building.interior-on b routes good;
   shifted = paging.shifted-on;

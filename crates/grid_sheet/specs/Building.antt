@@ -41,14 +41,14 @@ use Rattle.grid.specs.On.{on, same, half-of}
 use Rattle.grid.specs.Operations.{le-on, eq-on, add-on, sub-on, magnitude-on, add-size, subtract-size, times-size}
 use Rattle.grid.specs.Lanes.{half-even, rail-on}
 use Rattle.grid_sheet.specs.SheetSteps.{OfTaps, all-at-on, highest-of, highest-on, lowest-of, lowest-on, rail-high-of, rail-high-on, rail-low-of, rail-low-on, trunk-taps-of, trunk-taps-on}
-use Rattle.grid_plan.specs.OnGrid.{OnGrid}
+use Rattle.grid_plan.specs.OnGrid.{OnDraftingGrid}
 use Rattle.grid_sheet.specs.Sizes.{Tame, Within, Kept, Tapped, KeptDrawn, KeptRoutes, KeptSegment}
 use Rattle.grid_plan.specs.Sizes.{Near, Placed}
 use Rattle.grid_sheet.specs.InnerImage.{option-taps}
 use Rattle.grid_sheet.specs.Rerouting.{Pitch}
 
 -- ---- on a board of the grid
-module _ (b : Z.Board) (routes : List Z.Route) (good : OnGrid b routes) where
+module _ (b : Z.Board) (routes : List Z.Route) (good : OnDraftingGrid b routes) where
   abbrev pub pitch : ℤ
   pitch = Z.parting-pitch b
 

@@ -51,7 +51,7 @@ use Rattle.grid_plan.specs.PlanSteps.{set-map, every-set, map-append}
 use Rattle.grid_sheet.specs.SheetSteps.{contact-tests-on, inside-tests-on, route-at-of, route-at-on}
 use Rattle.grid_sheet.specs.Building.{build-on}
 use Rattle.grid_plan.specs.Sizes.{Job, Length}
-use Rattle.grid_plan.specs.OnGrid.{OnGrid}
+use Rattle.grid_plan.specs.OnGrid.{OnDraftingGrid}
 use Rattle.grid_sheet.specs.Sizes.{Timely, Offset, Sides, Within, Kept, Standing, Tapped, KeptDrawn, KeptRoutes}
 use Rattle.grid_sheet.specs.InnerImage.{option-route, option-routes}
 
@@ -59,7 +59,7 @@ abbrev pub OfOutcome : W.Outcome → Type 0
 OfOutcome (W.refused e n) = Unit {0}
 OfOutcome (W.going s) = Standing s
 
-module _ (b : Z.Board) (routes : List Z.Route) (good : OnGrid b routes) where
+module _ (b : Z.Board) (routes : List Z.Route) (good : OnDraftingGrid b routes) where
   -- ---- rewriting
   pub depth-on : (d : ℤ) (m : Member) → Offset d → m .«tap_lane» ≤ 255 → Q.corridor-depth (on d) (on (pitch b routes good)) m ≡ on (W.corridor-depth d (pitch b routes good) m)
   unfolding Q.corridor-depth W.corridor-depth
@@ -186,7 +186,7 @@ module _ (b : Z.Board) (routes : List Z.Route) (good : OnGrid b routes) where
       go f (some ss) q = unfold W.then-routes in f ss q
 
   -- ---- the checks
-  node-sides : Every (λ (n : Z.PlacedNode). Sides (n .body)) (b .nodes)
+  pub node-sides : Every (λ (n : Z.PlacedNode). Sides (n .body)) (b .nodes)
   node-sides =
       every-map (λ (n : Z.PlacedNode). Job (n .body .corner .x) × Job (n .body .corner .y) × Length (n .body .width) × Length (n .body .height)) (λ (n : Z.PlacedNode). Sides (n .body)) (b .nodes)
       (λ n h. (let p = h .0 .size in let q = h .2 .0 .size in omega arith, let p = h .1 .size in let q = h .3 .0 .size in omega arith)) (good .nodes)

@@ -1,7 +1,7 @@
--- Every number worked out for a job on the drafting grid: one equation for each named definition in which a sum, difference, product or half stands, its binary64 on the left and its whole number over 128 on the right. Document 02's F-2. Definitions only.
+-- Every number worked out for a job on the drafting grid: each sum, difference, product by a count and half of numbers of these sizes, then the definitions of plan, sheet, tests and last shift, binary64 on the left and the whole number over 128 on the right. Document 02's F-2. Definitions only.
 -- Assumes nothing.
 use mathlib.Core.Path.{_≡_}
-use Prim.Native.Nat.{ℕ, _+_, _^_, _≤_}
+use Prim.Native.Nat.{ℕ, _+_, _*_, _^_, _≤_, _<_}
 use mathlib.Core.Bool.{Bool, true}
 use mathlib.Core.List.{List, map}
 use mathlib.Core.Option.{Option}
@@ -44,6 +44,11 @@ use Rattle.grid_plan.specs.Sizes.{Sized, OfOption, Fit, Near, Placed}
 use Rattle.grid_sheet.specs.Sizes.{Tame, Lies, LiesOn, OfTap, Sides, Ready, Far, Kept, Timely, KeptRoutes, Standing}
 
 pub record Numbers (b : Z.Board) (routes : List Z.Route) : Type 0 where
+  -- ---- the operations themselves, of any numbers of these sizes
+  pub sum : (x y : ℤ) → Fit x y → add binary64 (on x) (on y) ≡ on (x +ℤ y)
+  pub less : (x y : ℤ) → Fit x y → sub binary64 (on x) (on y) ≡ on (x -ℤ y)
+  pub times : (n p : ℕ) → n ≤ 2 ^ 10 → p ≤ 2 ^ 40 → mul binary64 (number n) (on (pos p)) ≡ on (pos (n * p))
+  pub half : (z : ℤ) → natAbs z < 2 ^ 52 → div binary64 (on (z +ℤ z)) (number 2) ≡ on z
   -- ---- the plan
   pub pitch : L.parting-pitch (board b) ≡ on (Z.parting-pitch b)
   pub rail : rail-depth (board b .options) ≡ on (Z.rail-depth (b .options))
@@ -60,7 +65,9 @@ pub record Numbers (b : Z.Board) (routes : List Z.Route) : Type 0 where
   pub bounds-are : (u : Bundle) (lower upper : Option ℤ) → M.bounds-of (board b) (map route routes) u (bound lower) (bound upper) ≡ collector (A.bounds-of b routes u lower upper)
   pub stretches : (u : Bundle) → M.trunks (board b) (map route routes) u ≡ map (map stretch) (A.trunks b routes u)
   pub first : (v : ℕ) → K.first-pass search-of (board b) (map route routes) (b .bundles) v ≡ first-pass (P.first-pass b routes (b .bundles) v)
-  -- of a component: low, limit, deepest, earliest and the pitch
+  -- of a component: low, limit, deepest, earliest and the pitch. The first two are extremes of these minima and maxima, the last two of these desired x
+  pub first-small : (v i : ℕ) → let ranges = P.first-pass b routes (b .bundles) v .ranges in
+      (natAbs (P.minimum-at ranges i) ≤ 2 ^ 46) × (natAbs (P.maximum-at ranges i) ≤ 2 ^ 46) × Sized (2 ^ 27) (P.desired-at ranges i)
   pub plus-pitch : (z : ℤ) → natAbs z ≤ 2 ^ 46 → add binary64 (on z) (L.parting-pitch (board b)) ≡ on (z +ℤ Z.parting-pitch b)
   pub less-pitch : (z : ℤ) → natAbs z ≤ 2 ^ 46 → sub binary64 (on z) (L.parting-pitch (board b)) ≡ on (z -ℤ Z.parting-pitch b)
   pub middle : (deepest separate : ℤ) → Sized (2 ^ 27) deepest → Sized (2 ^ 28) separate → K.middle (on deepest) (on separate) ≡ on (P.middle deepest separate)
@@ -92,6 +99,8 @@ pub record Numbers (b : Z.Board) (routes : List Z.Route) : Type 0 where
   pub stretch-is : (role : Role) (pitch : ℤ) (a c : Z.Point) → Fit (a .x) pitch → Fit (c .x) pitch → G.stretch role (on pitch) (point a) (point c) ≡ stretch (C.stretch role pitch a c)
   pub kind : (bus : Z.Segment) (a c : Z.Point) (tap : Option Z.Point) → LiesOn bus → Lies a → Lies c → OfTap tap → kinds.kind (segment bus) (point a) (point c) (I.tap tap) ≡ Y.kind bus a c tap
   pub spacing : (l r : Z.Segment) (s : ℤ) → LiesOn l → LiesOn r → U.too-close (segment l) (segment r) (on s) ≡ Y.too-close l r s
+  pub far-sides : (n : Z.Node) → Sides n → (E.far-x (node n) ≡ on (Y.far-x n)) × (E.far-y (node n) ≡ on (Y.far-y n))
+  pub nodes-small : Every (λ (n : Z.PlacedNode). Sides (n .body)) (b .nodes)
   pub enters : (a c : Z.Point) (n : Z.Node) → Sides n → E.passes-inside (point a) (point c) (node n) ≡ Y.passes-inside a c n
   pub interior : (u : Bundle) (c s : Z.Segment) (ts : List W.TapOn) → Tame (s .start .x) → Tame (s .end .x) → B.counts-interior (board b) u (segment c) (segment s) (map I.tap-on ts) ≡ W.counts-interior b u c s ts
   -- ---- the last shift

@@ -31,7 +31,7 @@ use Rattle.sorting.specs.Lists.{Every}
 use Rattle.grid.specs.On.{on}
 use Rattle.grid_sheet.specs.Whole.{normalized, sheet-drawn}
 use Rattle.grid_plan.specs.Sizes.{Sized, Job, Placed}
-use Rattle.grid_plan.specs.OnGrid.{OnGrid}
+use Rattle.grid_plan.specs.OnGrid.{OnDraftingGrid}
 use Rattle.grid_sheet.specs.Sizes.{Kept, Timely, Standing}
 
 -- ---- the turns
@@ -46,7 +46,7 @@ turns-on (u ∷ us) (x ∷ xs) (d ∷ ds) = ap (λ (o : Option Float). record { 
     planned none = refl
     planned (some z) = refl
 
-module _ (b : Z.Board) (routes : List Z.Route) (good : OnGrid b routes) where
+module _ (b : Z.Board) (routes : List Z.Route) (good : OnDraftingGrid b routes) where
   turns-timely : (us : List Bundle) (xs : List (Option ℤ)) (ds : List ℤ) → Every Placed xs → Every (Sized (2 ^ 44)) ds → Every (Timely) (W.turns-from us xs ds)
   unfolding W.turns-from
   turns-timely [] xs ds h k = tt

@@ -1,4 +1,4 @@
-// A job's bytes to its answer's, in lent slices: reading (1, 3 to 9), then the drawing of crate draw_job.
+// A job's bytes to its answer's, in lent slices: reading (1, 3 to 9, 15), then the drawing of crate draw_job.
 //
 // Ported from cachanova/schemweave, commit c4a1a2c60a, crates/schemweave/src/boundary_bundles.rs
 // (Apache-2.0, see NOTICE).

@@ -32,7 +32,8 @@ pub struct Flags {
     /// A bundle and a foreign route may cross where neither ends.
     pub permit_crossings: bool,
     /// All numbers of the board are on the drafting grid: multiples of 1/64 with magnitude at most
-    /// 2^20. Then nothing is rounded on the way to the sheet.
+    /// 2^20. Then nothing is rounded on the way to the sheet but, where collectors are separated,
+    /// the pitch less the tolerance.
     pub on_grid: bool,
 }
 

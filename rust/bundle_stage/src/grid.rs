@@ -65,7 +65,7 @@ impl Board {
     }
 }
 
-/// The product moves the exponent alone, unless it overflows, far above the limit.
+/// The quotient moves the exponent alone, unless it overflows, far above the limit.
 fn is_on_grid(value: f64) -> bool {
     value.abs() <= LIMIT && (value / UNIT).fract() == 0.0
 }
