@@ -2,7 +2,7 @@
 -- Assumes nothing.
 use mathlib.Core.Path.{_≡_, ap, _∙_, subst}
 use Prim.Native.Nat.{ℕ, _+_, _*_, _%_, _^_, _≤_}
-use native.Mathlib.Nat.{zero-lt-suc, mul-mod-left, mul-le-mul-right}
+use native.Mathlib.Nat.{mul-mod-left, mul-le-mul-right}
 use native.Mathlib.Omega.{arith}
 use mathlib.Core.Bool.{true}
 use lib.IntN.{ℤ, natAbs}
@@ -17,14 +17,10 @@ use Rattle.binary64.specs.ExactOnGrid.{At}
 use Rattle.binary64.specs.Rational.{plus, less, Fraction, Sameℚ, cross, value}
 use Rattle.binary64.specs.Integers.{by-parts}
 use Rattle.binary64.specs.ExactOnGrid.{at-size}
-use Rattle.grid.specs.On.{on, Even}
+use Rattle.grid.specs.On.{on, over-128, Even}
 use Rattle.grid.specs.OnLaws.{on-at}
 use Rattle.grid.specs.Lanes.{double-size, coarser}
 use Rattle.grid.specs.DraftingGrid.{on-drafting-grid}
-
--- z / 128
-abbrev pub over-128 : ℤ → Fraction
-over-128 z = record { numerator = z; denominator = 128; above-zero = zero-lt-suc 127 }
 
 pub on-value : (z : ℤ) → Sameℚ (value (on z)) (over-128 z)
 on-value z =

@@ -6,12 +6,17 @@ use mathlib.Core.Bool.{Bool, true, false, cond}
 use lib.IntN.{ℤ, pos, negsuc, _+ℤ_}
 use lib.Dec.{ltb, leb, eqb}
 use lib.Ieee.{Float, odd}
-use Rattle.binary64.specs.Rational.{plus, less}
+use native.Mathlib.Nat.{zero-lt-suc}
+use Rattle.binary64.specs.Rational.{plus, less, Fraction}
 
 -- z / 128, written the one way that binary64 has for it
 unfoldable pub on : ℤ → Float
 on (pos n) = odd 54 false n 1067 1074
 on (negsuc n) = odd 54 true (suc n) 1067 1074
+
+-- the exact fraction z / 128, as document 01 has fractions
+abbrev pub over-128 : ℤ → Fraction
+over-128 z = record { numerator = z; denominator = 128; above-zero = zero-lt-suc 127 }
 
 -- ---- the order of whole numbers
 abbrev pub below : ℤ → ℤ → Bool

@@ -33,6 +33,8 @@ use Rattle.grid_sheet.specs.WholeSheet.{start}
 use Rattle.grid_sheet.specs.Paging as paging
 use Rattle.grid.specs.Operations.{add-on, sub-on, magnitude-on}
 use Rattle.grid.specs.Lanes as lanes
+use Rattle.grid.specs.OnLaws.{on-finite}
+use Rattle.grid.specs.Exactly.{on-value}
 use Rattle.grid_plan.specs.Sizes.{Sized}
 use native.Mathlib.Omega.{arith}
 use Rattle.grid_sheet.specs.Numbers.{Numbers}
@@ -61,6 +63,7 @@ first-sizes b routes good v i =
 
 pub numbers : (b : Z.Board) (routes : List Z.Route) → OnDraftingGrid b routes → Numbers b routes
 numbers b routes good = record {
+  value-is = λ z. (on-finite z, on-value z);
   sum = add-on;
   less = sub-on;
   times = lanes.lanes-on;

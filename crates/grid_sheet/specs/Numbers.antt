@@ -6,8 +6,11 @@ use mathlib.Core.Bool.{Bool, true}
 use mathlib.Core.List.{List, map}
 use mathlib.Core.Option.{Option}
 use lib.IntN.{ℤ, pos, natAbs, _+ℤ_, _-ℤ_, _*ℤ_}
+use lib.Dec.{T}
 use lib.Ieee.{binary64, add, sub, mul, div}
+use lib.Ieee.Scale.{finite}
 use Rattle.binary64.specs.Order.{magnitude}
+use Rattle.binary64.specs.Rational.{Sameℚ, value}
 use Rattle.geometry.specs.declared.Role.{Role}
 use Rattle.geometry.specs.Contact as T
 use Rattle.geometry.specs.Kind as kinds
@@ -39,11 +42,13 @@ use Rattle.grid_sheet.specs.Draw as W
 use Rattle.grid_sheet.specs.Page as X
 use Rattle.grid_sheet.specs.Image as I
 use Rattle.sorting.specs.Lists.{Every}
-use Rattle.grid.specs.On.{on, half-of}
+use Rattle.grid.specs.On.{on, over-128, half-of}
 use Rattle.grid_plan.specs.Sizes.{Sized, OfOption, Fit, Near, Placed}
 use Rattle.grid_sheet.specs.Sizes.{Tame, Lies, LiesOn, OfTap, Sides, Ready, Far, Kept, Timely, KeptRoutes, Standing}
 
 pub record Numbers (b : Z.Board) (routes : List Z.Route) : Type 0 where
+  -- ---- what a whole number stands for: a finite number that is the exact fraction over 128
+  pub value-is : (z : ℤ) → T (finite (on z)) × Sameℚ (value (on z)) (over-128 z)
   -- ---- the operations themselves, of any numbers of these sizes
   pub sum : (x y : ℤ) → Fit x y → add binary64 (on x) (on y) ≡ on (x +ℤ y)
   pub less : (x y : ℤ) → Fit x y → sub binary64 (on x) (on y) ≡ on (x -ℤ y)
