@@ -88,26 +88,26 @@ stored xs n x h = rw (add-one, take-suc-set xs n x h)
 
 -- ---- the second pass
 module _ (ks : List Float) where
-  -- what is kept of a route of n points, from pair at on
+  -- n kept pairs, from pair at on
   abbrev pub K : ℕ → ℕ → List Stretch
-  K at n = map spanned (points-from ks at (n - 1))
+  K at n = map spanned (points-from ks at n)
 
-  pub kept-more : (at n : ℕ) → 1 < n → K at n ≡ spanned (point-at ks at) ∷ K (at + 1) (n - 1)
+  pub kept-more : (at end : ℕ) → at < end → K at (end - at) ≡ spanned (point-at ks at) ∷ K (at + 1) (end - (at + 1))
   unfolding points-from
-  kept-more at n h =
-      let e : n - 1 ≡ suc (n - 1 - 1) = omega arith in
-      ap (λ (k : ℕ). map spanned (points-from ks at k)) e ∙ ap (λ (i : ℕ). spanned (point-at ks at) ∷ map spanned (points-from ks i (n - 1 - 1))) (sym (add-one at))
+  kept-more at end h =
+      let e : end - at ≡ suc (end - (at + 1)) = omega arith in
+      ap (K at) e ∙ ap (λ (i : ℕ). spanned (point-at ks at) ∷ K i (end - (at + 1))) (sym (add-one at))
 
-  pub kept-none : (at n : ℕ) → n ≤ 1 → K at n ≡ []
+  pub kept-none : (at n : ℕ) → n ≡ 0 → K at n ≡ []
   unfolding points-from
-  kept-none at n h = let e : n - 1 ≡ 0 = omega arith in rw e
+  kept-none at n e = rw e
 
   module _ (counts : List ℕ) where
     -- the members from m on, the first of them from pair at on
     abbrev pub N : ℕ → ℕ → List (List Stretch)
     N at m = members-from ks at (drop m counts)
 
-    pub kept-next : (at m : ℕ) → m < length counts → N at m ≡ K at (getD counts m 0) ∷ N (at + (getD counts m 0 - 1)) (m + 1)
+    pub kept-next : (at m : ℕ) → m < length counts → N at m ≡ K at (getD counts m 0 - 1) ∷ N (at + (getD counts m 0 - 1)) (m + 1)
     unfolding members-from
     kept-next at m h = rw (add-one, drop-cons counts m 0 h)
 
@@ -118,10 +118,9 @@ module _ (ks : List Float) where
     -- and how many runs they have
     pub runs-next-kept : (at m : ℕ) → m < length counts → runs-in (N at m) ≡ (getD counts m 0 - 1) + runs-in (N (at + (getD counts m 0 - 1)) (m + 1))
     runs-next-kept at m h =
-        let c = getD counts m 0 in
-        ap runs-in (kept-next at m h) ∙ ap length (runs-next (K at c) (N (at + (c - 1)) (m + 1)))
-        ∙ length-append (K at c) (all-runs (N (at + (c - 1)) (m + 1)))
-        ∙ ap (λ (n : ℕ). n + runs-in (N (at + (c - 1)) (m + 1))) (length-map (points-from ks at (c - 1)) spanned ∙ points-length ks at (c - 1))
+        let n = getD counts m 0 - 1 in
+        ap runs-in (kept-next at m h) ∙ ap length (runs-next (K at n) (N (at + n) (m + 1))) ∙ length-append (K at n) (all-runs (N (at + n) (m + 1)))
+        ∙ ap (λ (k : ℕ). k + runs-in (N (at + n) (m + 1))) (length-map (points-from ks at n) spanned ∙ points-length ks at n)
 
 module _ (x : Float) where
   pub try-end : (v : ℕ) → tried-on x [] v ≡ lacked v

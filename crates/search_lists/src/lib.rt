@@ -84,20 +84,22 @@ pub fn try_candidates(kept: &[f64], counts: &[usize], granted: TapVisits, xs: &m
         let mut at = 0;
         let mut m = 0;
         'members: while m < counts.len() {
-            let mut rest = counts[m];
+            let count = counts[m];
             m += 1;
-            while 1 < rest {
+            if count == 0 {
+                continue 'candidates;
+            }
+            let end = at + (count - 1);
+            while at < end {
                 if left == 0 {
                     break 'candidates;
                 }
                 left -= 1;
-                let held = search_runs::kept_holds(kept, at, x);
-                at += 1;
-                rest -= 1;
-                if held {
-                    at += rest - 1;
+                if search_runs::kept_holds(kept, at, x) {
+                    at = end;
                     continue 'members;
                 }
+                at += 1;
             }
             continue 'candidates;
         }

@@ -1,6 +1,6 @@
 -- `search_lists::try_candidates` meets its contract. Each loop's invariant says that its definition from the loop's start is the one from here on. The common candidates stand at the front of the slice, before the one that is tried. Assumes nothing.
 use mathlib.Core.Path.{_≡_, refl, sym, _∙_, ap}
-use mathlib.Core.Bool.{true, false}
+use mathlib.Core.Bool.{Bool, true, false}
 use mathlib.Core.List.{List, [], _∷_, _++_}
 use Prim.Native.Nat.{ℕ, _+_, _-_, _*_, _≤_, _<_}
 use native.Mathlib.Omega.{arith}
@@ -9,21 +9,22 @@ use lib.ListN.{length, getD, take, drop, set, length-set}
 use lib.Seq.{drop-set-lt}
 use lib.Ieee.{Float, nan}
 use Rattle.geometry.specs.declared.Stretch.{Stretch}
+use Rattle.geometry.specs.Stretch.{holds}
 use Rattle.geometry.specs.Points.{point-at}
 use Rattle.search.specs.Stretches.{runs-in}
 use Rattle.search.specs.Kept.{spanned, members-from}
-use Rattle.search.specs.Search.{Listing, Tried, lacked, unpaid, after, tried-on, tried-on-all, tried}
+use Rattle.search.specs.Search.{Tried, lacked, unpaid, after, or-else, tried-on, tried-on-all, tried}
 use Rattle.search_lists.proofs.Walk as walk
 use Rattle.search_lists.proofs.Walk.{K, N}
 use Rattle.search_lists.proofs.try_candidates.Statement.{statement}
 use Rattle.search_lists.proofs.try_candidates.Tie as tie
 
 abbrev Inv-runs : tie.InvT-loop
-Inv-runs kept counts xs left₀ n i x at₀ m rest₀ left at rest =
-    (at + (rest - 1) ≡ at₀ + (rest₀ - 1)) × (2 * (at + (rest - 1)) ≤ length kept) × (tried-on x (K kept at₀ rest₀) left₀ ≡ tried-on x (K kept at rest) left)
+Inv-runs kept counts xs left₀ n i x at₀ m count end left at =
+    (at ≤ end) × (2 * end ≤ length kept) × (tried-on x (K kept at₀ (count - 1)) left₀ ≡ tried-on x (K kept at (end - at)) left)
 
 abbrev μ-runs : tie.MeasureT-loop
-μ-runs kept counts xs left₀ n i x at₀ m rest₀ left at rest = rest
+μ-runs kept counts xs left₀ n i x at₀ m count end left at = end - at
 
 abbrev Inv-members : tie.InvT-members
 Inv-members kept counts xs left₀ n i x at₀ m₀ left at m =
@@ -43,8 +44,14 @@ abbrev μ-candidates : tie.MeasureT-candidates
 abbrev At-members : Type 0
 At-members = tie.At-members Inv-runs μ-runs Inv-members μ-members Inv-candidates μ-candidates
 
+abbrev In-members : Type 0
+In-members = tie.In-members Inv-runs μ-runs Inv-members μ-members Inv-candidates μ-candidates
+
 abbrev At-runs : Type 0
 At-runs = tie.At-loop Inv-runs μ-runs Inv-members μ-members Inv-candidates μ-candidates
+
+abbrev In-runs : Type 0
+In-runs = tie.In-loop Inv-runs μ-runs Inv-members μ-members Inv-candidates μ-candidates
 
 -- the whole pass, at the members' loop: what follows from the members that are left
 whole : (c : At-members)
@@ -65,35 +72,73 @@ whole c =
     ∙ walk.candidate-next ms (take (s .candidates .n) (s .candidates .xs)) (s .candidates .left) (s .candidates .xs) (s .candidates .i) h
     ∙ ap (walk.next ms (take (s .candidates .n) (s .candidates .xs)) (s .candidates .left) (drop (s .candidates .i + 1) (s .candidates .xs)) x) (c .members .inv .1)
 
--- the members from m on, at the runs' loop: what follows from the runs that are left
-member : (c : At-runs)
-    → let s = c .before .before .before in
+-- the members from m on: what follows from the runs of the first of them
+member : (c : In-members)
+    → let s = c .before in
     let t = s .before .before .before in
     let a = t .before .before .before .before .args in
     let x = getD (t .candidates .xs) (t .candidates .i) nan in
     let from = N (a .kept .now) (a .counts .now) in
+    let runs = getD (a .counts .now) (s .members .m) 0 - 1 in
     tried-on-all x (from (s .members .at) (s .members .m)) (s .members .left)
-    ≡ after (tried-on x (K (a .kept .now) (c .loop .at) (c .loop .rest)) (c .loop .left)) (tried-on-all x (from (c .loop .at + (c .loop .rest - 1)) (s .members .m + 1))) lacked unpaid
+    ≡ after (tried-on x (K (a .kept .now) (s .members .at) runs) (s .members .left)) (tried-on-all x (from (s .members .at + runs) (s .members .m + 1))) lacked unpaid
 member c =
-    let s = c .before .before .before in
+    let s = c .before in
+    let t = s .before .before .before in
+    let a = t .before .before .before .before .args in
+    let x = getD (t .candidates .xs) (t .candidates .i) nan in
+    ap (λ (ms : List (List Stretch)). tried-on-all x ms (s .members .left)) (walk.kept-next (a .kept .now) (a .counts .now) (s .members .at) (s .members .m) (c .members-test .taken))
+    ∙ walk.try-member x _ _ (s .members .left)
+
+-- and from those of its runs that are left
+runs-left : (c : At-runs)
+    → let s = c .before .before .before .before in
     let t = s .before .before .before in
     let a = t .before .before .before .before .args in
     let x = getD (t .candidates .xs) (t .candidates .i) nan in
     let from = N (a .kept .now) (a .counts .now) in
-    ap (λ (ms : List (List Stretch)). tried-on-all x ms (s .members .left)) (walk.kept-next (a .kept .now) (a .counts .now) (s .members .at) (s .members .m) (c .before .before .members-test .taken))
-    ∙ walk.try-member x _ _ (s .members .left)
-    ∙ ap (λ (o : Tried). after o (tried-on-all x (from (s .members .at + (getD (a .counts .now) (s .members .m) 0 - 1)) (s .members .m + 1))) lacked unpaid) (c .loop .inv .2)
-    ∙ ap (λ (at : ℕ). after (tried-on x (K (a .kept .now) (c .loop .at) (c .loop .rest)) (c .loop .left)) (tried-on-all x (from at (s .members .m + 1))) lacked unpaid) (sym (c .loop .inv .0))
+    let end = s .members .at + (getD (a .counts .now) (s .members .m) 0 - 1) in
+    tried-on-all x (from (s .members .at) (s .members .m)) (s .members .left)
+    ≡ after (tried-on x (K (a .kept .now) (c .loop .at) (end - c .loop .at)) (c .loop .left)) (tried-on-all x (from end (s .members .m + 1))) lacked unpaid
+runs-left c =
+    let s = c .before .before .before .before in
+    let t = s .before .before .before in
+    let a = t .before .before .before .before .args in
+    let x = getD (t .candidates .xs) (t .candidates .i) nan in
+    let end = s .members .at + (getD (a .counts .now) (s .members .m) 0 - 1) in
+    member (c .before .before .before)
+    ∙ ap (λ (o : Tried). after o (tried-on-all x (N (a .kept .now) (a .counts .now) end (s .members .m + 1))) lacked unpaid) (c .loop .inv .2)
 
--- a run is left
-next-run : (c : tie.In-loop Inv-runs μ-runs Inv-members μ-members Inv-candidates μ-candidates)
+-- a look at the first of these
+look : (c : In-runs) (h : Bool)
     → let r = c .before in
-    let a = r .before .before .before .before .before .before .before .before .before .before .args in
-    K (a .kept .now) (r .loop .at) (r .loop .rest) ≡ spanned (point-at (a .kept .now) (r .loop .at)) ∷ K (a .kept .now) (r .loop .at + 1) (r .loop .rest - 1)
-next-run c =
+    let s = r .before .before .before .before in
+    let t = s .before .before .before in
+    let a = t .before .before .before .before .args in
+    let x = getD (t .candidates .xs) (t .candidates .i) nan in
+    let end = s .members .at + (getD (a .counts .now) (s .members .m) 0 - 1) in
+    let left = tried-on x (K (a .kept .now) (r .loop .at + 1) (end - (r .loop .at + 1))) (r .loop .left - 1) in
+    0 < r .loop .left → holds x (spanned (point-at (a .kept .now) (r .loop .at))) ≡ h → tried-on x (K (a .kept .now) (r .loop .at) (end - r .loop .at)) (r .loop .left) ≡ or-else h (r .loop .left - 1) left
+look c h p e =
     let r = c .before in
-    let a = r .before .before .before .before .before .before .before .before .before .before .args in
-    walk.kept-more (a .kept .now) (r .loop .at) (r .loop .rest) (c .loop-test .taken)
+    let s = r .before .before .before .before in
+    let t = s .before .before .before in
+    let a = t .before .before .before .before .args in
+    let x = getD (t .candidates .xs) (t .candidates .i) nan in
+    let end = s .members .at + (getD (a .counts .now) (s .members .m) 0 - 1) in
+    ap (λ (ss : List Stretch). tried-on x ss (r .loop .left)) (walk.kept-more (a .kept .now) (r .loop .at) end (c .loop-test .taken))
+    ∙ walk.try-look x _ _ (r .loop .left) h p e
+
+-- the kept pairs of member m lie in the slice
+room : (c : In-members)
+    → let s = c .before in
+    let a = s .before .before .before .before .before .before .before .args in
+    2 * (s .members .at + (getD (a .counts .now) (s .members .m) 0 - 1)) ≤ length (a .kept .now)
+room c =
+    let s = c .before in
+    let a = s .before .before .before .before .before .before .before .args in
+    let n = walk.runs-next-kept (a .kept .now) (a .counts .now) (s .members .at) (s .members .m) (c .members-test .taken) in
+    omega (arith, s .members .inv .0)
 
 candidates-holds :
     tie.Need-candidates-holds Inv-runs μ-runs Inv-members μ-members Inv-candidates μ-candidates
@@ -127,68 +172,68 @@ members-holds :
     tie.Need-members-holds Inv-runs μ-runs Inv-members μ-members Inv-candidates μ-candidates
 members-holds c = search needs
 
-mul-rest : tie.Need-mul-rest Inv-runs μ-runs Inv-members μ-members Inv-candidates μ-candidates
-mul-rest c = search needs
+mul-count : tie.Need-mul-count Inv-runs μ-runs Inv-members μ-members Inv-candidates μ-candidates
+mul-count c = search needs
 
-shared-slice-read-rest :
-    tie.Need-shared-slice-read-rest
-    Inv-runs
-    μ-runs
-    Inv-members
-    μ-members
-    Inv-candidates
-    μ-candidates
-shared-slice-read-rest c = search needs
+shared-slice-read-count : tie.Need-shared-slice-read-count Inv-runs μ-runs Inv-members μ-members Inv-candidates μ-candidates
+shared-slice-read-count c = search needs
 
 add-m : tie.Need-add-m Inv-runs μ-runs Inv-members μ-members Inv-candidates μ-candidates
 add-m c = search needs
 
+candidates-less : tie.Need-candidates-less Inv-runs μ-runs Inv-members μ-members Inv-candidates μ-candidates
+candidates-less c = search needs
+
+candidates-again : tie.Need-candidates-again Inv-runs μ-runs Inv-members μ-members Inv-candidates μ-candidates
+candidates-again c =
+    let s = c .before .before .before in
+    let t = s .before .before .before in
+    let a = t .before .before .before .before .args in
+    let x = getD (t .candidates .xs) (t .candidates .i) nan in
+    let e : getD (a .counts .now) (s .members .m) 0 - 1 ≡ 0 = omega (arith, c .if2 .taken) in (
+      omega arith,
+      omega arith,
+      t .candidates .inv .2,
+      whole s ∙ rw (member (c .before .before), walk.kept-none (a .kept .now) (s .members .at) (getD (a .counts .now) (s .members .m) 0 - 1) e, walk.try-end x (s .members .left)),
+    )
+
+sub-end : tie.Need-sub-end Inv-runs μ-runs Inv-members μ-members Inv-candidates μ-candidates
+sub-end c = search needs
+
+add-end : tie.Need-add-end Inv-runs μ-runs Inv-members μ-members Inv-candidates μ-candidates
+add-end c = search (needs, room (c .before .before))
+
 loop-holds : tie.Need-loop-holds Inv-runs μ-runs Inv-members μ-members Inv-candidates μ-candidates
 loop-holds c =
-    let s = c .before .before in
-    let a = s .before .before .before .before .before .before .before .args in
-    let e = walk.runs-next-kept (a .kept .now) (a .counts .now) (s .members .at) (s .members .m) (c .before .members-test .taken) in
-    (refl, omega (arith, s .members .inv .0), refl)
+    let s = c .before .before .before in
+    let t = s .before .before .before in
+    let a = t .before .before .before .before .args in
+    let x = getD (t .candidates .xs) (t .candidates .i) nan in
+    let runs = getD (a .counts .now) (s .members .m) 0 - 1 in
+    let e : runs ≡ s .members .at + runs - s .members .at = omega arith in
+    (omega arith, room (c .before .before), ap (λ (k : ℕ). tried-on x (K (a .kept .now) (s .members .at) k) (s .members .left)) e)
 
 sub-left : tie.Need-sub-left Inv-runs μ-runs Inv-members μ-members Inv-candidates μ-candidates
 sub-left c = search needs
 
-kept-holds-requires :
-    tie.Need-kept-holds-requires Inv-runs μ-runs Inv-members μ-members Inv-candidates μ-candidates
+kept-holds-requires : tie.Need-kept-holds-requires Inv-runs μ-runs Inv-members μ-members Inv-candidates μ-candidates
 kept-holds-requires c κs = search needs
 
-add-at : tie.Need-add-at Inv-runs μ-runs Inv-members μ-members Inv-candidates μ-candidates
-add-at c = search needs
-
-sub-rest : tie.Need-sub-rest Inv-runs μ-runs Inv-members μ-members Inv-candidates μ-candidates
-sub-rest c = search needs
-
-sub-at : tie.Need-sub-at Inv-runs μ-runs Inv-members μ-members Inv-candidates μ-candidates
-sub-at c = search needs
-
-add-at-2 : tie.Need-add-at-2 Inv-runs μ-runs Inv-members μ-members Inv-candidates μ-candidates
-add-at-2 c = search needs
-
-members-less :
-    tie.Need-members-less Inv-runs μ-runs Inv-members μ-members Inv-candidates μ-candidates
+members-less : tie.Need-members-less Inv-runs μ-runs Inv-members μ-members Inv-candidates μ-candidates
 members-less c = search needs
 
-members-again :
-    tie.Need-members-again Inv-runs μ-runs Inv-members μ-members Inv-candidates μ-candidates
+members-again : tie.Need-members-again Inv-runs μ-runs Inv-members μ-members Inv-candidates μ-candidates
 members-again c =
     let k = c .before in
     let r = k .before .before .before in
-    let s = r .before .before .before in
-    let t = s .before .before .before in
-    let a = t .before .before .before .before .args in
-    let x = getD (t .candidates .xs) (t .candidates .i) nan in
+    let s = r .before .before .before .before in
+    let a = s .before .before .before .before .before .before .before .args in
     let h : 0 < r .loop .left = omega arith in
-    let e : r .loop .at + 1 + (r .loop .rest - 1 - 1) ≡ r .loop .at + (r .loop .rest - 1) = omega arith in
-    let f = walk.runs-next-kept (a .kept .now) (a .counts .now) (s .members .at) (s .members .m) (r .before .before .members-test .taken) in (
-      rw (e, r .loop .inv .0) (omega (arith, s .members .inv .0)),
-      s .members .inv .1 ∙ member r
-          ∙ rw (e, next-run (k .before .before), walk.try-look x _ _ (r .loop .left) true h (sym (k .kept-holds .ensures) ∙ c .if3 .taken)),
-    )
+    let n = walk.runs-next-kept (a .kept .now) (a .counts .now) (s .members .at) (s .members .m) (r .before .before .before .members-test .taken) in
+    (omega (arith, s .members .inv .0), s .members .inv .1 ∙ runs-left r ∙ rw (look (k .before .before) true h (sym (k .kept-holds .ensures) ∙ c .if4 .taken)))
+
+add-at : tie.Need-add-at Inv-runs μ-runs Inv-members μ-members Inv-candidates μ-candidates
+add-at c = search needs
 
 loop-less : tie.Need-loop-less Inv-runs μ-runs Inv-members μ-members Inv-candidates μ-candidates
 loop-less c = search needs
@@ -197,51 +242,41 @@ loop-again : tie.Need-loop-again Inv-runs μ-runs Inv-members μ-members Inv-can
 loop-again c =
     let k = c .before in
     let r = k .before .before .before in
-    let s = r .before .before .before in
-    let t = s .before .before .before in
-    let x = getD (t .candidates .xs) (t .candidates .i) nan in
-    let h : 0 < r .loop .left = omega arith in (
-      omega (arith, r .loop .inv .0),
-      omega (arith, r .loop .inv .1),
-      r .loop .inv .2
-          ∙ rw (next-run (k .before .before), walk.try-look x _ _ (r .loop .left) false h (sym (k .kept-holds .ensures) ∙ c .if3 .left)),
-    )
+    let h : 0 < r .loop .left = omega arith in
+    (omega arith, r .loop .inv .1, r .loop .inv .2 ∙ look (k .before .before) false h (sym (k .kept-holds .ensures) ∙ c .if4 .left))
 
-candidates-less :
-    tie.Need-candidates-less Inv-runs μ-runs Inv-members μ-members Inv-candidates μ-candidates
-candidates-less c = search needs
+candidates-less-2 : tie.Need-candidates-less-2 Inv-runs μ-runs Inv-members μ-members Inv-candidates μ-candidates
+candidates-less-2 c = search needs
 
-candidates-again :
-    tie.Need-candidates-again Inv-runs μ-runs Inv-members μ-members Inv-candidates μ-candidates
-candidates-again c =
+candidates-again-2 : tie.Need-candidates-again-2 Inv-runs μ-runs Inv-members μ-members Inv-candidates μ-candidates
+candidates-again-2 c =
     let r = c .before in
-    let s = r .before .before .before in
+    let s = r .before .before .before .before in
     let t = s .before .before .before in
     let a = t .before .before .before .before .args in
-    let x = getD (t .candidates .xs) (t .candidates .i) nan in (
+    let x = getD (t .candidates .xs) (t .candidates .i) nan in
+    let end = s .members .at + (getD (a .counts .now) (s .members .m) 0 - 1) in
+    let e : end - r .loop .at ≡ 0 = omega arith in (
       omega arith,
       omega arith,
       t .candidates .inv .2,
-      whole s ∙ rw (member r, walk.kept-none (a .kept .now) (r .loop .at) (r .loop .rest) (omega arith), walk.try-end x (r .loop .left)),
+      whole s ∙ rw (runs-left r, walk.kept-none (a .kept .now) (r .loop .at) (end - r .loop .at) e, walk.try-end x (r .loop .left)),
     )
 
 mul-xs : tie.Need-mul-xs Inv-runs μ-runs Inv-members μ-members Inv-candidates μ-candidates
 mul-xs c = search needs
 
-slice-write-xs :
-    tie.Need-slice-write-xs Inv-runs μ-runs Inv-members μ-members Inv-candidates μ-candidates
+slice-write-xs : tie.Need-slice-write-xs Inv-runs μ-runs Inv-members μ-members Inv-candidates μ-candidates
 slice-write-xs c = search needs
 
 add-n : tie.Need-add-n Inv-runs μ-runs Inv-members μ-members Inv-candidates μ-candidates
 add-n c = search needs
 
-candidates-less-2 :
-    tie.Need-candidates-less-2 Inv-runs μ-runs Inv-members μ-members Inv-candidates μ-candidates
-candidates-less-2 c = search needs
+candidates-less-3 : tie.Need-candidates-less-3 Inv-runs μ-runs Inv-members μ-members Inv-candidates μ-candidates
+candidates-less-3 c = search needs
 
-candidates-again-2 :
-    tie.Need-candidates-again-2 Inv-runs μ-runs Inv-members μ-members Inv-candidates μ-candidates
-candidates-again-2 c =
+candidates-again-3 : tie.Need-candidates-again-3 Inv-runs μ-runs Inv-members μ-members Inv-candidates μ-candidates
+candidates-again-3 c =
     let s = c .before in
     let t = s .before .before .before in
     let a = t .before .before .before .before .args in
@@ -255,18 +290,22 @@ candidates-again-2 c =
           ∙ rw (walk.kept-end (a .kept .now) (a .counts .now) (s .members .at) (s .members .m) (c .members-test .left), walk.try-members-end x (s .members .left), walk.stored (t .candidates .xs) (t .candidates .n) x h, drop-set-lt (t .candidates .i + 1) (t .candidates .xs) (t .candidates .n) x h′),
     )
 
-same-length-2 :
-    tie.Need-same-length-2 Inv-runs μ-runs Inv-members μ-members Inv-candidates μ-candidates
+same-length-2 : tie.Need-same-length-2 Inv-runs μ-runs Inv-members μ-members Inv-candidates μ-candidates
 same-length-2 c =
-    c .before .before .before .before .before .before .before .before .candidates .inv .2
+    c .before .before .before .before .before .before .before .before .before .candidates .inv .2
 
 returns-2 : tie.Need-returns-2 Inv-runs μ-runs Inv-members μ-members Inv-candidates μ-candidates
 returns-2 c =
     let r = c .before .before in
-    let s = r .before .before .before in
+    let s = r .before .before .before .before in
     let t = s .before .before .before in
+    let a = t .before .before .before .before .args in
     let x = getD (t .candidates .xs) (t .candidates .i) nan in
-    record { within = tt; are = sym (whole s ∙ rw (member r, next-run (c .before), walk.try-unpaid x _ _ (r .loop .left) (c .if2 .taken))) }
+    let end = s .members .at + (getD (a .counts .now) (s .members .m) 0 - 1) in
+    record {
+      within = tt;
+      are = sym (whole s ∙ rw (runs-left r, walk.kept-more (a .kept .now) (r .loop .at) end (c .before .loop-test .taken), walk.try-unpaid x _ _ (r .loop .left) (c .if3 .taken)));
+    }
 
 pub try-candidates-spec : {M : Type 1} → statement M
 try-candidates-spec =
@@ -285,26 +324,27 @@ try-candidates-spec =
     slice-read-x
     add-i
     members-holds
-    mul-rest
-    shared-slice-read-rest
+    mul-count
+    shared-slice-read-count
     add-m
+    candidates-less
+    candidates-again
+    sub-end
+    add-end
     loop-holds
     sub-left
     kept-holds-requires
-    add-at
-    sub-rest
-    sub-at
-    add-at-2
     members-less
     members-again
+    add-at
     loop-less
     loop-again
-    candidates-less
-    candidates-again
+    candidates-less-2
+    candidates-again-2
     mul-xs
     slice-write-xs
     add-n
-    candidates-less-2
-    candidates-again-2
+    candidates-less-3
+    candidates-again-3
     same-length-2
     returns-2)
