@@ -8,7 +8,7 @@ use native.Mathlib.Omega.{arith}
 use lib.ListN.{length, getD, take, drop, length-append, length-map}
 use lib.Seq.{length-take-le, getD-take, take-at, drop-at}
 use lib.Dec.{T}
-use lib.Ieee.{Float, nan, inf, fin, binary64, ofBits, lt, eq, le}
+use lib.Ieee.{Float, nan, inf, fin, ofBits, lt, eq, le}
 use Rattle.binary64.specs.Value.{le-trans-finite}
 use Rattle.geometry.specs.declared.Point.{Point}
 use Rattle.geometry.specs.declared.Role.{Role}
@@ -33,10 +33,10 @@ abbrev again-all : List (List Stretch) → List (List Stretch)
 again-all ms = map (map again) ms
 
 abbrev one : Float
-one = ofBits binary64 0x3ff0_0000_0000_0000
+one = kept Nowhere .x
 
 abbrev naught : Float
-naught = ofBits binary64 0
+naught = kept Nowhere .y
 
 both-false : (a b : Bool) → (T a → T b → T (le one naught)) → (a && b) ≡ false
 unfolding ofBits le lt eq

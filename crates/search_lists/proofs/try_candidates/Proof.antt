@@ -227,10 +227,16 @@ members-again c =
     let k = c .before in
     let r = k .before .before .before in
     let s = r .before .before .before .before in
-    let a = s .before .before .before .before .before .before .before .args in
+    let t = s .before .before .before in
+    let a = t .before .before .before .before .args in
+    let x = getD (t .candidates .xs) (t .candidates .i) nan in
+    let end = s .members .at + (getD (a .counts .now) (s .members .m) 0 - 1) in
     let h : 0 < r .loop .left = omega arith in
-    let n = walk.runs-next-kept (a .kept .now) (a .counts .now) (s .members .at) (s .members .m) (r .before .before .before .members-test .taken) in
-    (omega (arith, s .members .inv .0), s .members .inv .1 ∙ runs-left r ∙ rw (look (k .before .before) true h (sym (k .kept-holds .ensures) ∙ c .if4 .taken)))
+    let n = walk.runs-next-kept (a .kept .now) (a .counts .now) (s .members .at) (s .members .m) (r .before .before .before .members-test .taken) in (
+      omega (arith, s .members .inv .0),
+      s .members .inv .1 ∙ runs-left r
+          ∙ ap (λ (o : Tried). after o (tried-on-all x (N (a .kept .now) (a .counts .now) end (s .members .m + 1))) lacked unpaid) (look (k .before .before) true h (sym (k .kept-holds .ensures) ∙ c .if4 .taken)),
+    )
 
 add-at : tie.Need-add-at Inv-runs μ-runs Inv-members μ-members Inv-candidates μ-candidates
 add-at c = search needs
