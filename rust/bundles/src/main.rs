@@ -163,7 +163,7 @@ fn explained(name: &str, job: Option<&str>) -> Result<Done, String> {
 fn picture(job: &str, name: &str, title: &str) -> Result<Done, String> {
     let answer = answer(name)?;
     let text = match &answer {
-        Answer::Drawn(sheet) => svg(&board_of(job, name, sheet)?, sheet, title),
+        Answer::Drawn(sheet) => svg(&board_of(job, name, sheet)?, sheet, title).map_err(of(job))?,
         Answer::Refused(refusal) => {
             // The refusal may be that the bytes are no job; then there is no board to show.
             let board = Board::from_bytes(&read(job, u64::MAX)?).unwrap_or_default();

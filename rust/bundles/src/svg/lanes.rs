@@ -69,11 +69,30 @@ pub fn corners(points: &[Point]) -> Vec<Point> {
 }
 
 /// The corners of the routes where they are shifted. `pitch` is the shift from one to the next where
-/// there is room; the least one that was used is told too.
+/// there is room; the least one that was used is told too. Where little room is left, lines that are
+/// further from each other are shifted together.
 pub fn spread(lines: &Lines<'_>, pitch: f64) -> (Vec<Vec<Point>>, f64) {
+    let mut best = spread_near(lines, pitch, (0.6 * pitch).max(ONE_LINE));
+    for further in [1.2, 2.4, 4.8] {
+        if best.1 > TIGHT {
+            break;
+        }
+        let other = spread_near(lines, pitch, further * pitch);
+        if other.1 > best.1 {
+            best = other;
+        }
+    }
+    best
+}
+
+/// A pitch that leaves too little white, in millimetres.
+const TIGHT: f64 = 0.42;
+/// The most for upright runs that end at a tap: the shift is then inside its dot.
+const AT_TAP: f64 = 0.6;
+
+fn spread_near(lines: &Lines<'_>, pitch: f64, near: f64) -> (Vec<Vec<Point>>, f64) {
     let routes = lines.routes;
     let mut least = pitch;
-    let near = (0.6 * pitch).max(ONE_LINE);
     let mut shifts = routes
         .iter()
         .map(|route| vec![0.0; route.len().saturating_sub(1)])
@@ -84,7 +103,12 @@ pub fn spread(lines: &Lines<'_>, pitch: f64) -> (Vec<Vec<Point>>, f64) {
         for group in groups(&runs, near) {
             let rows = rows(routes, way, &group, near);
             let last = rows.iter().copied().max().unwrap_or(0);
-            let pitch = pitch.min(0.8 * free(&group, &runs, &sides) / last.max(1) as f64);
+            let most = if way == Way::Upright && group.iter().any(|run| at_tap(lines, run)) {
+                AT_TAP
+            } else {
+                pitch
+            };
+            let pitch = most.min(0.9 * free(&group, &runs, &sides) / last.max(1) as f64);
             least = least.min(pitch);
             // Row 0 is where a trunk keeps its place, or else the middle does.
             let trunk = group
@@ -125,6 +149,13 @@ pub fn spread(lines: &Lines<'_>, pitch: f64) -> (Vec<Vec<Point>>, f64) {
         to
     });
     (shifted.collect(), least)
+}
+
+/// Whether a run of a route ends at its tap.
+fn at_tap(lines: &Lines<'_>, run: &Run<'_>) -> bool {
+    let (first, last) = lines.tapped.get(run.route).copied().unwrap_or_default();
+    let count = lines.routes.get(run.route).map_or(0, Vec::len);
+    run.members.is_none() && (first && run.start == 0 || last && run.start + 2 == count)
 }
 
 fn runs<'a>(lines: &Lines<'a>, way: Way) -> Vec<Run<'a>> {

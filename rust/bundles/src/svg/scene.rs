@@ -8,6 +8,7 @@ use bundle_stage::{
 
 use crate::joints::{name, words};
 
+#[derive(Clone)]
 pub struct Scene {
     pub nodes: Vec<Node>,
     pub ports: Vec<Port>,
@@ -18,6 +19,7 @@ pub struct Scene {
     pub left_out: usize,
 }
 
+#[derive(Clone)]
 pub struct Port {
     pub name: Endpoint,
     pub at: Point,
@@ -27,6 +29,7 @@ pub struct Port {
     pub high: Point,
 }
 
+#[derive(Clone)]
 pub struct Route {
     pub id: Id,
     pub source: Endpoint,
@@ -39,6 +42,7 @@ pub struct Route {
 }
 
 /// A bundle as drawn.
+#[derive(Clone)]
 pub struct Trunk {
     pub id: Id,
     pub endpoint: Endpoint,
@@ -52,6 +56,7 @@ pub struct Trunk {
     pub weight: f64,
 }
 
+#[derive(Clone)]
 pub struct Tap {
     pub edge: Id,
     pub at: Point,
@@ -62,6 +67,7 @@ pub struct Tap {
 }
 
 /// A false joint.
+#[derive(Clone)]
 pub struct Mark {
     pub at: Point,
     pub name: &'static str,
