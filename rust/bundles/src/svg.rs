@@ -28,7 +28,10 @@ use bundle_stage::{Board, Point, Refusal, Sheet};
 
 use crate::explain::counted;
 use crate::joints::{Joints, name, words};
+use crate::names::Names;
 use crate::text::number;
+pub(crate) use xml::escaped;
+
 use drawn::strokes;
 use labels::labels;
 use legend::{Head, Legend};
@@ -39,7 +42,7 @@ use scene::Scene;
 use shapes::{lines, marks, nodes, ports};
 use stroke::Stroke;
 use white::unclear;
-use xml::{escaped, mm};
+use xml::mm;
 
 /// Above the limits of a job, so that only a refused one has more: its routes are then left out, as
 /// the cost of drawing them apart grows with the square.
@@ -69,7 +72,7 @@ impl std::error::Error for Unclear {}
 /// # Errors
 ///
 /// Where on no paper all that does not join can be drawn apart.
-pub fn svg(board: &Board, sheet: &Sheet, title: &str) -> Result<String, Unclear> {
+pub fn svg(board: &Board, sheet: &Sheet, names: &Names, title: &str) -> Result<String, Unclear> {
     let crossings = if board.flags.permit_crossings {
         "permitted"
     } else {
@@ -89,6 +92,7 @@ pub fn svg(board: &Board, sheet: &Sheet, title: &str) -> Result<String, Unclear>
     let joints = Joints::of(board, sheet);
     let mut scene = Scene::of_sheet(board, sheet);
     scene.mark(joints.found());
+    scene.names = names.clone();
     let head = Head {
         title: title.to_string(),
         about: Some(about),
@@ -112,13 +116,14 @@ fn capital(line: String) -> String {
 
 /// The board alone, in grey, with the words of its refusal. Routes that cannot be drawn apart are left
 /// out.
-pub fn svg_refused(board: &Board, refusal: Refusal, title: &str) -> String {
+pub fn svg_refused(board: &Board, refusal: Refusal, names: &Names, title: &str) -> String {
     let mut head = Head {
         title: title.to_string(),
         about: None,
         warnings: vec![refusal.to_string()],
     };
     let mut scene = Scene::of_board(board);
+    scene.names = names.clone();
     if scene.lines().len() <= MOST_LINES
         && let Ok(svg) = picture(scene.clone(), &head, GREY, None)
     {

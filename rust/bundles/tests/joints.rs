@@ -6,6 +6,7 @@ use std::fs;
 
 use bundle_stage::{Answer, Board, Sheet};
 use bundles::explain::explain;
+use bundles::names::Names;
 use bundles::svg::svg;
 use bundles::text;
 
@@ -82,7 +83,7 @@ fn another_answer() {
     sheet.routes[0].points[0].x += 1.0;
     let said = "not looked at, as the stage gives another answer to this job";
     assert!(
-        svg(&board, &sheet, "other")
+        svg(&board, &sheet, &Names::default(), "other")
             .expect("a clear picture")
             .contains(&format!(">Joints: {said}.</text>"))
     );
@@ -102,7 +103,8 @@ fn in_pictures() {
         ),
     ] {
         let board = job(name);
-        let picture = svg(&board, &drawn(&board), name).expect("a clear picture");
+        let picture =
+            svg(&board, &drawn(&board), &Names::default(), name).expect("a clear picture");
         assert_eq!(picture.matches("class=\"false-joint\"").count(), 1);
         assert!(picture.contains(&format!(">{words}</text>")), "{picture}");
         assert!(picture.contains(">false joint, or a route in a node</text>"));
@@ -110,7 +112,8 @@ fn in_pictures() {
     }
     for name in ["clock-board", "crossings"] {
         let board = example(name);
-        let picture = svg(&board, &drawn(&board), name).expect("a clear picture");
+        let picture =
+            svg(&board, &drawn(&board), &Names::default(), name).expect("a clear picture");
         assert!(!picture.contains("false-joint") && !picture.contains("warning"));
         assert_eq!(picture.matches("class=\"joints\"").count(), 1);
     }

@@ -7,6 +7,7 @@ use bundle_stage::{
 };
 
 use crate::joints::{name, words};
+use crate::names::Names;
 
 #[derive(Clone)]
 pub struct Scene {
@@ -15,6 +16,7 @@ pub struct Scene {
     pub routes: Vec<Route>,
     pub trunks: Vec<Trunk>,
     pub marks: Vec<Mark>,
+    pub names: Names,
     /// How many nodes, ports, routes and bundles have a number that no page can show.
     pub left_out: usize,
 }
@@ -173,6 +175,7 @@ impl Scene {
             routes: Vec::new(),
             trunks: Vec::new(),
             marks: Vec::new(),
+            names: Names::default(),
         }
     }
 

@@ -9,7 +9,8 @@ use std::fs;
 use bundle_stage::{
     Answer, Board, DrawnBundle, Edge, Endpoint, Node, Point, Refusal, Segment, Sheet,
 };
-use bundles::svg::{Unclear, svg_refused};
+use bundles::names::Names;
+use bundles::svg::Unclear;
 use bundles::text;
 use read::{Element, Line, beside, elements, lines, nearest};
 
@@ -26,7 +27,11 @@ fn example(name: &str) -> (Board, Sheet) {
 
 /// The picture of a sheet that can be drawn clearly.
 fn svg(board: &Board, sheet: &Sheet, title: &str) -> String {
-    bundles::svg::svg(board, sheet, title).expect("a clear picture")
+    bundles::svg::svg(board, sheet, &Names::default(), title).expect("a clear picture")
+}
+
+fn svg_refused(board: &Board, refusal: Refusal, title: &str) -> String {
+    bundles::svg::svg_refused(board, refusal, &Names::default(), title)
 }
 
 fn board(edges: &[(u32, &[(f64, f64)])]) -> Board {
@@ -165,7 +170,7 @@ fn stored_jobs() {
 
 /// Draws a sheet and reads the picture back: no false joint is to be seen. Or says why there is none.
 fn clear(board: &Board, sheet: &Sheet, name: &str) -> Result<(), Unclear> {
-    let picture = bundles::svg::svg(board, sheet, name)?;
+    let picture = bundles::svg::svg(board, sheet, &Names::default(), name)?;
     all_there(&checked(&picture), sheet);
     assert_eq!(false_joint(&picture, sheet), Ok(()), "{name}");
     Ok(())
