@@ -7,7 +7,7 @@ use std::fs;
 use std::path::PathBuf;
 use std::process::Command;
 
-use bundle_stage::{Answer, Board, Endpoint, Id, Refusal, Role};
+use bundle_stage::{Board, Endpoint, Id, Refusal, Role};
 use bundles::html::{html, html_refused};
 use bundles::names::Names;
 use bundles::text;
@@ -196,26 +196,42 @@ fn a_refused_board() {
     }
 }
 
-/// The first of the largest jobs that are stored whose picture is clear.
+/// The largest job that is stored cannot be drawn clearly: the page says so.
 #[test]
-fn a_largest_board() {
+fn the_stored_largest_board() {
     let bytes = file("stored/largest.bin");
-    let mut rest = &bytes[..];
-    while let Some((length, tail)) = rest.split_first_chunk() {
-        let (record, tail) = tail.split_at(u32::from_be_bytes(*length) as usize);
-        rest = tail;
-        let Ok(board) = Board::from_bytes(record) else {
+    let (length, rest) = bytes.split_first_chunk().expect("a record");
+    let job = &rest[..u32::from_be_bytes(*length) as usize];
+    let board = Board::from_bytes(job).expect("a board");
+    let sheet = board.draw().expect("a sheet");
+    let page = html(&board, &sheet, &Names::default(), "largest");
+    assert!(page.contains("no picture, as it would mislead: "));
+    assert!(!page.contains("<svg"));
+}
+
+/// Those of the largest jobs in the folder that PICTURE_JOBS names whose picture is clear.
+#[test]
+fn largest_boards_of_a_folder() {
+    let Some(folder) = std::env::var_os("PICTURE_JOBS") else {
+        return;
+    };
+    let mut count = 0;
+    for entry in fs::read_dir(folder).expect("a folder") {
+        let path = entry.expect("an entry").path();
+        let name = path.file_stem().and_then(|name| name.to_str());
+        let Some(name) = name.filter(|name| name.starts_with("largest")) else {
             continue;
         };
-        let answer = Answer::from_bytes(&bundle_stage::answer(record));
-        let Ok(Answer::Drawn(sheet)) = answer else {
+        let board = Board::from_bytes(&fs::read(&path).expect("a job")).expect("a board");
+        let Ok(sheet) = board.draw() else {
             continue;
         };
-        if bundles::svg::svg(&board, &sheet, &Names::default(), "largest").is_ok() {
-            followed("largest", &board);
-            return;
+        if bundles::svg::svg(&board, &sheet, &Names::default(), name).is_ok() {
+            followed(name, &board);
+            count += 1;
         }
     }
+    println!("{count} largest boards followed");
 }
 
 #[test]

@@ -105,7 +105,7 @@ fn weigh(scene: &mut Scene, routes: &[Stroke], pens: &Pens) {
 
 /// No trunk is thinner, no dot has a smaller radius.
 const LEAST: f64 = 0.3;
-const LEAST_DOT: f64 = 0.28;
+const LEAST_DOT: f64 = 0.3;
 /// What is white between routes that are drawn side by side, where there is room.
 const LANE: f64 = 1.15;
 
