@@ -19,6 +19,7 @@ mod scene;
 mod shapes;
 mod spans;
 mod stroke;
+mod walk;
 mod white;
 mod xml;
 

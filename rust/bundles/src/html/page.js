@@ -179,7 +179,7 @@ if (svg) {
     event.preventDefault();
     zoom(event.deltaY > 0 ? 1.2 : 1 / 1.2, place(event.clientX, event.clientY));
   }, { passive: false });
-  svg.addEventListener("focusin", (event) => { if (!chosen) show(wayOf(event.target)); });
+  svg.addEventListener("focusin", (event) => show(wayOf(event.target)));
   addEventListener("beforeprint", () => svg.setAttribute("viewBox", full.join(" ")));
   addEventListener("afterprint", look);
 }

@@ -7,9 +7,10 @@
 use bundle_stage::Point;
 
 use super::spans::{Span, Way, room};
+use super::walk::{Walk, side};
 
 /// Lines nearer than this, in millimetres, are one line to the eye.
-const ONE_LINE: f64 = 0.1;
+pub const ONE_LINE: f64 = 0.1;
 /// A shorter step, in millimetres, is none.
 pub const NO_STEP: f64 = 0.05;
 /// Runs on one line that end this near to each other would look like one.
@@ -282,93 +283,6 @@ fn order(routes: &[Vec<Point>], way: Way, a: &Run<'_>, b: &Run<'_>) -> i32 {
     match way {
         Way::Level => left,
         Way::Upright => -left,
-    }
-}
-
-/// A route being walked: the corner reached, and which way its corners are taken.
-#[derive(Clone, Copy)]
-struct Walk<'a> {
-    corners: &'a [Point],
-    at: usize,
-    forward: bool,
-}
-
-impl Walk<'_> {
-    fn corner(&self, steps: usize) -> Option<Point> {
-        let at = if self.forward {
-            self.at.checked_add(steps)
-        } else {
-            self.at.checked_sub(steps)
-        };
-        self.corners.get(at?).copied()
-    }
-
-    fn here(&self) -> Point {
-        self.corners[self.at]
-    }
-
-    /// −1 where it turns left here, seen in the direction of the walk, 1 where it turns right.
-    fn turn(&self, toward: Point) -> i32 {
-        let Some(next) = self.corner(1) else {
-            return 0;
-        };
-        let (x, y) = (next.x - self.here().x, next.y - self.here().y);
-        let right = toward.x * y - toward.y * x;
-        i32::from(right > 0.0) - i32::from(right < 0.0)
-    }
-}
-
-/// −1 where the first of two walks along one line leaves it to the left of the second, 1 to the
-/// right, 0 where they end together.
-fn side<'a>(way: Way, mut a: Walk<'a>, mut b: Walk<'a>) -> i32 {
-    let sign = |walk: &Walk<'_>, way: Way, from: Point| {
-        (way.along(walk.here()) - way.along(from)).signum()
-    };
-    let behind = |walk: &Walk<'_>| {
-        let at = if walk.forward {
-            walk.at - 1
-        } else {
-            walk.at + 1
-        };
-        walk.corners[at]
-    };
-    let mut toward = unit(way, sign(&a, way, behind(&a)));
-    loop {
-        let ahead = |walk: &Walk<'_>| walk.here().x * toward.x + walk.here().y * toward.y;
-        let gap = ahead(&a) - ahead(&b);
-        let (left, right) = (a.turn(toward), b.turn(toward));
-        if gap < -ONE_LINE {
-            return left;
-        }
-        if gap > ONE_LINE {
-            return -right;
-        }
-        if left != right || left == 0 {
-            return (left - right).signum();
-        }
-        let from = a.here();
-        let (Some(next), Some(other)) = (a.corner(1), b.corner(1)) else {
-            return 0;
-        };
-        let Some(way) = Way::of(from, next).filter(|way| Way::of(b.here(), other) == Some(*way))
-        else {
-            return 0;
-        };
-        for walk in [&mut a, &mut b] {
-            walk.at = if walk.forward {
-                walk.at + 1
-            } else {
-                walk.at - 1
-            };
-        }
-        toward = unit(way, sign(&a, way, from));
-    }
-}
-
-fn unit(way: Way, sign: f64) -> Point {
-    match way {
-        Way::Level => Point { x: sign, y: 0.0 },
-        Way::Upright => Point { x: 0.0, y: sign },
     }
 }
 
