@@ -7,7 +7,7 @@ struct Command {
     long: &'static str,
 }
 
-const COMMANDS: [Command; 6] = [
+const COMMANDS: [Command; 7] = [
     Command {
         name: "pack",
         words: "[BOARD]",
@@ -72,13 +72,16 @@ proved; where it was exact none was found on any board tried. All this is about 
         words: "JOB ANSWER [--title TITLE]",
         short: "a job and its answer, to a picture on standard output",
         long: "\
-The picture is an SVG file, a page of at most A4: open it with a browser, print it from there.
+The picture is an SVG file: open it with a browser, print it from there. The page is A4 where on it the
+white between two lines that do not join is at least 0.2 mm, each joint has its dot, and a line keeps
+enough between two that go over it; else the first larger paper (A3, A2, ..) where this is so. Where it
+is so on none, there is no picture, but words that say what would mislead, and the exit code is 2.
 
 Nodes are boxes with their ids, ports are squares, routes are thin lines and bundles heavy ones, each
 with a colour and a mark of its own. A dot is a joint: a tap on its collector. Where lines cross
 without a joint, the one goes over the other in an arch. Routes that lie over each other, or very near,
 are drawn side by side; a route in two bundles changes its colour half way. The legend has each
-bundle's id, role, place, members and width. Below it stands what `bundles explain` says of the joints
+bundle's id, from which ports to which it leads, its role, place and width. Below it stands what `bundles explain` says of the joints
 and of the last shift; a false joint has a ring around it, and its words stand below the title.
 
 Lines and letters have their sizes in millimetres of the page; no letter is smaller than 1.8. Where
@@ -90,6 +93,19 @@ Without a TITLE the title is the job's name without its end.
 
 For a refusal the picture has the board as it was given, in grey, if the job is whole, and the refusal
 in words.",
+    },
+    Command {
+        name: "html",
+        words: "BOARD [--title TITLE]",
+        short: "a board's text or job, to a page on standard output to follow its bundles on",
+        long: "\
+The page is one file that needs nothing else: open it with a browser. It has the picture of
+`bundles svg`. Point at a bundle, a route, a node or a port, and its way from unit to port is lifted,
+the rest is dimmed, and the way is told in words; a click or a tap of the finger keeps it so. The
+search takes names and ids. Wheel, two fingers, `+` and `-` zoom; dragging and the arrows move; `0`
+shows the whole sheet, Tab goes from one thing to the next, Enter chooses, Escape shows all again, `/`
+goes to the search. Behind `#` in the address can stand what is chosen: sheet.html#bundle-3. Printed
+it is the picture.",
     },
     Command {
         name: "help",

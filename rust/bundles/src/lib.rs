@@ -4,6 +4,8 @@
 
 pub mod explain;
 pub mod grid;
+pub mod html;
 pub mod joints;
+pub mod names;
 pub mod svg;
 pub mod text;

@@ -12,6 +12,8 @@ use std::process::ExitCode;
 
 use bundle_stage::{Answer, Board, Refusal, Sheet};
 use bundles::explain::{counted, explain};
+use bundles::html::{html, html_refused};
+use bundles::names::Names;
 use bundles::svg::{svg, svg_refused};
 use bundles::{grid, text};
 
@@ -64,6 +66,8 @@ fn command(words: &[&str]) -> Result<Done, String> {
         ["explain", answer, job] => explained(answer, Some(job)),
         ["svg", job, answer] => picture(job, answer, &title(job)),
         ["svg", job, answer, "--title", title] => picture(job, answer, title),
+        ["html", name] => followed(name, &title(name)),
+        ["html", name, "--title", title] => followed(name, title),
         ["help" | "--help" | "-h"] => out(help::all().as_bytes()),
         ["help", name] => {
             let text = help::one(name).ok_or(format!("no command `{name}`; see `bundles help`"))?;
@@ -163,15 +167,34 @@ fn explained(name: &str, job: Option<&str>) -> Result<Done, String> {
 fn picture(job: &str, name: &str, title: &str) -> Result<Done, String> {
     let answer = answer(name)?;
     let text = match &answer {
-        Answer::Drawn(sheet) => svg(&board_of(job, name, sheet)?, sheet, title),
+        Answer::Drawn(sheet) => {
+            let board = board_of(job, name, sheet)?;
+            svg(&board, sheet, &Names::default(), title).map_err(of(job))?
+        }
         Answer::Refused(refusal) => {
             // The refusal may be that the bytes are no job; then there is no board to show.
             let board = Board::from_bytes(&read(job, u64::MAX)?).unwrap_or_default();
-            svg_refused(&board, *refusal, title)
+            svg_refused(&board, *refusal, &Names::default(), title)
         }
     };
     out(text.as_bytes())?;
     Ok(done(&answer))
+}
+
+/// The page of a board, from its text or its job.
+fn followed(name: &str, title: &str) -> Result<Done, String> {
+    let bytes = read(name, u64::MAX)?;
+    let board = match Board::from_bytes(&bytes) {
+        Ok(board) => board,
+        Err(_) => text::read(&bytes).map_err(of(name))?,
+    };
+    let names = Names::default();
+    let (page, done) = match board.draw() {
+        Ok(sheet) => (html(&board, &sheet, &names, title), Done::Well),
+        Err(refusal) => (html_refused(&board, refusal, &names, title), Done::Refused),
+    };
+    out(page.as_bytes())?;
+    Ok(done)
 }
 
 /// A picture's title where none is given: the job's name without folder and end.

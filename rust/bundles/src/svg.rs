@@ -1,7 +1,8 @@
 //! A sheet as a picture for somebody who follows its wires.
 //!
-//! The picture is an SVG page of at most A4. Lines and letters have their sizes in millimetres of the
-//! page, whatever the sheet's lengths. A joint is a dot; where lines cross without one, the one goes
+//! The picture is an SVG page, A4 where everything that does not join can be drawn apart on it, else as
+//! large as that needs. Lines and letters have their sizes in millimetres of the page, whatever the
+//! sheet's lengths. A joint is a dot; where lines cross without one, the one goes
 //! over the other in an arch. Routes that lie over each other are drawn side by side.
 
 mod crossings;
@@ -18,29 +19,61 @@ mod scene;
 mod shapes;
 mod spans;
 mod stroke;
+mod walk;
+mod white;
 mod xml;
+
+use std::fmt;
 
 use bundle_stage::{Board, Point, Refusal, Sheet};
 
 use crate::explain::counted;
 use crate::joints::{Joints, name, words};
+use crate::names::Names;
 use crate::text::number;
+pub(crate) use xml::escaped;
+
 use drawn::strokes;
-use labels::{Labels, labels};
+use labels::labels;
 use legend::{Head, Legend};
-use page::{MARGIN, Page};
+use page::{MARGIN, PAPERS, Page};
 use palette::{BLACK, GREY};
 use pens::Pens;
 use scene::Scene;
 use shapes::{lines, marks, nodes, ports};
-use xml::{escaped, mm};
+use stroke::Stroke;
+use white::unclear;
+use xml::mm;
 
-/// Above the limits of a job, so that only a refused one has more: it is then drawn without arches
-/// and ids, whose cost grows with the square.
+/// Above the limits of a job, so that only a refused one has more: its routes are then left out, as
+/// the cost of drawing them apart grows with the square.
 const MOST_LINES: usize = 4_096;
 
+/// Why there is no picture: on no paper could all that does not join be drawn apart.
+#[derive(Clone, Debug, Eq, PartialEq)]
+pub struct Unclear {
+    what: String,
+}
+
+impl fmt::Display for Unclear {
+    fn fmt(&self, to: &mut fmt::Formatter<'_>) -> fmt::Result {
+        let (long, short) = PAPERS[PAPERS.len() - 1];
+        let what = &self.what;
+        write!(
+            to,
+            "no picture, as it would mislead: on paper of {long} by {short} mm still {what}"
+        )
+    }
+}
+
+impl std::error::Error for Unclear {}
+
 /// The finished sheet. `board` is the one that it is the answer to.
-pub fn svg(board: &Board, sheet: &Sheet, title: &str) -> String {
+///
+/// # Errors
+///
+/// Where on no paper all that does not join can be drawn apart.
+pub fn svg(board: &Board, sheet: &Sheet, names: &Names, title: &str) -> Result<String, Unclear> {
     let crossings = if board.flags.permit_crossings {
         "permitted"
     } else {
@@ -60,6 +93,7 @@ pub fn svg(board: &Board, sheet: &Sheet, title: &str) -> String {
     let joints = Joints::of(board, sheet);
     let mut scene = Scene::of_sheet(board, sheet);
     scene.mark(joints.found());
+    scene.names = names.clone();
     let head = Head {
         title: title.to_string(),
         about: Some(about),
@@ -81,52 +115,87 @@ fn capital(line: String) -> String {
     line[..1].to_uppercase() + &line[1..]
 }
 
-/// The board alone, in grey, with the words of its refusal.
-pub fn svg_refused(board: &Board, refusal: Refusal, title: &str) -> String {
-    let head = Head {
+/// The board alone, in grey, with the words of its refusal. Routes that cannot be drawn apart are left
+/// out.
+pub fn svg_refused(board: &Board, refusal: Refusal, names: &Names, title: &str) -> String {
+    let mut head = Head {
         title: title.to_string(),
         about: None,
         warnings: vec![refusal.to_string()],
     };
-    picture(Scene::of_board(board), &head, GREY, None)
+    let mut scene = Scene::of_board(board);
+    scene.names = names.clone();
+    if scene.lines().len() <= MOST_LINES
+        && let Ok(svg) = picture(scene.clone(), &head, GREY, None)
+    {
+        return svg;
+    }
+    scene.routes.clear();
+    let without = "The routes are not shown: they cannot be drawn apart.";
+    head.warnings.push(without.to_string());
+    // Without lines nothing can touch.
+    picture(scene, &head, GREY, None).unwrap_or_default()
 }
 
-/// `ink` is for what has no colour of its own; `said` stands below the legend.
-fn picture(scene: Scene, head: &Head, ink: &str, said: Option<String>) -> String {
+/// On the smallest paper on which all that does not join is drawn apart. `ink` is for what has no
+/// colour of its own; `said` stands below the legend.
+fn picture(scene: Scene, head: &Head, ink: &str, said: Option<String>) -> Result<String, Unclear> {
     let legend = Legend::of(&scene, said);
-    let page = Page::of(
-        &scene,
-        |width| head.height(width),
-        |width| legend.height(width),
-    );
-    let mut scene = scene.moved(|point| page.at(point));
-    let busy = scene.lines().len() > MOST_LINES;
-    let mut pens = if busy { Pens::thin() } else { Pens::of(&scene) };
-    let strokes = strokes(&mut scene, &mut pens, busy);
+    let mut what = String::new();
+    for paper in 0..PAPERS.len() {
+        let page = Page::of(
+            &scene,
+            paper,
+            |width| head.height(width),
+            |width| legend.height(width),
+        );
+        let mut scene = scene.clone().moved(|point| page.at(point));
+        let mut pens = Pens::of(&scene);
+        let strokes = strokes(&mut scene, &mut pens, paper >= TUNNELS);
+        match unclear(&scene, &strokes, &pens) {
+            None => {
+                return Ok(page_of(
+                    &scene,
+                    (&strokes, &pens),
+                    (head, &legend),
+                    &page,
+                    ink,
+                ));
+            }
+            Some(words) => what = words,
+        }
+    }
+    Err(Unclear { what })
+}
+
+/// From this paper on, which is A0, a line may go under several others in one gap.
+const TUNNELS: usize = 4;
+
+/// All of a page.
+fn page_of(
+    scene: &Scene,
+    (strokes, pens): (&[Stroke], &Pens),
+    (head, legend): (&Head, &Legend),
+    page: &Page,
+    ink: &str,
+) -> String {
     let corner = |x: f64, y: f64| Point { x, y };
     let frame = (
         corner(MARGIN / 2.0, page.top - 6.0),
         corner(page.width - MARGIN / 2.0, page.bottom + 1.0),
     );
-    let labels = if busy {
-        Labels {
-            svg: String::new(),
-            left_out: Vec::new(),
-        }
-    } else {
-        labels(&scene, &strokes, &pens, frame)
-    };
+    let labels = labels(scene, strokes, pens, frame);
     let inner = page.width - 2.0 * MARGIN;
-    let mut svg = opened(&page, &head.title);
+    let mut svg = opened(page, &head.title);
     svg.push_str(&head.draw(corner(MARGIN, MARGIN), inner));
-    svg.push_str(&nodes(&scene, &pens, ink));
-    svg.push_str(&lines(&scene, &strokes, &pens, ink));
-    svg.push_str(&ports(&scene, &pens, ink));
+    svg.push_str(&nodes(scene, pens, ink));
+    svg.push_str(&lines(scene, strokes, pens, ink));
+    svg.push_str(&ports(scene, pens, ink));
     svg.push_str("<g class=\"ids\" text-anchor=\"middle\">\n");
     svg.push_str(&labels.svg);
     svg.push_str("</g>\n");
-    svg.push_str(&marks(&scene, page.width));
-    let note = note(&scene, &labels.left_out, &page);
+    svg.push_str(&marks(scene, page.width));
+    let note = note(scene, &labels.left_out, page);
     svg.push_str(&legend.draw(corner(MARGIN, page.bottom), inner, &note));
     svg + "</svg>\n"
 }

@@ -6,6 +6,7 @@ use std::fs;
 
 use bundle_stage::{Answer, Board, Sheet};
 use bundles::explain::explain;
+use bundles::names::Names;
 use bundles::svg::svg;
 use bundles::text;
 
@@ -81,7 +82,11 @@ fn another_answer() {
     let mut sheet = drawn(&board);
     sheet.routes[0].points[0].x += 1.0;
     let said = "not looked at, as the stage gives another answer to this job";
-    assert!(svg(&board, &sheet, "other").contains(&format!(">Joints: {said}.</text>")));
+    assert!(
+        svg(&board, &sheet, &Names::default(), "other")
+            .expect("a clear picture")
+            .contains(&format!(">Joints: {said}.</text>"))
+    );
     assert_eq!(explained(&board, sheet), format!("joints: {said}\n"));
 }
 
@@ -98,7 +103,8 @@ fn in_pictures() {
         ),
     ] {
         let board = job(name);
-        let picture = svg(&board, &drawn(&board), name);
+        let picture =
+            svg(&board, &drawn(&board), &Names::default(), name).expect("a clear picture");
         assert_eq!(picture.matches("class=\"false-joint\"").count(), 1);
         assert!(picture.contains(&format!(">{words}</text>")), "{picture}");
         assert!(picture.contains(">false joint, or a route in a node</text>"));
@@ -106,7 +112,8 @@ fn in_pictures() {
     }
     for name in ["clock-board", "crossings"] {
         let board = example(name);
-        let picture = svg(&board, &drawn(&board), name);
+        let picture =
+            svg(&board, &drawn(&board), &Names::default(), name).expect("a clear picture");
         assert!(!picture.contains("false-joint") && !picture.contains("warning"));
         assert_eq!(picture.matches("class=\"joints\"").count(), 1);
     }

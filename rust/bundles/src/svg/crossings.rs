@@ -5,6 +5,7 @@ use bundle_stage::Point;
 
 use super::spans::{Span, Way};
 use super::stroke::{Arch, Gap, Piece, Stroke};
+use super::white::{KEPT, WHITE};
 
 /// Where a piece goes over another.
 struct Over {
@@ -16,8 +17,9 @@ struct Over {
     there: f64,
 }
 
-/// Gives the strokes their arches.
-pub fn bridge(strokes: &mut [Stroke]) {
+/// Gives the strokes their arches. With `tunnels` a line of which too little would be left between two
+/// that go over it has one gap there.
+pub fn bridge(strokes: &mut [Stroke], tunnels: bool) {
     let pieces = strokes.iter().enumerate();
     let pieces = pieces.flat_map(|(stroke, of)| {
         let pieces = of.pieces().enumerate();
@@ -67,7 +69,8 @@ pub fn bridge(strokes: &mut [Stroke]) {
                 .find(|arch| arch.first <= crossed.at && crossed.at <= arch.last);
             let rise = arch.map_or(0.0, |arch| arch.rise);
             let (stroke, place, under) = &pieces[crossed.under];
-            strokes[*stroke].gaps[*place].push(gap(piece, rise, width, under, crossed.there));
+            let widths = (width, strokes[*stroke].width);
+            strokes[*stroke].gaps[*place].push(gap(piece, rise, widths, under, crossed.there));
         }
         // Without a rise the line goes straight on.
         arches.retain(|arch| arch.rise != 0.0);
@@ -75,11 +78,27 @@ pub fn bridge(strokes: &mut [Stroke]) {
     }
     for gaps in strokes.iter_mut().flat_map(|stroke| &mut stroke.gaps) {
         gaps.sort_by(|a, b| a.from.total_cmp(&b.from));
+        if tunnels {
+            *gaps = merged(gaps);
+        }
     }
 }
 
-/// The gap of a line where another one goes over it in an arch.
-fn gap(over: &Piece, rise: f64, width: f64, under: &Piece, there: f64) -> Gap {
+/// Gaps in order, those that are too near to each other as one.
+fn merged(gaps: &[Gap]) -> Vec<Gap> {
+    let mut to: Vec<Gap> = Vec::new();
+    for gap in gaps {
+        match to.last_mut() {
+            Some(last) if gap.from - last.to < KEPT => last.to = last.to.max(gap.to),
+            _ => to.push(*gap),
+        }
+    }
+    to
+}
+
+/// The gap of a line where another one goes over it in an arch. The widths are those of the upper and
+/// of the lower one.
+fn gap(over: &Piece, rise: f64, widths: (f64, f64), under: &Piece, there: f64) -> Gap {
     let (ahead, left) = (over.at(1.0, 0.0), over.at(0.0, 1.0));
     let step = under.at(1.0, 0.0);
     let (x, y) = (step.x - under.start.x, step.y - under.start.y);
@@ -89,15 +108,23 @@ fn gap(over: &Piece, rise: f64, width: f64, under: &Piece, there: f64) -> Gap {
         .abs()
         .max(0.2);
     let middle = there + rise * across;
-    let half = (width / 2.0 + CLEAR * width.min(0.5)) / square;
+    // A slanted line is cut square, so that one of its corners reaches further.
+    let slant = ((ahead.x - over.start.x) * x + (ahead.y - over.start.y) * y).abs();
+    // It also meets the arch beside its top.
+    let half = (widths.0 / 2.0 + 1.05 * WHITE + widths.1 / 2.0 * slant) / square
+        + 0.5 * slant * rise.abs();
+    // Below the arch, where its sides come down beside the line, a little more.
+    let inside = half + (0.15 + slant) * rise.abs();
+    let (before, after) = if rise * across > 0.0 {
+        (inside, half)
+    } else {
+        (half, inside)
+    };
     Gap {
-        from: (middle - half).max(0.0),
-        to: (middle + half).min(under.length()),
+        from: (middle - before).max(0.0),
+        to: (middle + after).min(under.length()),
     }
 }
-
-/// What is left white on both sides of a line that goes over another, in widths of the line.
-const CLEAR: f64 = 0.7;
 
 /// Lets arches end before the lines beside them that the piece does not cross.
 fn narrow(piece: &Piece, over: &mut [Over], lines: &[(Point, Point)], width: f64) {

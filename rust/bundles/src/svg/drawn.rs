@@ -10,11 +10,12 @@ use super::pens::Pens;
 use super::scene::{Port, Route, Scene, Tap, Trunk, corners};
 use super::spans::{Way, room};
 use super::stroke::{NO_END, Piece, Stroke, apart};
+use super::white::{SEEN, WHITE};
 
 /// The routes' strokes, then for each bundle those of its spine and its collector. Taps and
 /// collectors of the scene follow the routes that are drawn side by side; where these are very near
 /// to each other, routes are drawn thinner.
-pub fn strokes(scene: &mut Scene, pens: &mut Pens, busy: bool) -> Vec<Stroke> {
+pub fn strokes(scene: &mut Scene, pens: &mut Pens, tunnels: bool) -> Vec<Stroke> {
     let routes = scene.routes.iter();
     let given = routes
         .map(|route| lanes::corners(&route.points))
@@ -22,26 +23,19 @@ pub fn strokes(scene: &mut Scene, pens: &mut Pens, busy: bool) -> Vec<Stroke> {
     let tapped = scene.routes.iter();
     let tapped = tapped.map(|route| (route.input.is_some(), route.output.is_some()));
     let tapped = tapped.collect::<Vec<_>>();
-    let mut shifted = if busy {
-        given.clone()
-    } else {
-        let lines = lanes::Lines {
-            routes: &given,
-            tapped: &tapped,
-            trunks: &trunks(scene),
-            sides: &sides(scene),
-        };
-        let (shifted, least) = lanes::spread(&lines, 2.6 * pens.route);
-        pens.route = pens.route.min((0.6 * least).max(0.16));
-        shifted
+    let lines = lanes::Lines {
+        routes: &given,
+        tapped: &tapped,
+        trunks: &trunks(scene),
+        sides: &sides(scene),
     };
+    let (mut shifted, least) = lanes::spread(&lines, pens.route + LANE);
+    pens.route = pens.route.min((0.6 * least).max(0.14));
     for trunk in &mut scene.trunks {
         follow(trunk, &scene.routes, &given, &shifted);
     }
-    if !busy {
-        widen(&mut scene.ports, &given, &shifted);
-        part(&mut shifted, &tapped, 3.0 * pens.route);
-    }
+    widen(&mut scene.ports, &given, &shifted);
+    part(&mut shifted, &tapped, 3.0 * pens.route);
     let mut strokes = shifted
         .into_iter()
         .map(|corners| Stroke::new(corners, pens.route, None))
@@ -63,9 +57,7 @@ pub fn strokes(scene: &mut Scene, pens: &mut Pens, busy: bool) -> Vec<Stroke> {
         }
     }
     strokes.extend(of_trunks);
-    if !busy {
-        bridge(&mut strokes);
-    }
+    bridge(&mut strokes, tunnels);
     strokes
 }
 
@@ -94,19 +86,28 @@ fn weigh(scene: &mut Scene, routes: &[Stroke], pens: &Pens) {
         let room = room.fold(f64::INFINITY, f64::min);
         let radius = |tap: &Tap| {
             let (trunks, runs) = foreign(tap.at, place, scene, routes);
-            pens.dot.min(0.36 * trunks).min(0.6 * runs).max(LEAST / 2.0)
+            let others = trunk.taps.iter().map(|other| apart(other.at, tap.at));
+            let others = others.filter(|far| *far >= lanes::NO_STEP);
+            let others = others.fold(f64::INFINITY, f64::min);
+            let room = (runs - pens.route / 2.0 - WHITE).min((others - WHITE) / 2.0);
+            pens.dot.min(0.36 * trunks).min(0.98 * room).max(LEAST_DOT)
         };
         let radii = trunk.taps.iter().map(radius).collect::<Vec<_>>();
+        let dot = radii.iter().copied().fold(f64::INFINITY, f64::min);
         let trunk = &mut scene.trunks[place];
-        trunk.weight = pens.trunk.min(0.7 * room).max(LEAST);
+        let weight = pens.trunk.min(0.7 * room).min(2.0 * (dot - SEEN));
+        trunk.weight = weight.max(LEAST);
         for (tap, radius) in trunk.taps.iter_mut().zip(radii) {
             tap.radius = radius;
         }
     }
 }
 
-/// No trunk is thinner.
+/// No trunk is thinner, no dot has a smaller radius.
 const LEAST: f64 = 0.3;
+const LEAST_DOT: f64 = 0.3;
+/// What is white between routes that are drawn side by side, where there is room.
+const LANE: f64 = 1.15;
 
 /// The segments of the other bundles.
 fn others_of(scene: &Scene, place: usize) -> impl Iterator<Item = (Point, Point)> {

@@ -1,6 +1,6 @@
 //! Ids, where they fit.
 
-use bundle_stage::{Node, Point, Side};
+use bundle_stage::{Endpoint, Node, Point, Side};
 
 use crate::explain::counted;
 
@@ -72,18 +72,29 @@ pub fn labels(scene: &Scene, strokes: &[Stroke], pens: &Pens, page: (Point, Poin
         words(at, label.spot.size, &format!("{more}{turned}"), &label.text)
     };
     for label in &ports {
-        svg.push_str(&text(label, "class=\"port-id\" fill=\"#666666\""));
+        let Endpoint { node, port } = scene.ports[label.place].name;
+        let of = format!("data-of=\"port-{node}-{port}\"");
+        let more = format!("class=\"port-id\" {of} fill=\"#666666\"");
+        svg.push_str(&text(label, &more));
     }
     for label in &nodes {
-        svg.push_str(&text(label, "class=\"node-id\" font-weight=\"bold\""));
+        let id = scene.nodes[label.place].id;
+        let more = format!("class=\"node-id\" data-of=\"node-{id}\" font-weight=\"bold\"");
+        svg.push_str(&text(label, &more));
     }
     for label in &edges {
-        svg.push_str(&text(label, "class=\"edge-id\""));
+        let id = scene.routes[label.place].id;
+        svg.push_str(&text(
+            label,
+            &format!("class=\"edge-id\" data-of=\"route-{id}\""),
+        ));
     }
     for label in &pills {
         let Rect { low, high } = label.spot.rect;
         let rect = Rect::of(low, high, -AROUND);
-        svg.push_str(&pill(&label.text, rect, label.place, label.spot.size));
+        let id = scene.trunks[label.place].id;
+        let pill = pill(&label.text, rect, label.place, label.spot.size);
+        svg.push_str(&format!("<g data-of=\"bundle-{id}\">\n{pill}</g>\n"));
     }
     Labels { svg, left_out }
 }

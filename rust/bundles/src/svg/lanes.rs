@@ -7,9 +7,10 @@
 use bundle_stage::Point;
 
 use super::spans::{Span, Way, room};
+use super::walk::{Walk, side};
 
 /// Lines nearer than this, in millimetres, are one line to the eye.
-const ONE_LINE: f64 = 0.1;
+pub const ONE_LINE: f64 = 0.1;
 /// A shorter step, in millimetres, is none.
 pub const NO_STEP: f64 = 0.05;
 /// Runs on one line that end this near to each other would look like one.
@@ -69,11 +70,30 @@ pub fn corners(points: &[Point]) -> Vec<Point> {
 }
 
 /// The corners of the routes where they are shifted. `pitch` is the shift from one to the next where
-/// there is room; the least one that was used is told too.
+/// there is room; the least one that was used is told too. Where little room is left, lines that are
+/// further from each other are shifted together.
 pub fn spread(lines: &Lines<'_>, pitch: f64) -> (Vec<Vec<Point>>, f64) {
+    let mut best = spread_near(lines, pitch, (0.6 * pitch).max(ONE_LINE));
+    for further in [1.2, 2.4, 4.8] {
+        if best.1 > TIGHT {
+            break;
+        }
+        let other = spread_near(lines, pitch, further * pitch);
+        if other.1 > best.1 {
+            best = other;
+        }
+    }
+    best
+}
+
+/// A pitch that leaves too little white, in millimetres.
+const TIGHT: f64 = 0.42;
+/// The most for upright runs that end at a tap: the shift is then inside its dot.
+const AT_TAP: f64 = 0.6;
+
+fn spread_near(lines: &Lines<'_>, pitch: f64, near: f64) -> (Vec<Vec<Point>>, f64) {
     let routes = lines.routes;
     let mut least = pitch;
-    let near = (0.6 * pitch).max(ONE_LINE);
     let mut shifts = routes
         .iter()
         .map(|route| vec![0.0; route.len().saturating_sub(1)])
@@ -84,7 +104,12 @@ pub fn spread(lines: &Lines<'_>, pitch: f64) -> (Vec<Vec<Point>>, f64) {
         for group in groups(&runs, near) {
             let rows = rows(routes, way, &group, near);
             let last = rows.iter().copied().max().unwrap_or(0);
-            let pitch = pitch.min(0.8 * free(&group, &runs, &sides) / last.max(1) as f64);
+            let most = if way == Way::Upright && group.iter().any(|run| at_tap(lines, run)) {
+                AT_TAP
+            } else {
+                pitch
+            };
+            let pitch = most.min(0.9 * free(&group, &runs, &sides) / last.max(1) as f64);
             least = least.min(pitch);
             // Row 0 is where a trunk keeps its place, or else the middle does.
             let trunk = group
@@ -125,6 +150,13 @@ pub fn spread(lines: &Lines<'_>, pitch: f64) -> (Vec<Vec<Point>>, f64) {
         to
     });
     (shifted.collect(), least)
+}
+
+/// Whether a run of a route ends at its tap.
+fn at_tap(lines: &Lines<'_>, run: &Run<'_>) -> bool {
+    let (first, last) = lines.tapped.get(run.route).copied().unwrap_or_default();
+    let count = lines.routes.get(run.route).map_or(0, Vec::len);
+    run.members.is_none() && (first && run.start == 0 || last && run.start + 2 == count)
 }
 
 fn runs<'a>(lines: &Lines<'a>, way: Way) -> Vec<Run<'a>> {
@@ -251,93 +283,6 @@ fn order(routes: &[Vec<Point>], way: Way, a: &Run<'_>, b: &Run<'_>) -> i32 {
     match way {
         Way::Level => left,
         Way::Upright => -left,
-    }
-}
-
-/// A route being walked: the corner reached, and which way its corners are taken.
-#[derive(Clone, Copy)]
-struct Walk<'a> {
-    corners: &'a [Point],
-    at: usize,
-    forward: bool,
-}
-
-impl Walk<'_> {
-    fn corner(&self, steps: usize) -> Option<Point> {
-        let at = if self.forward {
-            self.at.checked_add(steps)
-        } else {
-            self.at.checked_sub(steps)
-        };
-        self.corners.get(at?).copied()
-    }
-
-    fn here(&self) -> Point {
-        self.corners[self.at]
-    }
-
-    /// −1 where it turns left here, seen in the direction of the walk, 1 where it turns right.
-    fn turn(&self, toward: Point) -> i32 {
-        let Some(next) = self.corner(1) else {
-            return 0;
-        };
-        let (x, y) = (next.x - self.here().x, next.y - self.here().y);
-        let right = toward.x * y - toward.y * x;
-        i32::from(right > 0.0) - i32::from(right < 0.0)
-    }
-}
-
-/// −1 where the first of two walks along one line leaves it to the left of the second, 1 to the
-/// right, 0 where they end together.
-fn side<'a>(way: Way, mut a: Walk<'a>, mut b: Walk<'a>) -> i32 {
-    let sign = |walk: &Walk<'_>, way: Way, from: Point| {
-        (way.along(walk.here()) - way.along(from)).signum()
-    };
-    let behind = |walk: &Walk<'_>| {
-        let at = if walk.forward {
-            walk.at - 1
-        } else {
-            walk.at + 1
-        };
-        walk.corners[at]
-    };
-    let mut toward = unit(way, sign(&a, way, behind(&a)));
-    loop {
-        let ahead = |walk: &Walk<'_>| walk.here().x * toward.x + walk.here().y * toward.y;
-        let gap = ahead(&a) - ahead(&b);
-        let (left, right) = (a.turn(toward), b.turn(toward));
-        if gap < -ONE_LINE {
-            return left;
-        }
-        if gap > ONE_LINE {
-            return -right;
-        }
-        if left != right || left == 0 {
-            return (left - right).signum();
-        }
-        let from = a.here();
-        let (Some(next), Some(other)) = (a.corner(1), b.corner(1)) else {
-            return 0;
-        };
-        let Some(way) = Way::of(from, next).filter(|way| Way::of(b.here(), other) == Some(*way))
-        else {
-            return 0;
-        };
-        for walk in [&mut a, &mut b] {
-            walk.at = if walk.forward {
-                walk.at + 1
-            } else {
-                walk.at - 1
-            };
-        }
-        toward = unit(way, sign(&a, way, from));
-    }
-}
-
-fn unit(way: Way, sign: f64) -> Point {
-    match way {
-        Way::Level => Point { x: sign, y: 0.0 },
-        Way::Upright => Point { x: 0.0, y: sign },
     }
 }
 

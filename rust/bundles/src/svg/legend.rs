@@ -1,6 +1,6 @@
 //! Words on the page: the title and what stands below it, the legend and what it explains.
 
-use bundle_stage::{Point, Role};
+use bundle_stage::{Endpoint, Point, Role};
 
 use super::labels::{pill_at, pill_size};
 use super::palette::{BLACK, WARNING, colour, mark};
@@ -102,7 +102,7 @@ impl Legend {
             TEXT
         };
         let bundles = scene.trunks.iter().enumerate();
-        let bundles = bundles.map(|(place, trunk)| bundle(place, trunk, size));
+        let bundles = bundles.map(|(place, trunk)| bundle(scene, place, trunk, size));
         Legend {
             signs: signs(scene),
             bundles: bundles.collect(),
@@ -187,14 +187,16 @@ fn columns(signs: &[Sign], width: f64) -> (Vec<(f64, usize)>, usize) {
     (places.collect(), rows)
 }
 
-fn bundle(place: usize, trunk: &Trunk, size: f64) -> Sign {
+fn bundle(scene: &Scene, place: usize, trunk: &Trunk, size: f64) -> Sign {
     let name = format!("B{}", trunk.id);
     let role = match trunk.role {
         Role::Input => "input",
         Role::Output => "output",
     };
     let inside = if trunk.interior { "interior" } else { "rail" };
-    let members = crate::explain::counted(trunk.taps.len(), "member");
+    let called = scene.names.bundle(trunk.id);
+    let called = called.map(|name| format!("{name}: ")).unwrap_or_default();
+    let way = way(scene, place, trunk);
     let line = marked(
         &format!("M0 0H{}", mm(SAMPLE)),
         1.1,
@@ -209,7 +211,31 @@ fn bundle(place: usize, trunk: &Trunk, size: f64) -> Sign {
         sample: line + &pill_at(&name, at, place, size),
         start: at.x + pill_size(&name, size).0 + 1.0,
         size,
-        text: format!("{role}, {inside}, {members}, width {}", trunk.width),
+        text: format!("{called}{way}; {role}, {inside}, width {}", trunk.width),
+    }
+}
+
+/// No more ports are named of one bundle.
+const MOST_PORTS: usize = 8;
+
+/// From which ports a bundle leads to which.
+fn way(scene: &Scene, place: usize, trunk: &Trunk) -> String {
+    let members = scene.routes.iter().filter(|route| route.member_of(place));
+    let ports = members.map(|route| match trunk.role {
+        Role::Input => route.target,
+        Role::Output => route.source,
+    });
+    let name = |at: Endpoint| format!("{}:{}", at.node, at.port);
+    let ports = ports.map(name).collect::<Vec<_>>();
+    let more = ports.len().saturating_sub(MOST_PORTS);
+    let mut named = ports[..ports.len() - more].join(", ");
+    if more > 0 {
+        named.push_str(&format!(" and {more} more"));
+    }
+    let end = name(trunk.endpoint);
+    match trunk.role {
+        Role::Input => format!("{end} \u{2192} {named}"),
+        Role::Output => format!("{named} \u{2192} {end}"),
     }
 }
 

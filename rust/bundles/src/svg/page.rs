@@ -9,8 +9,18 @@ use super::spans::{Way, low, room};
 pub const MARGIN: f64 = 10.0;
 /// Around the sheet, for ids that stand outside.
 const RIM: f64 = 5.0;
-/// A4, lying and standing.
-const PAPERS: [(f64, f64); 2] = [(297.0, 210.0), (210.0, 297.0)];
+/// Papers from A4 on, each with twice the area of the one before, by their longer and shorter sides.
+pub const PAPERS: [(f64, f64); 9] = [
+    (297.0, 210.0),
+    (420.0, 297.0),
+    (594.0, 420.0),
+    (841.0, 594.0),
+    (1189.0, 841.0),
+    (1682.0, 1189.0),
+    (2378.0, 1682.0),
+    (3364.0, 2378.0),
+    (4756.0, 3364.0),
+];
 /// Lines should lie so far from each other: level ones so that an id fits between them.
 const WANTED: [f64; 2] = [3.6, 1.8];
 
@@ -37,12 +47,18 @@ struct Extent {
 }
 
 impl Page {
-    /// The A4 page, lying or standing, on which the sheet is larger; no higher than it has to be.
-    /// `head` and `foot` say how high the words above and below are on a page of some width.
-    pub fn of(scene: &Scene, head: impl Fn(f64) -> f64, foot: impl Fn(f64) -> f64) -> Page {
+    /// A page of the paper with this place, lying or standing, whichever has the sheet larger; no
+    /// higher than it has to be. `head` and `foot` say how high the words above and below are on a
+    /// page of some width.
+    pub fn of(
+        scene: &Scene,
+        paper: usize,
+        head: impl Fn(f64) -> f64,
+        foot: impl Fn(f64) -> f64,
+    ) -> Page {
         let extent = extent(scene);
         let size = [extent.high.x - extent.low.x, extent.high.y - extent.low.y];
-        let wanted = wanted(scene, size);
+        let wanted = wanted(scene, paper, size);
         let fit = |(width, height): (f64, f64)| {
             let inner = width - 2.0 * MARGIN;
             let used = 2.0 * MARGIN + 2.0 * RIM + head(inner) + foot(inner);
@@ -54,7 +70,8 @@ impl Page {
             let scale = [0, 1].map(|way| wanted[way].min(parts[way]).max(even));
             (width, even, scale)
         };
-        let [lying, standing] = PAPERS.map(fit);
+        let (long, short) = PAPERS[paper];
+        let [lying, standing] = [(long, short), (short, long)].map(fit);
         let (width, _, scale) = if standing.1 > lying.1 {
             standing
         } else {
@@ -87,18 +104,17 @@ impl Page {
     }
 }
 
-/// What the scale would have to be across and down so that lines are as far apart as wanted.
-fn wanted(scene: &Scene, size: [f64; 2]) -> [f64; 2] {
+/// What the scale would have to be across and down so that lines are as far apart as wanted: most of
+/// them on the first paper, all of them on the others.
+fn wanted(scene: &Scene, paper: usize, size: [f64; 2]) -> [f64; 2] {
     let lines = scene.lines();
-    if lines.len() > super::MOST_LINES {
-        return [0.0, 0.0];
-    }
+    let parts = if paper == 0 { 10 } else { usize::MAX };
     // Level lines are spread by the scale down, upright ones by the scale across.
     [(Way::Upright, 1), (Way::Level, 0)].map(|(way, wanted)| {
         let near = 1e-9 * size[1 - wanted];
         let spans = way.spans(&lines);
         let rooms = spans.iter().map(|span| room(span, &spans, near));
-        let least = low(rooms.filter(|room| room.is_finite()).collect(), 10);
+        let least = low(rooms.filter(|room| room.is_finite()).collect(), parts);
         least.map_or(0.0, |least| WANTED[wanted] / least)
     })
 }

@@ -6,20 +6,20 @@ const COLOURS: [&str; 6] = [
     "#0072b2", "#d55e00", "#009e73", "#cc79a7", "#e69f00", "#56b4e9",
 ];
 
-/// White lines in the middle of a trunk: dashes in widths of the trunk.
+/// White dashes in the middle of a trunk, in widths of the trunk. They are short: beside a long one the
+/// trunk would look like two routes.
 const MARKS: [Mark; 6] = [
     Mark::Plain,
-    Mark::Hollow,
-    Mark::Dashed(&[3.0, 1.6]),
-    Mark::Dashed(&[0.4, 1.6]),
-    Mark::Dashed(&[1.2, 1.2]),
-    Mark::Dashed(&[3.0, 1.2, 0.4, 1.2]),
+    Mark::Dashed(&[0.5, 3.5]),
+    Mark::Dashed(&[1.4, 1.4]),
+    Mark::Dashed(&[0.5, 1.0]),
+    Mark::Dashed(&[0.5, 0.8, 0.5, 3.2]),
+    Mark::Dashed(&[1.4, 1.0, 0.5, 1.0]),
 ];
 
 #[derive(Clone, Copy)]
 pub enum Mark {
     Plain,
-    Hollow,
     Dashed(&'static [f64]),
 }
 

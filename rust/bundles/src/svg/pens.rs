@@ -57,15 +57,4 @@ impl Pens {
             node: (0.2 * side).clamp(0.15, 0.4),
         }
     }
-
-    /// For a board with very many lines.
-    pub fn thin() -> Pens {
-        Pens {
-            route: 0.1,
-            trunk: 0.5,
-            dot: 0.4,
-            port: 0.6,
-            node: 0.15,
-        }
-    }
 }

@@ -7,17 +7,21 @@ use bundle_stage::{
 };
 
 use crate::joints::{name, words};
+use crate::names::Names;
 
+#[derive(Clone)]
 pub struct Scene {
     pub nodes: Vec<Node>,
     pub ports: Vec<Port>,
     pub routes: Vec<Route>,
     pub trunks: Vec<Trunk>,
     pub marks: Vec<Mark>,
+    pub names: Names,
     /// How many nodes, ports, routes and bundles have a number that no page can show.
     pub left_out: usize,
 }
 
+#[derive(Clone)]
 pub struct Port {
     pub name: Endpoint,
     pub at: Point,
@@ -27,6 +31,7 @@ pub struct Port {
     pub high: Point,
 }
 
+#[derive(Clone)]
 pub struct Route {
     pub id: Id,
     pub source: Endpoint,
@@ -39,6 +44,7 @@ pub struct Route {
 }
 
 /// A bundle as drawn.
+#[derive(Clone)]
 pub struct Trunk {
     pub id: Id,
     pub endpoint: Endpoint,
@@ -52,6 +58,7 @@ pub struct Trunk {
     pub weight: f64,
 }
 
+#[derive(Clone)]
 pub struct Tap {
     pub edge: Id,
     pub at: Point,
@@ -62,6 +69,7 @@ pub struct Tap {
 }
 
 /// A false joint.
+#[derive(Clone)]
 pub struct Mark {
     pub at: Point,
     pub name: &'static str,
@@ -167,6 +175,7 @@ impl Scene {
             routes: Vec::new(),
             trunks: Vec::new(),
             marks: Vec::new(),
+            names: Names::default(),
         }
     }
 

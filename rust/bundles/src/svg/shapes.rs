@@ -1,6 +1,6 @@
 //! Nodes, ports, routes and bundles as SVG: a group with a title for each.
 
-use bundle_stage::{Endpoint, Node};
+use bundle_stage::{Endpoint, Id, Node};
 
 use super::field::{Rect, moved};
 use super::palette::{WARNING, colour, mark};
@@ -8,10 +8,16 @@ use super::paths::{line, marked, path};
 use super::pens::Pens;
 use super::scene::{MARK, Route, Scene, Tap};
 use super::stroke::{Stroke, halves};
-use super::xml::{mm, wide_bold, words};
+use super::xml::{escaped, mm, wide_bold, words};
 
 fn name(endpoint: Endpoint) -> String {
     format!("{}:{}", endpoint.node, endpoint.port)
+}
+
+/// A name behind an id, where there is one.
+fn called(name: Option<&str>) -> String {
+    name.map(|name| format!(" {}", escaped(name)))
+        .unwrap_or_default()
 }
 
 pub fn nodes(scene: &Scene, pens: &Pens, ink: &str) -> String {
@@ -31,8 +37,9 @@ pub fn nodes(scene: &Scene, pens: &Pens, ink: &str) -> String {
         // A side of no length would not show.
         let (width, height) = (width.max(0.4), height.max(0.4));
         svg.push_str(&format!(
-            "<g class=\"node\" id=\"node-{id}\"><title>node {id}</title><rect x=\"{}\" y=\"{}\" \
+            "<g class=\"node\" id=\"node-{id}\"><title>node {id}{}</title><rect x=\"{}\" y=\"{}\" \
              width=\"{}\" height=\"{}\"/></g>\n",
+            called(scene.names.node(*id)),
             mm(*x),
             mm(*y),
             mm(width),
@@ -51,13 +58,16 @@ pub fn ports(scene: &Scene, pens: &Pens, ink: &str) -> String {
     );
     for port in &scene.ports {
         svg.push_str(&format!(
-            "<rect class=\"port\" x=\"{}\" y=\"{}\" width=\"{}\" height=\"{}\">\
-             <title>port {}</title></rect>\n",
+            "<rect class=\"port\" id=\"port-{}-{}\" x=\"{}\" y=\"{}\" width=\"{}\" height=\"{}\">\
+             <title>port {}{}</title></rect>\n",
+            port.name.node,
+            port.name.port,
             mm(port.low.x - half),
             mm(port.low.y - half),
             mm(port.high.x - port.low.x + pens.port),
             mm(port.high.y - port.low.y + pens.port),
-            name(port.name)
+            name(port.name),
+            called(scene.names.port(port.name.node, port.name.port)),
         ));
     }
     svg + "</g>\n"
@@ -78,11 +88,13 @@ pub fn lines(scene: &Scene, strokes: &[Stroke], pens: &Pens, ink: &str) -> Strin
     }
     for (place, (trunk, strokes)) in scene.trunks.iter().zip(of_trunks.chunks(2)).enumerate() {
         let d = strokes.iter().map(line).collect::<String>();
-        let taps = trunk.taps.iter().map(|tap| dot(tap, pens, colour(place)));
+        let taps = trunk.taps.iter();
+        let taps = taps.map(|tap| dot(trunk.id, tap, pens, colour(place)));
         bundles.push_str(&format!(
-            "<g class=\"bundle\" id=\"bundle-{}\"><title>bundle {} at {}</title>\n{}{}</g>\n",
+            "<g class=\"bundle\" id=\"bundle-{}\"><title>bundle {}{} at {}</title>\n{}{}</g>\n",
             trunk.id,
             trunk.id,
+            called(scene.names.bundle(trunk.id)),
             name(trunk.endpoint),
             marked(&d, trunk.weight, colour(place), mark(place)),
             taps.collect::<String>()
@@ -112,8 +124,9 @@ fn about_route(scene: &Scene, route: &Route) -> String {
     let bundles = [route.input, route.output].into_iter().flatten();
     let bundles = bundles.map(|place| format!(", bundle {}", scene.trunks[place].id));
     format!(
-        "edge {} from {} to {}{}",
+        "edge {}{} from {} to {}{}",
         route.id,
+        called(scene.names.edge(route.id)),
         name(route.source),
         name(route.target),
         bundles.collect::<String>()
@@ -121,7 +134,7 @@ fn about_route(scene: &Scene, route: &Route) -> String {
 }
 
 /// A tap's dot, an open one where it is not on its collector.
-fn dot(tap: &Tap, pens: &Pens, colour: &str) -> String {
+fn dot(bundle: Id, tap: &Tap, pens: &Pens, colour: &str) -> String {
     let (fill, more) = if tap.held {
         (colour, String::new())
     } else {
@@ -132,7 +145,8 @@ fn dot(tap: &Tap, pens: &Pens, colour: &str) -> String {
         )
     };
     format!(
-        "<circle class=\"tap\" cx=\"{}\" cy=\"{}\" r=\"{}\" fill=\"{fill}\"{more}/>\n",
+        "<circle class=\"tap\" id=\"tap-{bundle}-{}\" cx=\"{}\" cy=\"{}\" r=\"{}\" fill=\"{fill}\"{more}/>\n",
+        tap.edge,
         mm(tap.at.x),
         mm(tap.at.y),
         mm(tap.radius)

@@ -94,6 +94,25 @@ impl Piece {
         apart(at, self.at(along.clamp(0.0, self.length()), 0.0))
     }
 
+    /// How far another piece is from it, and a place on one of the two where it is.
+    pub fn to(&self, other: &Piece) -> (f64, Point) {
+        if let Some((here, _)) = self.crossing(other) {
+            return (0.0, self.at(here, 0.0));
+        }
+        let ends = [
+            (self.start, other),
+            (self.end, other),
+            (other.start, self),
+            (other.end, self),
+        ];
+        let near = ends.map(|(end, piece)| (piece.from(end), end));
+        let first = near[0];
+        near.into_iter().fold(
+            first,
+            |least, one| if one.0 < least.0 { one } else { least },
+        )
+    }
+
     /// How far along each of the two they cross, if they do, ends not counting.
     pub fn crossing(&self, other: &Piece) -> Option<(f64, f64)> {
         let apart = |a: f64, b: f64, c: f64, d: f64| a.max(b) < c.min(d) || c.max(d) < a.min(b);
@@ -126,7 +145,17 @@ pub fn apart(a: Point, b: Point) -> f64 {
     (a.x - b.x).hypot(a.y - b.y)
 }
 
-/// A stroke in two, near the middle of its length and outside every arch.
+/// The first place of a piece, from one on, that is in no arch and no gap.
+fn outside(stroke: &Stroke, turn: usize, from: f64) -> f64 {
+    let arches = stroke.arches[turn].iter().map(|arch| (arch.from, arch.to));
+    let gaps = stroke.gaps[turn].iter().map(|gap| (gap.from, gap.to));
+    let mut taken = arches.chain(gaps).collect::<Vec<_>>();
+    taken.sort_by(|a, b| a.0.total_cmp(&b.0));
+    let past = |at: f64, (from, to): (f64, f64)| if from < at && at < to { to } else { at };
+    taken.into_iter().fold(from, past)
+}
+
+/// A stroke in two, near the middle of its length and outside every arch and gap.
 pub fn halves(stroke: &Stroke) -> (Stroke, Stroke) {
     let half = stroke.pieces().map(|piece| piece.length()).sum::<f64>() / 2.0;
     let (mut before, mut turn) = (0.0, 0);
@@ -147,9 +176,7 @@ pub fn halves(stroke: &Stroke) -> (Stroke, Stroke) {
     }
     let piece = stroke.piece(turn);
     let wanted = (half - before).clamp(0.0, piece.length());
-    let mut inside = arches[turn].iter();
-    let inside = inside.find(|arch| arch.from < wanted && wanted < arch.to);
-    let cut = inside.map_or(wanted, |arch| arch.to);
+    let cut = outside(stroke, turn, wanted);
     let at = piece.at(cut, 0.0);
     let mut first = new(&[&corners[..=turn], &[at]]);
     let mut rest = new(&[&[at], &corners[turn + 1..]]);

@@ -6,8 +6,11 @@ mod read;
 
 use std::fs;
 
-use bundle_stage::{Answer, Board, Edge, Endpoint, Node, Point, Refusal, Sheet};
-use bundles::svg::{svg, svg_refused};
+use bundle_stage::{
+    Answer, Board, DrawnBundle, Edge, Endpoint, Node, Point, Refusal, Segment, Sheet,
+};
+use bundles::names::Names;
+use bundles::svg::Unclear;
 use bundles::text;
 use read::{Element, Line, beside, elements, lines, nearest};
 
@@ -20,6 +23,15 @@ fn example(name: &str) -> (Board, Sheet) {
     let board = text::read(&file(&format!("examples/{name}.txt"))).expect("a board");
     let sheet = board.draw().expect("a sheet");
     (board, sheet)
+}
+
+/// The picture of a sheet that can be drawn clearly.
+fn svg(board: &Board, sheet: &Sheet, title: &str) -> String {
+    bundles::svg::svg(board, sheet, &Names::default(), title).expect("a clear picture")
+}
+
+fn svg_refused(board: &Board, refusal: Refusal, title: &str) -> String {
+    bundles::svg::svg_refused(board, refusal, &Names::default(), title)
 }
 
 fn board(edges: &[(u32, &[(f64, f64)])]) -> Board {
@@ -52,7 +64,7 @@ fn of_class<'a>(elements: &'a [Element], class: &str) -> Vec<&'a Element> {
 }
 
 /// Every element is closed, every attribute is quoted, no number is infinite or none; and the page
-/// is no larger than A4, whichever way it lies.
+/// is as wide as a paper from A4 on, whichever way it lies, and no higher.
 fn checked(picture: &str) -> Vec<Element> {
     let elements = elements(picture);
     for element in &elements {
@@ -68,11 +80,11 @@ fn checked(picture: &str) -> Vec<Element> {
         length.parse::<f64>().expect("a number")
     };
     let (width, height) = (side("width"), side("height"));
-    let fits = |most: (f64, f64)| width <= most.0 && height <= most.1;
-    assert!(
-        fits((297.0, 210.0)) || fits((210.0, 297.0)),
-        "{width} by {height}"
-    );
+    let papers = [210, 297, 420, 594, 841, 1189, 1682, 2378, 3364, 4756].map(f64::from);
+    let fits = |paper: &[f64]| {
+        (width == paper[0] && height <= paper[1]) || (width == paper[1] && height <= paper[0])
+    };
+    assert!(papers.windows(2).any(fits), "{width} by {height}");
     elements
 }
 
@@ -141,12 +153,10 @@ fn stored_jobs() {
             let board = Board::from_bytes(&job).unwrap_or_default();
             match Answer::from_bytes(&answer).expect("a whole answer") {
                 Answer::Drawn(sheet) => {
-                    let picture = svg(&board, &sheet, "stored");
-                    all_there(&checked(&picture), &sheet);
-                    drawn += 1;
-                    // On the largest sheet routes are nearer to each other than a line is wide.
+                    let clear = clear(&board, &sheet, name);
+                    drawn += usize::from(clear.is_ok());
                     if name != "stored/largest.bin" {
-                        assert_eq!(false_joint(&picture, &sheet), Ok(()), "sheet {drawn}");
+                        assert_eq!(clear, Ok(()));
                     }
                 }
                 Answer::Refused(refusal) => {
@@ -156,6 +166,44 @@ fn stored_jobs() {
         }
     }
     assert!(drawn > 100, "{drawn} sheets");
+}
+
+/// Draws a sheet and reads the picture back: no false joint is to be seen. Or says why there is none.
+fn clear(board: &Board, sheet: &Sheet, name: &str) -> Result<(), Unclear> {
+    let picture = bundles::svg::svg(board, sheet, &Names::default(), name)?;
+    all_there(&checked(&picture), sheet);
+    assert_eq!(false_joint(&picture, sheet), Ok(()), "{name}");
+    Ok(())
+}
+
+/// All jobs in the folder that PICTURE_JOBS names, files that end in `.job`: of every sheet there is a
+/// clear picture, or words why there is none.
+#[test]
+fn jobs_of_a_folder() {
+    let Some(folder) = std::env::var_os("PICTURE_JOBS") else {
+        return;
+    };
+    let (mut drawn, mut unclear) = (0, Vec::new());
+    for entry in fs::read_dir(folder).expect("a folder") {
+        let path = entry.expect("an entry").path();
+        if path.extension().is_none_or(|end| end != "job") {
+            continue;
+        }
+        let name = path.display().to_string();
+        let Ok(board) = Board::from_bytes(&fs::read(&path).expect("a job")) else {
+            continue;
+        };
+        let Ok(sheet) = board.draw() else {
+            continue;
+        };
+        match clear(&board, &sheet, &name) {
+            Ok(()) => drawn += 1,
+            Err(words) => unclear.push(format!("{name}: {words}")),
+        }
+    }
+    let count = unclear.len();
+    println!("{drawn} clear, {count} refused:\n{}", unclear.join("\n"));
+    assert!(drawn > 0);
 }
 
 #[test]
@@ -216,6 +264,8 @@ struct Drawn {
     lines: Vec<Line>,
     /// Its taps by middle and radius, in the bundle's order.
     taps: Vec<((f64, f64), f64)>,
+    /// Half the width of its lines.
+    half: f64,
 }
 
 /// All of a class, in order. A white path is the mark on a trunk, and lies on a line that is there.
@@ -235,6 +285,7 @@ fn drawn(elements: &[Element], class: &str) -> Vec<Drawn> {
         let taps = inside.iter().filter(|element| element.name == "circle");
         let half = width.unwrap_or(all).parse::<f64>().expect("a width") / 2.0;
         Drawn {
+            half,
             lines: paths
                 .flat_map(|path| lines(path.value("d")))
                 .flat_map(|line| [-1.0, -0.5, 0.0, 0.5, 1.0].map(|part| beside(line, part * half)))
@@ -250,7 +301,14 @@ fn drawn(elements: &[Element], class: &str) -> Vec<Drawn> {
 }
 
 /// What is white between two lines must be wider, in millimetres.
-const SEEN: f64 = 0.05;
+const SEEN: f64 = 0.2;
+
+/// Whether a tap lies on its collector.
+fn sheet_held(bundle: &DrawnBundle, turn: usize) -> bool {
+    let at = bundle.taps[turn].point;
+    let Segment { start, end } = bundle.collector;
+    at.x == start.x && start.y.min(end.y) <= at.y && at.y <= start.y.max(end.y)
+}
 
 /// What a reader could take for a joint: lines of two routes that touch, but where both end at one
 /// port or one bundle; a route that touches a bundle elsewhere than at its tap, or another one's dot;
@@ -300,13 +358,25 @@ fn false_joint(picture: &str, sheet: &Sheet) -> Result<(), String> {
             let own = |at: (f64, f64)| tap.is_some_and(|tap| within(at, tap, 0.5));
             let near = nearest(&route.lines, &bundle.lines, own);
             apart("a route on a bundle", near, SEEN)?;
-            for (middle, radius) in bundle.taps.iter().filter(|_| tap.is_none()) {
+            let same = |at: &(f64, f64)| tap.is_some_and(|tap| within(*at, (tap.0, 0.05), 0.0));
+            let others = bundle.taps.iter().filter(|(middle, _)| !same(middle));
+            for (middle, radius) in others {
                 let near = nearest(&route.lines, &[[*middle; 2]], |_| false);
                 apart("a route on a dot", near, SEEN + radius)?;
             }
         }
     }
     for (place, bundle) in bundles.iter().enumerate() {
+        for (turn, (middle, radius)) in bundle.taps.iter().enumerate() {
+            let most = if sheet_held(&sheet.bundles[place], turn) {
+                bundle.half
+            } else {
+                0.0
+            };
+            if *radius < most + 0.1 {
+                return Err(format!("no dot to be seen at {middle:?}"));
+            }
+        }
         for (_, other) in bundles
             .iter()
             .enumerate()
