@@ -245,7 +245,7 @@ impl Wire for Flags {
 
 impl Options {
     /// The five options with their names, in the job's order.
-    pub(crate) fn named(&self) -> [(String, f64); 5] {
+    pub(crate) fn named(&self) -> [(&'static str, f64); 5] {
         [
             ("port_stub", self.port_stub),
             ("route_lane_gap", self.route_lane_gap),
@@ -256,7 +256,6 @@ impl Options {
             ),
             ("member_endpoint_reserve", self.member_endpoint_reserve),
         ]
-        .map(|(name, value)| (name.to_string(), value))
     }
 }
 

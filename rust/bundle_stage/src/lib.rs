@@ -72,6 +72,9 @@
 mod board;
 mod grid;
 mod joints;
+pub mod limits;
+mod locate;
+mod place;
 mod refusal;
 mod sheet;
 mod shift;
@@ -83,8 +86,10 @@ pub use board::{
     Board, Bundle, Edge, Endpoint, Flags, Id, Member, Node, Options, Point, Port, Role, Side,
     Visits,
 };
-pub use grid::{OffGrid, Record};
+pub use grid::OffGrid;
 pub use joints::{FalseJoint, Meeting};
+pub use locate::{Forecast, locate};
+pub use place::{Item, Part, Place, Refused};
 pub use refusal::{Cause, Refusal};
 pub use sheet::{Answer, DrawnBundle, PlacedNode, Route, Segment, Sheet, Tap};
 pub use shift::{LastShift, Shift};
@@ -100,10 +105,10 @@ pub fn answer(job: &[u8]) -> Vec<u8> {
 impl Board {
     /// Draws the bundles.
     ///
-    /// A table that is too long for the format's 16-bit count is refused as [`Refusal::Limit`]: it
+    /// A table that is too long for the format's 16-bit count is refused as [`Refusal::LimitExceeded`]: it
     /// is above its limit, and cannot even be written down.
     pub fn draw(&self) -> Result<Sheet, Refusal> {
-        let job = self.to_bytes().map_err(|_| Refusal::Limit)?;
+        let job = self.to_bytes().map_err(|_| Refusal::LimitExceeded)?;
         Answer::from_bytes(&answer(&job))
             .expect("the stage is proved to write whole answers")
             .into_result()
