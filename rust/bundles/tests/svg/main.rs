@@ -168,7 +168,11 @@ fn a_refused_board() {
     assert_eq!(of_class(&elements, "route").len(), board.edges.len());
     assert!(of_class(&elements, "bundle").is_empty() && of_class(&elements, "tap").is_empty());
     // No board at all.
-    let empty = checked(&svg_refused(&Board::default(), Refusal::LengthMismatch, "nothing"));
+    let empty = checked(&svg_refused(
+        &Board::default(),
+        Refusal::LengthMismatch,
+        "nothing",
+    ));
     assert!(of_class(&empty, "node").is_empty());
 }
 
