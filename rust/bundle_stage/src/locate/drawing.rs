@@ -155,7 +155,7 @@ fn paid(board: &Board, mut low: u32, mut high: u32) -> Option<u32> {
 
 /// An id that is free: there are more than a table can have.
 fn free(is_free: impl Fn(Id) -> bool) -> Option<Id> {
-    (0..=65_536_u32).map(Id::from).find(|&id| is_free(id))
+    (0..=65_536).find(|&id| is_free(id))
 }
 
 /// One run of no length, far from everything, from a node to itself.

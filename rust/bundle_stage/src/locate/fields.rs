@@ -218,8 +218,7 @@ impl Walk<'_> {
 
     /// Ids and widths: any number.
     fn id(&mut self, field: Field) -> Step<Id> {
-        self.bytes(field)
-            .map(|bytes| Id::from(u32::from_be_bytes(bytes)))
+        self.bytes(field).map(u32::from_be_bytes)
     }
 
     fn count(&mut self, field: Field, most: usize) -> Step<usize> {
