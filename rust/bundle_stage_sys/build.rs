@@ -1,5 +1,6 @@
-//! Finds the static library of the proved stage, or has it made: the folder that STAGE_LIB names;
-//! else target/staticlib of the repository; else `rt staticlib stage` writes it there.
+//! Finds the static library of the proved stage: in the folder that STAGE_LIB names; else in
+//! target/staticlib of the repository. Where it is not there, the build fails at once and says how to
+//! make it; with STAGE_PROVE=1 it has `rt staticlib stage` make it, which takes some ten minutes.
 
 #![forbid(unsafe_code)]
 
@@ -11,6 +12,8 @@ const LIBRARY: &str = "libstage.a";
 
 fn main() {
     println!("cargo:rerun-if-env-changed=STAGE_LIB");
+    println!("cargo:rerun-if-env-changed=STAGE_PROVE");
+    target();
     println!("cargo:rerun-if-changed=build.rs");
     let folder = match env::var_os("STAGE_LIB").map(PathBuf::from) {
         Some(folder) => named(folder),
@@ -20,6 +23,18 @@ fn main() {
     println!("cargo:rerun-if-changed={}", folder.join(LIBRARY).display());
     println!("cargo:rustc-link-search=native={}", folder.display());
     println!("cargo:rustc-link-lib=static=stage");
+}
+
+/// The library has machine code for one target alone.
+fn target() {
+    let of = |key: &str| env::var(key).unwrap_or_default();
+    let (arch, os) = (of("CARGO_CFG_TARGET_ARCH"), of("CARGO_CFG_TARGET_OS"));
+    if (arch.as_str(), os.as_str()) != ("x86_64", "linux") {
+        fail(&format!(
+            "the proved stage is made for x86-64 Linux alone, and this build is for {arch} {os}: \
+             name the target x86_64-unknown-linux-gnu"
+        ));
+    }
 }
 
 fn named(folder: PathBuf) -> PathBuf {
@@ -46,8 +61,17 @@ fn repository_s() -> PathBuf {
         .expect("this crate stands in rust/ of the repository");
     let folder = root.join("target/staticlib");
     if !folder.join(LIBRARY).is_file() {
+        if env::var_os("STAGE_PROVE").is_none_or(|value| value != "1") {
+            fail(&format!(
+                "{LIBRARY}, the proved stage, is not in {}.\nEither run `rt staticlib stage` in {} \
+                 (from nothing some ten minutes), or `./run` there, which does so; or set STAGE_LIB \
+                 to the absolute path of a folder that has {LIBRARY} in it; or set STAGE_PROVE=1, \
+                 and this build runs `rt staticlib stage` itself.",
+                folder.display(),
+                root.display()
+            ));
+        }
         make(root);
-        println!("cargo:warning={LIBRARY} was not there: `rt staticlib stage` has made it");
     }
     if !folder.join(LIBRARY).is_file() {
         fail(&format!(

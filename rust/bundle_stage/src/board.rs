@@ -14,11 +14,17 @@ pub(crate) const VERSION: u8 = 1;
 /// written here too, and the stage says so. The stage takes minus zero as plus zero.
 #[derive(Clone, Debug, Default, PartialEq)]
 pub struct Board {
+    /// What the sheet permits and asks for.
     pub flags: Flags,
+    /// Lengths that hold for the whole sheet.
     pub options: Options,
+    /// The visits that may be paid.
     pub grants: Visits,
+    /// At most 128.
     pub nodes: Vec<Node>,
+    /// At most 256.
     pub ports: Vec<Port>,
+    /// At most 256.
     pub edges: Vec<Edge>,
     /// They are drawn in this order.
     pub bundles: Vec<Bundle>,
@@ -44,9 +50,13 @@ pub struct Flags {
 /// its port: `edge_node_clearance` if that is above 0, else `port_stub` plus `route_lane_gap`.
 #[derive(Clone, Copy, Debug, Default, PartialEq)]
 pub struct Options {
+    /// The straight piece at a port.
     pub port_stub: f64,
+    /// From lane to lane.
     pub route_lane_gap: f64,
+    /// From a port to a collector at the rail, if above 0.
     pub edge_node_clearance: f64,
+    /// How far bundles keep from wires beside them.
     pub minimum_parallel_wire_spacing: f64,
     /// What an interior collector leaves free at the far end of its members.
     pub member_endpoint_reserve: f64,
@@ -79,19 +89,26 @@ impl Default for Visits {
 /// A node by its upper left corner and its size.
 #[derive(Clone, Copy, Debug, PartialEq)]
 pub struct Node {
+    /// Nodes have different ids.
     pub id: Id,
+    /// The left side, of magnitude at most 2^30.
     pub x: f64,
+    /// The upper side, of magnitude at most 2^30.
     pub y: f64,
+    /// From 0 to 2^30.
     pub width: f64,
+    /// From 0 to 2^30.
     pub height: f64,
 }
 
 /// A port on a side of a node.
 #[derive(Clone, Copy, Debug, PartialEq)]
 pub struct Port {
+    /// Its node's id.
     pub node: Id,
     /// One node's ports have different ids.
     pub id: Id,
+    /// The side of the node that it is on.
     pub side: Side,
     /// From the side's left end (north, south) or upper end (east, west).
     pub offset: f64,
@@ -100,43 +117,59 @@ pub struct Port {
 /// A side of a node: north is the upper one.
 #[derive(Clone, Copy, Debug, Eq, PartialEq)]
 pub enum Side {
+    /// The upper one.
     North,
+    /// The right one.
     East,
+    /// The lower one.
     South,
+    /// The left one.
     West,
 }
 
 /// A port by its node's id and its own.
 #[derive(Clone, Copy, Debug, Eq, PartialEq)]
 pub struct Endpoint {
+    /// The id of the node.
     pub node: Id,
+    /// The id of the port among those of the node.
     pub port: Id,
 }
 
 /// An edge with its route, from source to target.
 #[derive(Clone, Debug, PartialEq)]
 pub struct Edge {
+    /// Edges have different ids.
     pub id: Id,
+    /// Where the wire comes from. The port is not looked up.
     pub source: Endpoint,
+    /// Where the wire leads to. The port is not looked up.
     pub target: Endpoint,
+    /// The route, at most 64 points; it may have none.
     pub points: Vec<Point>,
 }
 
 /// A place on the sheet: x grows to the right, y downwards.
 #[derive(Clone, Copy, Debug, PartialEq)]
 pub struct Point {
+    /// Of magnitude at most 2^30.
     pub x: f64,
+    /// Of magnitude at most 2^30.
     pub y: f64,
 }
 
 /// Edges that are drawn as one trunk at a port.
 #[derive(Clone, Debug, PartialEq)]
 pub struct Bundle {
+    /// Bundles have different ids.
     pub id: Id,
+    /// The port at which it is drawn.
     pub endpoint: Endpoint,
+    /// Which way its wires go.
     pub role: Role,
     /// How many wires it stands for. Of width 0 or 1 it is drawn at the rail.
     pub width: u32,
+    /// At most 64; an edge is in one bundle of each role at most.
     pub members: Vec<Member>,
 }
 
@@ -152,7 +185,9 @@ pub enum Role {
 /// An edge in a bundle, and its lane on the collector at the rail.
 #[derive(Clone, Copy, Debug, Eq, PartialEq)]
 pub struct Member {
+    /// The edge's id.
     pub edge: Id,
+    /// At most 255.
     pub lane: u16,
 }
 
@@ -246,7 +281,7 @@ impl Wire for Flags {
 
 impl Options {
     /// The five options with their names, in the job's order.
-    pub(crate) fn named(&self) -> [(String, f64); 5] {
+    pub(crate) fn named(&self) -> [(&'static str, f64); 5] {
         [
             ("port_stub", self.port_stub),
             ("route_lane_gap", self.route_lane_gap),
@@ -257,13 +292,16 @@ impl Options {
             ),
             ("member_endpoint_reserve", self.member_endpoint_reserve),
         ]
-        .map(|(name, value)| (name.to_string(), value))
     }
 }
 
 impl Board {
     /// The job's bytes. They fail only where a count is too large for the format; limits of the
     /// stage are not looked at.
+    ///
+    /// # Errors
+    ///
+    /// What there are too many of.
     pub fn to_bytes(&self) -> Result<Vec<u8>, TooMany> {
         let mut to = Writer::new();
         VERSION.put(&mut to)?;
@@ -284,6 +322,10 @@ impl Board {
     /// The board that a job's bytes say, if they are a whole job: the length is right, the version
     /// is 1, flags, sides and roles are listed, no field is missing and no byte is left over.
     /// Whether the stage accepts its numbers is not looked at. `to_bytes` gives the same bytes back.
+    ///
+    /// # Errors
+    ///
+    /// The first byte that does not fit, and what was expected there.
     pub fn from_bytes(bytes: &[u8]) -> Result<Board, Malformed> {
         let mut from = Reader::new(bytes);
         from.length()?;

@@ -10,6 +10,7 @@ use crate::sheet::{DrawnBundle, Route, Segment, Sheet};
 /// What meets and should not, and where.
 #[derive(Clone, Copy, Debug, PartialEq)]
 pub struct FalseJoint {
+    /// What meets.
     pub meeting: Meeting,
     /// From the first point that both have to the last: often the same. Of what is slanted, its ends.
     pub shared: Segment,
@@ -20,16 +21,37 @@ pub struct FalseJoint {
 pub enum Meeting {
     /// A run of a route and a segment of a bundle, elsewhere than at the route's tap on that bundle,
     /// inside the run, or in more than one point.
-    Route { route: Id, bundle: Id },
+    Route {
+        /// The id of the route's edge.
+        route: Id,
+        /// The bundle's id.
+        bundle: Id,
+    },
     /// Segments of two bundles, the earlier one's having length.
-    Bundles { earlier: Id, later: Id },
+    Bundles {
+        /// The id of the one drawn first.
+        earlier: Id,
+        /// The id of the other one.
+        later: Id,
+    },
     /// The route of a bundle's member, and the inside of a node that is not one of its ends.
-    Node { route: Id, node: Id },
+    Node {
+        /// The id of the route's edge.
+        route: Id,
+        /// The node's id.
+        node: Id,
+    },
     /// A run that is neither level nor upright, or has a number that is no place. It counts as one
     /// that meets everything, as in the Rust.
-    SlantedRoute { route: Id },
+    SlantedRoute {
+        /// The id of the route's edge.
+        route: Id,
+    },
     /// The same of a segment of a bundle.
-    SlantedBundle { bundle: Id },
+    SlantedBundle {
+        /// The bundle's id.
+        bundle: Id,
+    },
 }
 
 impl Sheet {

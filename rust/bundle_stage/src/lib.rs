@@ -1,8 +1,8 @@
 //! The bundle stage for Rust programs: a placed and routed [`Board`] in, a [`Sheet`] with its bundles
 //! drawn out, or a [`Refusal`].
 //!
-//! The stage itself is proved, and linked as a static library: it does not trap, and ends, whatever
-//! the board (README of the repository). Buffers are this crate's business.
+//! The stage itself is proved, and linked as a static library for x86-64 Linux: it does not trap, and
+//! ends, whatever the board (README of the repository). Buffers are this crate's business.
 //!
 //! That there is no false joint is proved of the sheet before its last shift, which rounds, and of
 //! the sheet in the answer where that shift is exact: [`Sheet::false_joints`] looks for them in the
@@ -68,10 +68,14 @@
 //! at the guard page.
 
 #![forbid(unsafe_code)]
+#![warn(missing_docs)]
 
 mod board;
 mod grid;
 mod joints;
+pub mod limits;
+mod locate;
+mod place;
 mod refusal;
 mod sheet;
 mod shift;
@@ -83,27 +87,55 @@ pub use board::{
     Board, Bundle, Edge, Endpoint, Flags, Id, Member, Node, Options, Point, Port, Role, Side,
     Visits,
 };
-pub use grid::{OffGrid, Record};
+pub use grid::OffGrid;
 pub use joints::{FalseJoint, Meeting};
+pub use locate::{Forecast, locate};
+pub use place::{Item, Part, Place, Refused};
 pub use refusal::{Cause, Refusal};
 pub use sheet::{Answer, DrawnBundle, PlacedNode, Route, Segment, Sheet, Tap};
 pub use shift::{LastShift, Shift};
 pub use wire::{Fault, Malformed, TooMany};
 
+/// The bytes of a buffer that holds every answer.
+pub const BUFFER_SIZE: usize = BUFFER;
+
 /// The answer to a job's bytes, whatever they are: the bytes that the program `sheet` writes.
+///
+/// ```
+/// assert_eq!(bundle_stage::answer(b"no job"), [0, 0, 0, 2, 1, 1]);
+/// ```
 pub fn answer(job: &[u8]) -> Vec<u8> {
     let mut buffer = Box::new([0; BUFFER]);
-    let count = bundle_stage_sys::stage(job, &mut buffer);
-    buffer[..count].to_vec()
+    answer_into(job, &mut buffer).to_vec()
+}
+
+/// The same in a buffer that can be used again. Bytes of the buffer behind the answer stay as they were.
+///
+/// ```
+/// let mut buffer = Box::new([0; bundle_stage::BUFFER_SIZE]);
+/// for job in [&b"no job"[..], b""] {
+///     let answer = bundle_stage::answer_into(job, &mut buffer);
+///     assert_eq!(answer, [0, 0, 0, 2, 1, 1]);
+/// }
+/// ```
+pub fn answer_into<'a>(job: &[u8], buffer: &'a mut [u8; BUFFER_SIZE]) -> &'a [u8] {
+    let count = bundle_stage_sys::stage(job, buffer);
+    &buffer[..count]
 }
 
 impl Board {
     /// Draws the bundles.
     ///
-    /// A table that is too long for the format's 16-bit count is refused as [`Refusal::Limit`]: it
+    /// # Errors
+    ///
+    /// The stage's refusal; [`Board::draw_detailed`] also says what it is about. A table that is too long for the format's 16-bit count is refused as [`Refusal::LimitExceeded`]: it
     /// is above its limit, and cannot even be written down.
+    ///
+    /// # Panics
+    ///
+    /// Never: the stage is proved to write whole answers.
     pub fn draw(&self) -> Result<Sheet, Refusal> {
-        let job = self.to_bytes().map_err(|_| Refusal::Limit)?;
+        let job = self.to_bytes().map_err(|_| Refusal::LimitExceeded)?;
         Answer::from_bytes(&answer(&job))
             .expect("the stage is proved to write whole answers")
             .into_result()

@@ -4,42 +4,47 @@ use std::error::Error;
 use std::fmt;
 
 /// Why there is no sheet: one case for each number of document 01, and of request F-2 of document 02.
+///
+/// [`Refused`](crate::Refused) adds what a refusal is about.
 #[derive(Clone, Copy, Debug, Eq, Hash, PartialEq)]
+#[non_exhaustive]
 pub enum Refusal {
-    /// 1
-    Length,
-    /// 2. This crate's buffers are never too short, so that no call of it gives this one.
-    Buffer,
-    /// 3
-    Version,
-    /// 4
-    Fields,
-    /// 5
-    Limit,
-    /// 6
-    NotListed,
-    /// 7
-    Number,
-    /// 8
-    Twice,
-    /// 9
-    Unknown,
-    /// 10
-    Rewriting,
-    /// 11
-    Contact,
-    /// 12
-    Interior,
-    /// 13
-    Split,
-    /// 14
-    Grant,
-    /// 15
+    /// 1: the job has under 5 bytes, or its length is not that of the bytes that follow.
+    LengthMismatch,
+    /// 2: the answer's buffer has under 65,536 bytes. This crate's buffers are never too short, so that no
+    /// call of it gives this one.
+    BufferTooShort,
+    /// 3: the job's version is not 1.
+    UnknownVersion,
+    /// 4: a field runs past the end, or bytes remain behind the last one.
+    FieldsMismatch,
+    /// 5: a count, a lane or a grant is above its limit.
+    LimitExceeded,
+    /// 6: a flag, a side or a role is none of those listed.
+    ValueNotListed,
+    /// 7: a number is not finite, or out of its range.
+    NumberOutOfRange,
+    /// 8: an id stands twice, or an edge is twice in bundles of one role.
+    DuplicateId,
+    /// 9: a node, a port or an edge is named that is not there.
+    UnknownId,
+    /// 10: the route of a bundle's member cannot be led to its tap.
+    TapUnreachable,
+    /// 11: a bundle would touch a route or another bundle where it must not, or come too close.
+    ForbiddenContact,
+    /// 12: the route of a bundle's member would run through a foreign node, or is slanted.
+    RouteThroughNode,
+    /// 13: bundles that share edges have no room for their collectors.
+    NoRoomToSplit,
+    /// 14: the checks need more geometry visits than the job grants.
+    GeometryVisitsSpent,
+    /// 15: the job is said to be on the drafting grid, and a number is off it.
     OffGrid,
 }
 
 /// Who can cause a refusal.
-#[derive(Clone, Copy, Debug, Eq, PartialEq)]
+#[derive(Clone, Copy, Debug, Eq, Hash, PartialEq)]
+#[non_exhaustive]
 pub enum Cause {
     /// The program that calls the stage.
     Caller,
@@ -54,20 +59,20 @@ pub enum Cause {
 impl Refusal {
     /// All of them, by number.
     pub const ALL: [Refusal; 15] = [
-        Refusal::Length,
-        Refusal::Buffer,
-        Refusal::Version,
-        Refusal::Fields,
-        Refusal::Limit,
-        Refusal::NotListed,
-        Refusal::Number,
-        Refusal::Twice,
-        Refusal::Unknown,
-        Refusal::Rewriting,
-        Refusal::Contact,
-        Refusal::Interior,
-        Refusal::Split,
-        Refusal::Grant,
+        Refusal::LengthMismatch,
+        Refusal::BufferTooShort,
+        Refusal::UnknownVersion,
+        Refusal::FieldsMismatch,
+        Refusal::LimitExceeded,
+        Refusal::ValueNotListed,
+        Refusal::NumberOutOfRange,
+        Refusal::DuplicateId,
+        Refusal::UnknownId,
+        Refusal::TapUnreachable,
+        Refusal::ForbiddenContact,
+        Refusal::RouteThroughNode,
+        Refusal::NoRoomToSplit,
+        Refusal::GeometryVisitsSpent,
         Refusal::OffGrid,
     ];
 
@@ -96,38 +101,40 @@ impl Refusal {
     /// What is wrong, as a clause.
     pub fn fault(self) -> &'static str {
         match self {
-            Refusal::Length => {
+            Refusal::LengthMismatch => {
                 "the job has under 5 bytes, or its first four bytes do not count the bytes that \
                  follow them"
             }
-            Refusal::Buffer => "the buffer for the answer has under 65,536 bytes",
-            Refusal::Version => "the job's version is not 1",
-            Refusal::Fields => "a field of the job runs past its end, or bytes remain behind it",
-            Refusal::Limit => "a count, lane or grant is above its limit",
-            Refusal::NotListed => "a flag, side or role is none of those listed",
-            Refusal::Number => "a number is not finite, or is out of its range",
-            Refusal::Twice => {
+            Refusal::BufferTooShort => "the buffer for the answer has under 65,536 bytes",
+            Refusal::UnknownVersion => "the job's version is not 1",
+            Refusal::FieldsMismatch => {
+                "a field of the job runs past its end, or bytes remain behind it"
+            }
+            Refusal::LimitExceeded => "a count, lane or grant is above its limit",
+            Refusal::ValueNotListed => "a flag, side or role is none of those listed",
+            Refusal::NumberOutOfRange => "a number is not finite, or is out of its range",
+            Refusal::DuplicateId => {
                 "an id stands twice among the nodes, the edges, the bundles or one node's ports, or \
                  an edge is twice in bundles of one role"
             }
-            Refusal::Unknown => {
+            Refusal::UnknownId => {
                 "a port, edge or bundle names a node that is not there, a bundle names a port that \
                  its node does not have, or a member names an edge that is not there"
             }
-            Refusal::Rewriting => "the route of a bundle's member cannot be led to its tap",
-            Refusal::Contact => {
+            Refusal::TapUnreachable => "the route of a bundle's member cannot be led to its tap",
+            Refusal::ForbiddenContact => {
                 "a bundle would touch a route or another bundle where it must not, or come too \
                  close to it"
             }
-            Refusal::Interior => {
+            Refusal::RouteThroughNode => {
                 "the route of a bundle's member would run through a node that is neither its source \
                  nor its target, or is slanted"
             }
-            Refusal::Split => {
+            Refusal::NoRoomToSplit => {
                 "input and output bundles that share edges have no room for their collectors: the \
                  place that would part them has its low end above its high end"
             }
-            Refusal::Grant => {
+            Refusal::GeometryVisitsSpent => {
                 "the checks of the sheet need more geometry visits than the job grants"
             }
             Refusal::OffGrid => {
@@ -139,49 +146,51 @@ impl Refusal {
     /// What to look at, as a sentence.
     pub fn advice(self) -> &'static str {
         match self {
-            Refusal::Length => {
+            Refusal::LengthMismatch => {
                 "Look at how the job was read or sent: it is cut short, too long, or no job."
             }
-            Refusal::Buffer => "Lend a buffer of 65,536 bytes.",
-            Refusal::Version => "Look at the fifth byte, and at which program wrote the job.",
-            Refusal::Fields => {
+            Refusal::BufferTooShort => "Lend a buffer of 65,536 bytes.",
+            Refusal::UnknownVersion => {
+                "Look at the fifth byte, and at which program wrote the job."
+            }
+            Refusal::FieldsMismatch => {
                 "Look at the counts: each must be the number of records that are written."
             }
-            Refusal::Limit => {
+            Refusal::LimitExceeded => {
                 "Look for more than 128 nodes, 256 ports, 256 edges, 32 bundles, 64 points of a \
                  route, 2,048 points in all, 64 members of a bundle, 256 members in all, a lane \
                  above 255, or grants above 2,000,000 tap and 20,000,000 geometry visits."
             }
-            Refusal::NotListed => {
+            Refusal::ValueNotListed => {
                 "Flags are 0 to 7, sides 0 to 3 (north, east, south, west), roles 0 and 1 (input, \
                  output)."
             }
-            Refusal::Number => {
+            Refusal::NumberOutOfRange => {
                 "Coordinates and offsets have magnitude at most 2^30, sizes are 0 to 2^30, options \
                  0 to 2^20."
             }
-            Refusal::Twice => {
+            Refusal::DuplicateId => {
                 "Look for the same id twice, and for an edge that bundles of one role list twice."
             }
-            Refusal::Unknown => "Look for a misspelt id.",
-            Refusal::Rewriting => {
+            Refusal::UnknownId => "Look for a misspelt id.",
+            Refusal::TapUnreachable => {
                 "Look at the bundle's member routes: each needs two points or more, and a level \
                  run, or an upright one, at its corridor: the rail depth, the depth of the bundles \
                  before it and its lane's pitches away from the bundle's port."
             }
-            Refusal::Contact => {
+            Refusal::ForbiddenContact => {
                 "Look for routes that cross the place of the bundle's collector and spine; give \
                  them room, permit crossings, or lower minimum_parallel_wire_spacing."
             }
-            Refusal::Interior => {
+            Refusal::RouteThroughNode => {
                 "Look for nodes between the bundle's port and the far ends of its members, and for \
                  routes with a run that is neither level nor upright."
             }
-            Refusal::Split => {
+            Refusal::NoRoomToSplit => {
                 "Look at the options and at how near the two ports stand: the numbers are rounded \
                  so that no x is left between them."
             }
-            Refusal::Grant => {
+            Refusal::GeometryVisitsSpent => {
                 "Grant more geometry visits, up to 20,000,000, or give the board fewer runs and \
                  bundles."
             }

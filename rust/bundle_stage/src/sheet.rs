@@ -7,15 +7,20 @@ use crate::wire::{Malformed, Reader, TooMany, Wire, Writer, choice, listed, reco
 /// An answer: a sheet, or why there is none.
 #[derive(Clone, Debug, PartialEq)]
 pub enum Answer {
+    /// The sheet.
     Drawn(Sheet),
+    /// Why there is none.
     Refused(Refusal),
 }
 
 /// The finished sheet. It is shifted so that no coordinate is below 0.
 #[derive(Clone, Debug, PartialEq)]
 pub struct Sheet {
+    /// What is left of the grants.
     pub visits_left: Visits,
+    /// From 0 to the right end of all that is drawn.
     pub width: f64,
+    /// From 0 to the lower end of all that is drawn.
     pub height: f64,
     /// One for each node of the board, in its order.
     pub nodes: Vec<PlacedNode>,
@@ -28,8 +33,11 @@ pub struct Sheet {
 /// A node's upper left corner on the sheet. Its size is the board's.
 #[derive(Clone, Copy, Debug, PartialEq)]
 pub struct PlacedNode {
+    /// The node's id.
     pub id: Id,
+    /// The left side.
     pub x: f64,
+    /// The upper side.
     pub y: f64,
 }
 
@@ -38,12 +46,14 @@ pub struct PlacedNode {
 pub struct Route {
     /// The edge's id.
     pub id: Id,
+    /// From source to target; a member's starts or ends at its tap.
     pub points: Vec<Point>,
 }
 
 /// A bundle as drawn: two segments and a tap for each member.
 #[derive(Clone, Debug, PartialEq)]
 pub struct DrawnBundle {
+    /// The bundle's id.
     pub id: Id,
     /// It stands inside the sheet, where its members have a place in common; else at the rail.
     pub interior: bool,
@@ -58,14 +68,18 @@ pub struct DrawnBundle {
 /// A straight piece from a point to another.
 #[derive(Clone, Copy, Debug, PartialEq)]
 pub struct Segment {
+    /// The one end.
     pub start: Point,
+    /// The other end.
     pub end: Point,
 }
 
 /// Where a member's route meets its bundle.
 #[derive(Clone, Copy, Debug, PartialEq)]
 pub struct Tap {
+    /// The member's edge.
     pub edge: Id,
+    /// A point of the collector.
     pub point: Point,
 }
 
@@ -117,11 +131,15 @@ impl DrawnBundle {
 impl Answer {
     /// The answer that bytes say, if they are a whole answer or notice. `to_bytes` gives the same
     /// bytes back.
+    ///
+    /// # Errors
+    ///
+    /// The first byte that does not fit, and what was expected there.
     pub fn from_bytes(bytes: &[u8]) -> Result<Answer, Malformed> {
         let mut from = Reader::new(bytes);
         from.length()?;
         version(&mut from)?;
-        let refused = from.listed("the number (0 to 14)", |number: u8| match number {
+        let refused = from.listed("the number (0 to 15)", |number: u8| match number {
             0 => Some(None),
             _ => Refusal::of_number(number).map(Some),
         })?;
@@ -134,6 +152,10 @@ impl Answer {
     }
 
     /// The answer's bytes. They fail only where a count is too large for the format.
+    ///
+    /// # Errors
+    ///
+    /// What there are too many of.
     pub fn to_bytes(&self) -> Result<Vec<u8>, TooMany> {
         let mut to = Writer::new();
         VERSION.put(&mut to)?;
@@ -148,6 +170,10 @@ impl Answer {
     }
 
     /// The sheet, or the refusal as an error.
+    ///
+    /// # Errors
+    ///
+    /// The refusal.
     pub fn into_result(self) -> Result<Sheet, Refusal> {
         match self {
             Answer::Drawn(sheet) => Ok(sheet),

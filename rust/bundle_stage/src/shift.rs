@@ -10,7 +10,9 @@ use crate::sheet::Sheet;
 /// What is known of the last shift, across (x) and down (y).
 #[derive(Clone, Copy, Debug, Eq, PartialEq)]
 pub struct LastShift {
+    /// Across.
     pub x: Shift,
+    /// Down.
     pub y: Shift,
 }
 

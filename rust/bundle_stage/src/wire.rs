@@ -44,6 +44,7 @@ impl Error for Malformed {}
 pub struct TooMany {
     /// What there are too many of.
     pub what: &'static str,
+    /// How many there are.
     pub count: usize,
     /// The most that the format can say.
     pub most: usize,

@@ -211,36 +211,45 @@ fn too_many_to_write_down() {
         error.to_string(),
         "65536 points are too many to write down: at most 65535"
     );
-    assert_eq!(board.draw(), Err(Refusal::Limit));
+    assert_eq!(board.draw(), Err(Refusal::LimitExceeded));
 }
 
 // ---- refusals
 
 #[test]
 fn every_refusal_by_name() {
-    assert_eq!(changed_bytes(Vec::clear), Err(Refusal::Length));
-    assert_eq!(changed_bytes(|job| job.push(0)), Err(Refusal::Length));
-    assert_eq!(changed_bytes(|job| job[4] = 2), Err(Refusal::Version));
+    assert_eq!(changed_bytes(Vec::clear), Err(Refusal::LengthMismatch));
+    assert_eq!(
+        changed_bytes(|job| job.push(0)),
+        Err(Refusal::LengthMismatch)
+    );
+    assert_eq!(
+        changed_bytes(|job| job[4] = 2),
+        Err(Refusal::UnknownVersion)
+    );
     let cut = |job: &mut Vec<u8>| {
         job.pop();
         set_length(job);
     };
-    assert_eq!(changed_bytes(cut), Err(Refusal::Fields));
+    assert_eq!(changed_bytes(cut), Err(Refusal::FieldsMismatch));
     let lane = |board: &mut Board| board.bundles[0].members[1].lane = 256;
-    assert_eq!(changed(lane), Err(Refusal::Limit));
+    assert_eq!(changed(lane), Err(Refusal::LimitExceeded));
     let grant = |board: &mut Board| board.grants.tap += 1;
-    assert_eq!(changed(grant), Err(Refusal::Limit));
-    assert_eq!(changed_bytes(|job| job[5] = 8), Err(Refusal::NotListed));
+    assert_eq!(changed(grant), Err(Refusal::LimitExceeded));
+    assert_eq!(
+        changed_bytes(|job| job[5] = 8),
+        Err(Refusal::ValueNotListed)
+    );
     for wrong in [f64::NAN, f64::INFINITY, 2_f64.powi(30) + 1.0] {
         let moved = |board: &mut Board| board.nodes[0].x = wrong;
-        assert_eq!(changed(moved), Err(Refusal::Number), "{wrong}");
+        assert_eq!(changed(moved), Err(Refusal::NumberOutOfRange), "{wrong}");
     }
     let twice = |board: &mut Board| board.edges[1].id = 1;
-    assert_eq!(changed(twice), Err(Refusal::Twice));
+    assert_eq!(changed(twice), Err(Refusal::DuplicateId));
     let unknown = |board: &mut Board| board.bundles[0].endpoint.port = 9;
-    assert_eq!(changed(unknown), Err(Refusal::Unknown));
+    assert_eq!(changed(unknown), Err(Refusal::UnknownId));
     let short = |board: &mut Board| board.edges[0].points.truncate(1);
-    assert_eq!(changed(short), Err(Refusal::Rewriting));
+    assert_eq!(changed(short), Err(Refusal::TapUnreachable));
     // A wire of another edge across the trunk.
     let foreign = |board: &mut Board| {
         let mut wire = board.edges[0].clone();
@@ -248,13 +257,13 @@ fn every_refusal_by_name() {
         wire.points = vec![at(100.0, 0.0), at(100.0, 100.0)];
         board.edges.push(wire);
     };
-    assert_eq!(changed(foreign), Err(Refusal::Contact));
+    assert_eq!(changed(foreign), Err(Refusal::ForbiddenContact));
     // A node between the collector and the far ends.
     let between = |board: &mut Board| board.nodes.push(node(3, 185.0, 35.0, 10.0, 10.0));
-    assert_eq!(changed(between), Err(Refusal::Interior));
-    assert_eq!(split_board().draw(), Err(Refusal::Split));
+    assert_eq!(changed(between), Err(Refusal::RouteThroughNode));
+    assert_eq!(split_board().draw(), Err(Refusal::NoRoomToSplit));
     let nothing = |board: &mut Board| board.grants.geometry = 0;
-    assert_eq!(changed(nothing), Err(Refusal::Grant));
+    assert_eq!(changed(nothing), Err(Refusal::GeometryVisitsSpent));
     let off_grid = |board: &mut Board| {
         board.flags.on_grid = true;
         board.nodes[0].x = 0.3;
@@ -296,12 +305,13 @@ fn the_drafting_grid() {
         let [found] = &board.off_grid()[..] else {
             panic!("{:?}", board.off_grid());
         };
-        assert_eq!(found.what, "the x of point 1 of edge 3");
-        assert_eq!((found.record, found.value), (Record::Edge(2), off));
+        assert_eq!(found.what(), "the x of point 1 of edge 3");
+        let edge = Item::Edge { place: 2, id: 3 };
+        assert_eq!((found.item, found.value), (edge, off));
         let beside = found.nearest().expect("no NaN");
         assert_eq!(beside.map(f64::to_bits), nearest.map(f64::to_bits), "{off}");
     }
-    assert_eq!(with(f64::INFINITY).draw(), Err(Refusal::Number));
+    assert_eq!(with(f64::INFINITY).draw(), Err(Refusal::NumberOutOfRange));
     assert_eq!(with(f64::NAN).off_grid()[0].nearest(), None);
     // Every kind of field, in the job's order.
     let mut all = board();
@@ -310,7 +320,7 @@ fn the_drafting_grid() {
     all.ports[2].offset = 0.1;
     all.edges[0].points[3].y = 0.1;
     let names = all.off_grid();
-    let names = names.iter().map(|off| off.what.as_str());
+    let names = names.iter().map(OffGrid::what);
     assert_eq!(
         names.collect::<Vec<_>>(),
         [

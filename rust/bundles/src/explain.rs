@@ -1,20 +1,94 @@
 //! An answer in words.
 
-use bundle_stage::{Answer, Board, DrawnBundle, Role, Sheet};
+use bundle_stage::{Answer, Board, Bundle, DrawnBundle, Endpoint, Forecast, Refused, Role, Sheet};
 
 use crate::joints::Joints;
+use crate::lines::Lines;
+use crate::names::Names;
 use crate::text::number;
 
 /// A table of the bundles, the visits and the joints, or the refusal. A job's board adds what only
 /// the job says: what was granted, a role that no spine shows, and whether joints are false.
-pub fn explain(answer: &Answer, board: Option<&Board>) -> String {
+pub fn explain(answer: &Answer, board: Option<&Board>, names: &Names) -> String {
     match answer {
         Answer::Refused(refusal) => format!("{refusal}\n"),
-        Answer::Drawn(sheet) => drawn(sheet, board),
+        Answer::Drawn(sheet) => drawn(sheet, board, names),
     }
 }
 
-fn drawn(sheet: &Sheet, board: Option<&Board>) -> String {
+/// A line for each place that a refusal is about: its lines in the text, if it has one, and what is
+/// wrong there.
+pub fn places(refused: &Refused, names: &Names, lines: &Lines) -> String {
+    let line = |place| {
+        let words = bundle_stage::Place::words(place, |item| names.item(item));
+        format!("  {}{words}\n", lines.words(place))
+    };
+    refused.places.iter().map(line).collect()
+}
+
+/// From which ports to which a bundle's wires go: `5:11, 5:12 → 7:1`.
+pub fn way(board: &Board, bundle: &Bundle) -> String {
+    let member = |id| board.edge(id);
+    let edges = bundle.members.iter().filter_map(|row| member(row.edge));
+    let far = edges.map(|edge| match bundle.role {
+        Role::Input => edge.target,
+        Role::Output => edge.source,
+    });
+    let mut ports: Vec<String> = Vec::new();
+    for word in far.map(port) {
+        if !ports.contains(&word) {
+            ports.push(word);
+        }
+    }
+    let far = ports.join(", ");
+    match bundle.role {
+        Role::Input => format!("{} → {far}", port(bundle.endpoint)),
+        Role::Output => format!("{far} → {}", port(bundle.endpoint)),
+    }
+}
+
+fn port(at: Endpoint) -> String {
+    format!("{}:{}", at.node, at.port)
+}
+
+/// A line for each bundle: its id, its name and its way; then the names of the ports that have one.
+fn ways(board: &Board, names: &Names) -> String {
+    let mut text = String::from("\n");
+    for bundle in &board.bundles {
+        let name = names.bundle(bundle.id).map(|name| format!(" {name}"));
+        let way = way(board, bundle);
+        text.push_str(&format!(
+            "B{}{}: {way}\n",
+            bundle.id,
+            name.unwrap_or_default()
+        ));
+    }
+    for node in &board.nodes {
+        if let Some(name) = names.node(node.id) {
+            text.push_str(&format!("node {}: {name}\n", node.id));
+        }
+        let ports = board.ports.iter().filter(|port| port.node == node.id);
+        for port in ports {
+            if let Some(name) = names.port(port.node, port.id) {
+                text.push_str(&format!("  {}:{}: {name}\n", port.node, port.id));
+            }
+        }
+    }
+    text
+}
+
+/// Where searches ran out of tap visits, what would be enough.
+fn spent(board: &Board) -> String {
+    match board.forecast() {
+        Forecast::Drawn(paid) if paid.tap > board.grants.tap => format!(
+            "  the search for places ran out of them; tap_visits {} would be enough\n",
+            paid.tap
+        ),
+        _ => String::new(),
+    }
+}
+
+fn drawn(sheet: &Sheet, board: Option<&Board>, names: &Names) -> String {
     let mut text = format!(
         "a sheet of {} by {}: {}, {}, {}\n",
         number(sheet.width),
@@ -28,6 +102,7 @@ fn drawn(sheet: &Sheet, board: Option<&Board>) -> String {
         rows.extend(sheet.bundles.iter().map(|bundle| row(bundle, board)));
         text.push('\n');
         text.push_str(&table(&rows));
+        text.push_str(&board.map(|board| ways(board, names)).unwrap_or_default());
     }
     text.push('\n');
     let left = sheet.visits_left;
@@ -37,6 +112,7 @@ fn drawn(sheet: &Sheet, board: Option<&Board>) -> String {
         left.tap,
         granted.map(|grant| grant.tap),
     ));
+    text.push_str(&board.map(spent).unwrap_or_default());
     text.push_str(&visits(
         "geometry visits",
         left.geometry,

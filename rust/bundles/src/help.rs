@@ -7,7 +7,7 @@ struct Command {
     long: &'static str,
 }
 
-const COMMANDS: [Command; 7] = [
+const COMMANDS: [Command; 10] = [
     Command {
         name: "pack",
         words: "[BOARD]",
@@ -21,12 +21,22 @@ numbers of the grid beside it; the job is written all the same.",
     },
     Command {
         name: "unpack",
-        words: "[JOB]",
+        words: "[JOB] [--names FILE]",
         short: "a job, to its text on standard output",
         long: "\
+With a FILE of names, which may be a board's text, the text has them.
+
 Every job can be unpacked that is whole: its length is right, its version is 1, flags, sides and
 roles are listed, no field is missing and no byte is left over. Packing the text gives the same
 bytes. A text's comments, blank lines and spaces are not in a job, so they do not come back.",
+    },
+    Command {
+        name: "names",
+        words: "BOARD",
+        short: "the names in a board's text, to a file of names on standard output",
+        long: "\
+A job's bytes have no names. A file of names has lines such as `node 5 \"timestamp unit\"`, for nodes,
+ports, edges and bundles; every command with `--names FILE` takes such a file, or a board's text.",
     },
     Command {
         name: "draw",
@@ -35,17 +45,18 @@ bytes. A text's comments, blank lines and spaces are not in a job, so they do no
         long: "\
 The answer is the sheet with its bundles drawn, or the six bytes of a refusal, byte for byte what
 the program `sheet` writes; as there, at most 65,536 bytes of a job are looked at. A refusal is
-also said in words on standard error; with 15, also each number that is off the drafting grid, as
-`bundles explain` with the JOB says it.
+also said in words on standard error, with what it is about: the field, record and id; the bundle and
+the edge or node; the bundles of a component; what grant would be enough. A JOB may be a board's text,
+which is packed: then the lines are named too.
 
 With two jobs or more, each answer is written beside its job, with `.answer` in place of `.job` at
 the end of the name, or behind a name with another end; a file that is there is replaced. Each job
-has a line on standard error. The exit code is 1 where any of them was refused. A job that cannot
-be read ends the command at its turn.",
+has a line on standard error. A job that cannot be read is told, and the others are drawn. The exit
+code is 2 where one could not be read, else 1 where any was refused.",
     },
     Command {
         name: "explain",
-        words: "[ANSWER [JOB]]",
+        words: "[ANSWER [JOB]] [--names FILE]",
         short: "an answer in words: a table of its bundles, or why the job was refused",
         long: "\
 The table has a line for each bundle: its id, its role, whether it stands inside the sheet
@@ -69,7 +80,7 @@ proved; where it was exact none was found on any board tried. All this is about 
     },
     Command {
         name: "svg",
-        words: "JOB ANSWER [--title TITLE]",
+        words: "JOB ANSWER [--title TITLE] [--names FILE]",
         short: "a job and its answer, to a picture on standard output",
         long: "\
 The picture is an SVG file: open it with a browser, print it from there. The page is A4 where on it the
@@ -96,7 +107,7 @@ in words.",
     },
     Command {
         name: "html",
-        words: "BOARD [--title TITLE]",
+        words: "BOARD [--title TITLE] [--names FILE]",
         short: "a board's text or job, to a page on standard output to follow its bundles on",
         long: "\
 The page is one file that needs nothing else: open it with a browser. It has the picture of
@@ -106,6 +117,18 @@ search takes names and ids. Wheel, two fingers, `+` and `-` zoom; dragging and t
 shows the whole sheet, Tab goes from one thing to the next, Enter chooses, Escape shows all again, `/`
 goes to the search. Behind `#` in the address can stand what is chosen: sheet.html#bundle-3. Printed
 it is the picture.",
+    },
+    Command {
+        name: "picture",
+        words: "BOARD [--title TITLE] [--names FILE]",
+        short: "a board's text or a job, drawn, to a picture on standard output: all in one",
+        long: "The picture is that of `bundles svg`. A refusal is also said on standard error.",
+    },
+    Command {
+        name: "version",
+        words: "",
+        short: "the tool's version",
+        long: "",
     },
     Command {
         name: "help",
@@ -128,11 +151,13 @@ pub fn all() -> String {
     );
     for command in &COMMANDS {
         let usage = format!("{} {}", command.name, command.words);
-        text.push_str(&format!("  bundles {usage:31}{}\n", command.short));
+        text.push_str(&format!("  bundles {usage:46}{}\n", command.short));
     }
     text.push_str(&format!(
         "\n{FILES}\n\n\
-         From a text to a picture:\n\n  \
+         `bundles COMMAND --help` says all about one. From a text to a picture at once:\n\n  \
+         bundles picture board.txt > board.svg\n\n\
+         and step by step:\n\n  \
          bundles pack board.txt > board.job\n  \
          bundles draw board.job > board.answer\n  \
          bundles explain board.answer board.job\n  \

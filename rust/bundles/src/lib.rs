@@ -3,9 +3,10 @@
 #![forbid(unsafe_code)]
 
 pub mod explain;
-pub mod grid;
 pub mod html;
 pub mod joints;
+pub mod lines;
 pub mod names;
 pub mod svg;
 pub mod text;
+mod tokens;

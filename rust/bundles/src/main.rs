@@ -2,28 +2,35 @@
 
 #![forbid(unsafe_code)]
 
+mod files;
 mod help;
 
-use std::fmt::Display;
-use std::fs::{self, File};
-use std::io::{self, Read, Write};
+use std::fs;
 use std::path::{Path, PathBuf};
 use std::process::ExitCode;
 
-use bundle_stage::{Answer, Board, Refusal, Sheet};
-use bundles::explain::{counted, explain};
+use bundle_stage::{Answer, Board, Sheet, locate};
+use bundles::explain::{counted, explain, places};
 use bundles::html::{html, html_refused};
 use bundles::names::Names;
 use bundles::svg::{svg, svg_refused};
-use bundles::{grid, text};
+use bundles::text;
 
-/// What the program `sheet` reads of a job.
-const JOB: u64 = 65_536;
+use files::{Loaded, answer, called, load, of, out, read};
 
 /// How a command ends where nothing failed.
 enum Done {
     Well,
     Refused,
+    /// One of several jobs could not be read or written; it was said.
+    Unreadable,
+}
+
+/// What stands behind a command's `--title` and `--names`.
+#[derive(Clone, Copy, Default)]
+struct Settings<'a> {
+    title: Option<&'a str>,
+    names: Option<&'a str>,
 }
 
 fn main() -> ExitCode {
@@ -34,6 +41,7 @@ fn main() -> ExitCode {
     match done {
         Ok(Done::Well) => ExitCode::SUCCESS,
         Ok(Done::Refused) => ExitCode::from(1),
+        Ok(Done::Unreadable) => ExitCode::from(2),
         Err(message) => {
             eprintln!("bundles: {message}");
             ExitCode::from(2)
@@ -50,95 +58,156 @@ fn words() -> Result<Vec<String>, String> {
 }
 
 fn command(words: &[&str]) -> Result<Done, String> {
-    match *words {
+    if let [name, .., "--help" | "-h"] = *words
+        && let Some(text) = help::one(name)
+    {
+        return out(text.as_bytes());
+    }
+    let (words, settings) = settings(words)?;
+    match words[..] {
         ["pack"] => pack("-"),
         ["pack", board] => pack(board),
-        ["unpack"] => unpack("-"),
-        ["unpack", job] => unpack(job),
-        ["draw"] => draw_one("-"),
-        ["draw", job] => draw_one(job),
-        ["draw", ref jobs @ ..] => draw_all(jobs),
-        ["explain"] => explained("-", None),
-        ["explain", answer] => explained(answer, None),
-        ["explain", "-", "-"] | ["svg", "-", "-", ..] => {
+        ["names", board] => names(board),
+        ["unpack"] => unpack("-", settings),
+        ["unpack", job] => unpack(job, settings),
+        ["draw"] => draw_one("-", settings),
+        ["draw", job] => draw_one(job, settings),
+        ["draw", ref jobs @ ..] => Ok(draw_all(jobs)),
+        ["explain"] => explained("-", None, settings),
+        ["explain", answer] => explained(answer, None, settings),
+        ["explain", "-", "-"] | ["svg", "-", "-"] => {
             Err("a job and its answer cannot both come from standard input".to_string())
         }
-        ["explain", answer, job] => explained(answer, Some(job)),
-        ["svg", job, answer] => picture(job, answer, &title(job)),
-        ["svg", job, answer, "--title", title] => picture(job, answer, title),
-        ["html", name] => followed(name, &title(name)),
-        ["html", name, "--title", title] => followed(name, title),
+        ["explain", answer, job] => explained(answer, Some(job), settings),
+        ["svg", job, answer] => picture_of(job, answer, settings),
+        ["picture", board] => picture(board, settings),
+        ["html", board] => followed(board, settings),
         ["help" | "--help" | "-h"] => out(help::all().as_bytes()),
+        ["version" | "--version" | "-V"] => {
+            out(format!("bundles {}\n", env!("CARGO_PKG_VERSION")).as_bytes())
+        }
         ["help", name] => {
             let text = help::one(name).ok_or(format!("no command `{name}`; see `bundles help`"))?;
             out(text.as_bytes())
         }
         [] => Err("no command; see `bundles help`".to_string()),
-        [name, ..] => Err(match help::usage(name) {
-            Some(usage) => format!("wrong words; it is: {usage}"),
-            None => format!("no command `{name}`; see `bundles help`"),
-        }),
+        [name, ..] => Err(wrong(name)),
     }
+}
+
+fn wrong(name: &str) -> String {
+    match help::usage(name) {
+        Some(usage) => format!("wrong words; it is: {usage}"),
+        None => format!("no command `{name}`; see `bundles help`"),
+    }
+}
+
+/// The words without `--title TITLE` and `--names FILE`, and these.
+fn settings<'a>(words: &[&'a str]) -> Result<(Vec<&'a str>, Settings<'a>), String> {
+    let mut settings = Settings::default();
+    let mut others = Vec::new();
+    let mut words = words.iter().copied();
+    while let Some(word) = words.next() {
+        let place = match word {
+            "--title" => &mut settings.title,
+            "--names" => &mut settings.names,
+            _ => {
+                others.push(word);
+                continue;
+            }
+        };
+        let value = words.next();
+        *place = Some(value.ok_or_else(|| wrong(others.first().unwrap_or(&word)))?);
+    }
+    Ok((others, settings))
 }
 
 fn pack(name: &str) -> Result<Done, String> {
-    let (board, lines) = text::read_with_lines(&read(name, u64::MAX)?).map_err(of(name))?;
-    for off in lines.off_grid(&board) {
+    let text = text::read_all(&read(name)?).map_err(of(name))?;
+    for off in text.lines.off_grid(&text.board) {
         eprintln!("{}: {off}", called(name));
     }
-    out(&board.to_bytes().map_err(of(name))?)
+    out(&text.board.to_bytes().map_err(of(name))?)
 }
 
-fn unpack(name: &str) -> Result<Done, String> {
-    out(text::write(&board(name)?).as_bytes())
+fn names(name: &str) -> Result<Done, String> {
+    let names = Names::read(&read(name)?).map_err(of(name))?;
+    out(names.write().as_bytes())
 }
 
-fn draw_one(name: &str) -> Result<Done, String> {
-    let job = read(name, JOB)?;
-    let (bytes, answer) = drawn(name, &job)?;
+fn unpack(name: &str, settings: Settings<'_>) -> Result<Done, String> {
+    let loaded = load(name, settings.names)?;
+    out(text::write_named(&loaded.board()?, &loaded.names).as_bytes())
+}
+
+fn draw_one(name: &str, settings: Settings<'_>) -> Result<Done, String> {
+    let loaded = load(name, settings.names)?;
+    let (bytes, answer) = drawn(&loaded)?;
     out(&bytes)?;
     if let Answer::Refused(refusal) = &answer {
         eprintln!("{}: {refusal}", called(name));
-        eprint!("{}", off_grid(*refusal, &job));
+        eprint!("{}", located(&answer, &loaded));
     }
     Ok(done(&answer))
 }
 
-fn draw_all(names: &[&str]) -> Result<Done, String> {
+/// Draws every job that can be read. One that cannot is said, and the others are drawn.
+fn draw_all(names: &[&str]) -> Done {
     let mut all = Done::Well;
     for (place, name) in names.iter().enumerate() {
-        let (bytes, answer) = drawn(name, &read(name, JOB)?)?;
-        let to = beside(name)?;
-        fs::write(&to, bytes).map_err(of(to.display()))?;
-        let said = match &answer {
-            Answer::Drawn(sheet) => format!("{} drawn", counted(sheet.bundles.len(), "bundle")),
-            Answer::Refused(refusal) => refusal.to_string(),
-        };
         let turn = format!("{} of {}", place + 1, names.len());
-        eprintln!("{turn}: {name}: {said}; {}", to.display());
-        if let Done::Refused = done(&answer) {
-            all = Done::Refused;
+        match draw_beside(name) {
+            Ok((said, done)) => {
+                eprintln!("{turn}: {name}: {said}");
+                if let (Done::Refused, Done::Well) = (&done, &all) {
+                    all = done;
+                }
+            }
+            Err(message) => {
+                eprintln!("{turn}: not drawn: {message}");
+                all = Done::Unreadable;
+            }
         }
     }
-    Ok(all)
+    all
+}
+
+/// Draws a job to a file beside it; what to say of it.
+fn draw_beside(name: &str) -> Result<(String, Done), String> {
+    let to = beside(name)?;
+    let loaded = load(name, None)?;
+    let (bytes, answer) = drawn(&loaded)?;
+    fs::write(&to, bytes).map_err(of(to.display()))?;
+    let said = match &answer {
+        Answer::Drawn(sheet) => format!("{} drawn", counted(sheet.bundles.len(), "bundle")),
+        Answer::Refused(refusal) => refusal.to_string(),
+    };
+    let places = located(&answer, &loaded);
+    let places = places.trim_end();
+    let gap = if places.is_empty() { "" } else { "\n" };
+    Ok((
+        format!("{said}; {}{gap}{places}", to.display()),
+        done(&answer),
+    ))
 }
 
 /// The bytes of a job's answer, and what they say.
-fn drawn(name: &str, job: &[u8]) -> Result<(Vec<u8>, Answer), String> {
-    let bytes = bundle_stage::answer(job);
-    let answer = Answer::from_bytes(&bytes).map_err(of(name))?;
+fn drawn(loaded: &Loaded) -> Result<(Vec<u8>, Answer), String> {
+    let bytes = bundle_stage::answer(&loaded.job);
+    let answer = Answer::from_bytes(&bytes).map_err(of(&loaded.name))?;
     Ok((bytes, answer))
 }
 
-/// Where a job was refused with 15, a line for each number that is off the drafting grid.
-fn off_grid(refusal: Refusal, job: &[u8]) -> String {
-    let board = match refusal {
-        Refusal::OffGrid => Board::from_bytes(job).unwrap_or_default(),
-        _ => Board::default(),
+/// Where a job was refused, a line for each place that the refusal is about.
+fn located(answer: &Answer, loaded: &Loaded) -> String {
+    let Answer::Refused(refusal) = answer else {
+        return String::new();
     };
-    let off = board.off_grid();
-    let lines = off.iter().map(|off| format!("  {}\n", grid::words(off)));
-    lines.collect()
+    // The answer may be that of another job.
+    let refused = locate(&loaded.job).filter(|refused| refused.refusal == *refusal);
+    refused.map_or(String::new(), |refused| {
+        places(&refused, &loaded.names, &loaded.lines)
+    })
 }
 
 /// Where the answer to one of several jobs goes.
@@ -150,51 +219,80 @@ fn beside(job: &str) -> Result<PathBuf, String> {
     Ok(PathBuf::from(format!("{stem}.answer")))
 }
 
-fn explained(name: &str, job: Option<&str>) -> Result<Done, String> {
+fn explained(name: &str, job: Option<&str>, settings: Settings<'_>) -> Result<Done, String> {
     let answer = answer(name)?;
-    let board = match (&answer, job) {
-        (Answer::Drawn(sheet), Some(job)) => Some(board_of(job, name, sheet)?),
-        _ => None,
+    let Some(job) = job else {
+        out(explain(&answer, None, &Names::default()).as_bytes())?;
+        return Ok(done(&answer));
     };
-    let mut words = explain(&answer, board.as_ref());
-    if let (Answer::Refused(refusal), Some(job)) = (&answer, job) {
-        words.push_str(&off_grid(*refusal, &read(job, u64::MAX)?));
-    }
+    let loaded = load(job, settings.names)?;
+    let board = match &answer {
+        Answer::Drawn(sheet) => Some(board_of(&loaded, name, sheet)?),
+        Answer::Refused(_) => None,
+    };
+    let mut words = explain(&answer, board.as_ref(), &loaded.names);
+    words.push_str(&located(&answer, &loaded));
     out(words.as_bytes())?;
     Ok(done(&answer))
 }
 
-fn picture(job: &str, name: &str, title: &str) -> Result<Done, String> {
+fn picture_of(job: &str, name: &str, settings: Settings<'_>) -> Result<Done, String> {
     let answer = answer(name)?;
-    let text = match &answer {
+    let loaded = load(job, settings.names)?;
+    shown(&loaded, name, &answer, settings)
+}
+
+/// Packs where that is needed, draws, and shows.
+fn picture(name: &str, settings: Settings<'_>) -> Result<Done, String> {
+    let loaded = load(name, settings.names)?;
+    let (_, answer) = drawn(&loaded)?;
+    if let Answer::Refused(refusal) = &answer {
+        eprintln!("{}: {refusal}", called(name));
+        eprint!("{}", located(&answer, &loaded));
+    }
+    shown(&loaded, name, &answer, settings)
+}
+
+fn shown(
+    loaded: &Loaded,
+    name: &str,
+    answer: &Answer,
+    settings: Settings<'_>,
+) -> Result<Done, String> {
+    let by_file = title(&loaded.name);
+    let title = settings.title.unwrap_or(&by_file);
+    let text = match answer {
         Answer::Drawn(sheet) => {
-            let board = board_of(job, name, sheet)?;
-            svg(&board, sheet, &Names::default(), title).map_err(of(job))?
+            let board = board_of(loaded, name, sheet)?;
+            svg(&board, sheet, &loaded.names, title).map_err(of(&loaded.name))?
         }
+        // The refusal may be that the bytes are no job; then there is no board to show.
         Answer::Refused(refusal) => {
-            // The refusal may be that the bytes are no job; then there is no board to show.
-            let board = Board::from_bytes(&read(job, u64::MAX)?).unwrap_or_default();
-            svg_refused(&board, *refusal, &Names::default(), title)
+            let board = loaded.board().unwrap_or_default();
+            svg_refused(&board, *refusal, &loaded.names, title)
         }
     };
     out(text.as_bytes())?;
-    Ok(done(&answer))
+    Ok(done(answer))
 }
 
 /// The page of a board, from its text or its job.
-fn followed(name: &str, title: &str) -> Result<Done, String> {
-    let bytes = read(name, u64::MAX)?;
-    let board = match Board::from_bytes(&bytes) {
-        Ok(board) => board,
-        Err(_) => text::read(&bytes).map_err(of(name))?,
-    };
-    let names = Names::default();
-    let (page, done) = match board.draw() {
-        Ok(sheet) => (html(&board, &sheet, &names, title), Done::Well),
-        Err(refusal) => (html_refused(&board, refusal, &names, title), Done::Refused),
+fn followed(name: &str, settings: Settings<'_>) -> Result<Done, String> {
+    let loaded = load(name, settings.names)?;
+    let by_file = title(&loaded.name);
+    let title = settings.title.unwrap_or(&by_file);
+    let (_, answer) = drawn(&loaded)?;
+    let board = loaded.board()?;
+    let page = match &answer {
+        Answer::Drawn(sheet) => html(&board, sheet, &loaded.names, title),
+        Answer::Refused(refusal) => {
+            eprintln!("{}: {refusal}", called(name));
+            eprint!("{}", located(&answer, &loaded));
+            html_refused(&board, *refusal, &loaded.names, title)
+        }
     };
     out(page.as_bytes())?;
-    Ok(done)
+    Ok(done(&answer))
 }
 
 /// A picture's title where none is given: the job's name without folder and end.
@@ -213,21 +311,9 @@ fn done(answer: &Answer) -> Done {
     }
 }
 
-// ---- files
-
-fn board(name: &str) -> Result<Board, String> {
-    Board::from_bytes(&read(name, u64::MAX)?)
-        .map_err(|malformed| format!("{}: no whole job: {malformed}", called(name)))
-}
-
-fn answer(name: &str) -> Result<Answer, String> {
-    Answer::from_bytes(&read(name, u64::MAX)?)
-        .map_err(|malformed| format!("{}: no answer: {malformed}", called(name)))
-}
-
 /// The board of a job, if the sheet may be its own: the same ids in the same order.
-fn board_of(job: &str, name: &str, sheet: &Sheet) -> Result<Board, String> {
-    let board = board(job)?;
+fn board_of(loaded: &Loaded, name: &str, sheet: &Sheet) -> Result<Board, String> {
+    let board = loaded.board()?;
     let nodes = board.nodes.iter().map(|row| row.id);
     let edges = board.edges.iter().map(|row| row.id);
     let bundles = board.bundles.iter().map(|row| row.id);
@@ -238,37 +324,8 @@ fn board_of(job: &str, name: &str, sheet: &Sheet) -> Result<Board, String> {
         return Err(format!(
             "{} is not the answer to {}: other nodes, routes or bundles",
             called(name),
-            called(job)
+            called(&loaded.name)
         ));
     }
     Ok(board)
-}
-
-fn read(name: &str, most: u64) -> Result<Vec<u8>, String> {
-    let mut bytes = Vec::new();
-    if name == "-" {
-        io::stdin().lock().take(most).read_to_end(&mut bytes)
-    } else {
-        File::open(name).and_then(|file| file.take(most).read_to_end(&mut bytes))
-    }
-    .map_err(of(name))?;
-    Ok(bytes)
-}
-
-fn out(bytes: &[u8]) -> Result<Done, String> {
-    let mut to = io::stdout().lock();
-    to.write_all(bytes)
-        .and_then(|()| to.flush())
-        .map_err(of("standard output"))?;
-    Ok(Done::Well)
-}
-
-fn called(name: &str) -> &str {
-    if name == "-" { "standard input" } else { name }
-}
-
-/// Words that say of which file an error is.
-fn of<E: Display>(name: impl Display) -> impl Fn(E) -> String {
-    let name = name.to_string();
-    move |error| format!("{}: {error}", called(&name))
 }

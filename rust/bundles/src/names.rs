@@ -1,10 +1,15 @@
-//! Names that a reader knows nodes, ports, edges and bundles by. A job's bytes have none, so they travel
-//! beside it.
+//! Names of nodes, ports, edges and bundles. A job's bytes have none, so they travel beside it: in the
+//! board's text, or in a file that has lines such as `node 5 "timestamp unit"` and nothing else.
 
 use std::collections::BTreeMap;
 
-/// Names by id, a port's by its node and id.
-#[derive(Clone, Debug, Default)]
+use bundle_stage::{Endpoint, Item};
+
+use crate::text::{Wrong, utf8};
+use crate::tokens::{quote, split, unquote};
+
+/// Names by id, where they are given.
+#[derive(Clone, Debug, Default, Eq, PartialEq)]
 pub struct Names {
     nodes: BTreeMap<u32, String>,
     ports: BTreeMap<(u32, u32), String>,
@@ -29,26 +34,95 @@ impl Names {
         self.bundles.get(&id).map(String::as_str)
     }
 
+    pub fn set_node(&mut self, id: u32, name: &str) {
+        self.nodes.insert(id, name.to_string());
+    }
+
+    pub fn set_port(&mut self, node: u32, id: u32, name: &str) {
+        self.ports.insert((node, id), name.to_string());
+    }
+
+    pub fn set_edge(&mut self, id: u32, name: &str) {
+        self.edges.insert(id, name.to_string());
+    }
+
+    pub fn set_bundle(&mut self, id: u32, name: &str) {
+        self.bundles.insert(id, name.to_string());
+    }
+
     pub fn is_empty(&self) -> bool {
-        self.nodes.is_empty()
-            && self.ports.is_empty()
-            && self.edges.is_empty()
-            && self.bundles.is_empty()
+        *self == Names::default()
     }
 
-    pub fn set_node(&mut self, id: u32, name: String) {
-        self.nodes.insert(id, name);
+    /// A record by id, and by name where it has one.
+    pub fn item(&self, item: Item) -> String {
+        let name = match item {
+            Item::Node { id, .. } => self.node(id),
+            Item::Port { node, id, .. } => self.port(node, id),
+            Item::Edge { id, .. } => self.edge(id),
+            Item::Bundle { id, .. } => self.bundle(id),
+            _ => None,
+        };
+        match name {
+            Some(name) => format!("{item} ({name})"),
+            None => item.to_string(),
+        }
     }
 
-    pub fn set_port(&mut self, node: u32, id: u32, name: String) {
-        self.ports.insert((node, id), name);
+    /// The file of names.
+    pub fn write(&self) -> String {
+        let line = |key: &str, id: String, name: &str| format!("{key} {id} {}\n", quote(name));
+        let mut text = String::new();
+        for (id, name) in &self.nodes {
+            text.push_str(&line("node", id.to_string(), name));
+        }
+        for ((node, id), name) in &self.ports {
+            text.push_str(&line("port", format!("{node}:{id}"), name));
+        }
+        for (id, name) in &self.edges {
+            text.push_str(&line("edge", id.to_string(), name));
+        }
+        for (id, name) in &self.bundles {
+            text.push_str(&line("bundle", id.to_string(), name));
+        }
+        text
     }
 
-    pub fn set_edge(&mut self, id: u32, name: String) {
-        self.edges.insert(id, name);
+    /// The names of a file of names, or of a board's text: lines without a name, and what stands behind
+    /// one, say nothing here.
+    pub fn read(text: &[u8]) -> Result<Names, Wrong> {
+        let mut names = Names::default();
+        for (line, said) in (1..).zip(utf8(text)?.lines()) {
+            let words = split(said).map_err(|words| Wrong { line, words })?;
+            if let [key, id, name, ..] = words[..]
+                && let Some(name) = unquote(name)
+            {
+                names.set(key, id, &name).ok_or_else(|| Wrong {
+                    line,
+                    words: format!(
+                        "expected `node`, `port`, `edge` or `bundle` and its id, found `{key} {id}`"
+                    ),
+                })?;
+            }
+        }
+        Ok(names)
     }
 
-    pub fn set_bundle(&mut self, id: u32, name: String) {
-        self.bundles.insert(id, name);
+    fn set(&mut self, key: &str, id: &str, name: &str) -> Option<()> {
+        match key {
+            "port" => {
+                let (node, port) = id.split_once(':')?;
+                let at = Endpoint {
+                    node: node.parse().ok()?,
+                    port: port.parse().ok()?,
+                };
+                self.set_port(at.node, at.port, name);
+            }
+            "node" => self.set_node(id.parse().ok()?, name),
+            "edge" => self.set_edge(id.parse().ok()?, name),
+            "bundle" => self.set_bundle(id.parse().ok()?, name),
+            _ => return None,
+        }
+        Some(())
     }
 }

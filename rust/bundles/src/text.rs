@@ -9,7 +9,13 @@ use bundle_stage::{
     Visits,
 };
 
-use crate::grid::Lines;
+use crate::lines::Lines;
+use crate::names::Names;
+use crate::tokens::{self, unquote};
+
+mod write;
+
+pub use write::{write, write_named};
 
 /// A line that is not as it should be.
 #[derive(Clone, Debug, Eq, PartialEq)]
@@ -59,121 +65,6 @@ pub fn number(value: f64) -> String {
     }
 }
 
-fn name<T: Copy + PartialEq>(names: &[(&'static str, T)], value: T) -> &'static str {
-    let found = names.iter().find(|(_, named)| *named == value);
-    found.expect("every value has a name").0
-}
-
-// ---- writing
-
-/// The board's text. `read` gives the same board back.
-pub fn write(board: &Board) -> String {
-    let mut lines = Vec::new();
-    let Options {
-        port_stub,
-        route_lane_gap,
-        edge_node_clearance,
-        minimum_parallel_wire_spacing,
-        member_endpoint_reserve,
-    } = board.options;
-    let options = [
-        port_stub,
-        route_lane_gap,
-        edge_node_clearance,
-        minimum_parallel_wire_spacing,
-        member_endpoint_reserve,
-    ];
-    settings(&mut lines, OPTIONS, options, number);
-    let Visits { tap, geometry } = board.grants;
-    settings(&mut lines, GRANTS, [tap, geometry], |visits| {
-        visits.to_string()
-    });
-    let Flags {
-        separate_collectors,
-        permit_crossings,
-        on_grid,
-    } = board.flags;
-    let flags = [separate_collectors, permit_crossings, on_grid];
-    settings(&mut lines, FLAGS, flags, |flag| {
-        name(&ANSWERS, flag).to_string()
-    });
-    table(&mut lines, &board.nodes, |node| {
-        format!(
-            "node {} at {} size {}",
-            node.id,
-            pair(node.x, node.y),
-            pair(node.width, node.height)
-        )
-    });
-    table(&mut lines, &board.ports, |port| {
-        format!(
-            "port {}:{} {} {}",
-            port.node,
-            port.id,
-            name(&SIDES, port.side),
-            number(port.offset)
-        )
-    });
-    table(&mut lines, &board.edges, |edge| {
-        let points = edge.points.iter().map(|point| pair(point.x, point.y));
-        format!(
-            "edge {} from {} to {}{}",
-            edge.id,
-            endpoint(edge.source),
-            endpoint(edge.target),
-            list("via", points)
-        )
-    });
-    table(&mut lines, &board.bundles, |bundle| {
-        let members = bundle.members.iter();
-        let members = members.map(|member| format!("{}@{}", member.edge, member.lane));
-        format!(
-            "bundle {} at {} {} width {}{}",
-            bundle.id,
-            endpoint(bundle.endpoint),
-            name(&ROLES, bundle.role),
-            bundle.width,
-            list("members", members)
-        )
-    });
-    lines.join("\n") + "\n"
-}
-
-fn settings<T, const N: usize>(
-    lines: &mut Vec<String>,
-    keys: [&str; N],
-    values: [T; N],
-    word: impl Fn(T) -> String,
-) {
-    let said = keys.into_iter().zip(values);
-    lines.extend(said.map(|(key, value)| format!("{key} {}", word(value))));
-}
-
-fn table<T>(lines: &mut Vec<String>, rows: &[T], line: impl Fn(&T) -> String) {
-    if !rows.is_empty() {
-        lines.push(String::new());
-        lines.extend(rows.iter().map(line));
-    }
-}
-
-fn pair(x: f64, y: f64) -> String {
-    format!("{},{}", number(x), number(y))
-}
-
-fn endpoint(at: Endpoint) -> String {
-    format!("{}:{}", at.node, at.port)
-}
-
-fn list(key: &str, words: impl Iterator<Item = String>) -> String {
-    let words = words.collect::<Vec<_>>();
-    if words.is_empty() {
-        return String::new();
-    }
-    format!(" {key} {}", words.join(" "))
-}
-
-// ---- reading
-
 /// The most records of a table, points of a route or members of a bundle: the job counts them in 16
 /// bits.
 const MOST: usize = u16::MAX as usize;
@@ -186,24 +77,35 @@ struct Settings {
     flags: [Option<bool>; 3],
 }
 
-/// The board that a text says, or the first line that is not as it should be.
-pub fn read(text: &[u8]) -> Result<Board, Wrong> {
-    read_with_lines(text).map(|(board, _)| board)
+/// What a text says: a board, its names, and on which lines its records stand.
+#[derive(Clone, Debug, Default)]
+pub struct Text {
+    pub board: Board,
+    pub names: Names,
+    pub lines: Lines,
 }
 
-/// The same, with the lines of its numbers.
-pub fn read_with_lines(text: &[u8]) -> Result<(Board, Lines), Wrong> {
+/// The board that a text says, or the first line that is not as it should be.
+pub fn read(text: &[u8]) -> Result<Board, Wrong> {
+    read_all(text).map(|text| text.board)
+}
+
+/// The same, with names and lines.
+pub fn read_all(text: &[u8]) -> Result<Text, Wrong> {
     let text = utf8(text)?;
-    let mut board = Board::default();
+    let mut all = Text::default();
     let mut settings = Settings::default();
-    let mut lines = Lines::default();
     for (line, said) in (1..).zip(text.lines()) {
-        let said = said.split('#').next().unwrap_or_default();
         Words::new(said)
-            .line(&mut board, &mut settings)
+            .and_then(|words| words.line(&mut all, &mut settings))
             .map_err(|words| Wrong { line, words })?;
-        lines.note(line, &board, &settings.options);
+        let said = [
+            said_of(&OPTIONS, &settings.options),
+            said_of(&GRANTS, &settings.grants),
+        ];
+        all.lines.note(line, &all.board, said.concat());
     }
+    let board = &mut all.board;
     if let Some(place) = settings.options.iter().position(Option::is_none) {
         return Err(Wrong {
             line: text.lines().count() + 1,
@@ -227,10 +129,17 @@ pub fn read_with_lines(text: &[u8]) -> Result<(Board, Lines), Wrong> {
         permit_crossings: settings.flags[1].unwrap_or_default(),
         on_grid: settings.flags[2].unwrap_or_default(),
     };
-    Ok((board, lines))
+    Ok(all)
 }
 
-fn utf8(text: &[u8]) -> Result<&str, Wrong> {
+/// The names of those that were said.
+fn said_of<T>(keys: &[&'static str], values: &[Option<T>]) -> Vec<&'static str> {
+    let said = keys.iter().zip(values);
+    let said = said.filter(|(_, value)| value.is_some());
+    said.map(|(key, _)| *key).collect()
+}
+
+pub(crate) fn utf8(text: &[u8]) -> Result<&str, Wrong> {
     str::from_utf8(text).map_err(|error| {
         let before = &text[..error.valid_up_to()];
         Wrong {
@@ -243,25 +152,25 @@ fn utf8(text: &[u8]) -> Result<&str, Wrong> {
 
 /// The words of a line, from left to right.
 struct Words<'a> {
-    words: std::str::SplitWhitespace<'a>,
+    words: std::vec::IntoIter<&'a str>,
 }
 
 impl<'a> Words<'a> {
-    fn new(line: &'a str) -> Words<'a> {
-        Words {
-            words: line.split_whitespace(),
-        }
+    fn new(line: &'a str) -> Result<Words<'a>, String> {
+        let words = tokens::split(line)?.into_iter();
+        Ok(Words { words })
     }
 
-    fn line(mut self, board: &mut Board, settings: &mut Settings) -> Result<(), String> {
+    fn line(mut self, text: &mut Text, settings: &mut Settings) -> Result<(), String> {
         let Some(key) = self.words.next() else {
             return Ok(());
         };
+        let Text { board, names, .. } = text;
         match key {
-            "node" => push(&mut board.nodes, "nodes", self.node()?)?,
-            "port" => push(&mut board.ports, "ports", self.port()?)?,
-            "edge" => push(&mut board.edges, "edges", self.edge()?)?,
-            "bundle" => push(&mut board.bundles, "bundles", self.bundle()?)?,
+            "node" => push(&mut board.nodes, "nodes", self.node(names)?)?,
+            "port" => push(&mut board.ports, "ports", self.port(names)?)?,
+            "edge" => push(&mut board.edges, "edges", self.edge(names)?)?,
+            "bundle" => push(&mut board.bundles, "bundles", self.bundle(names)?)?,
             _ => self.setting(key, settings)?,
         }
         self.end()
@@ -286,8 +195,9 @@ impl<'a> Words<'a> {
         }
     }
 
-    fn node(&mut self) -> Result<Node, String> {
+    fn node(&mut self, names: &mut Names) -> Result<Node, String> {
         let id = self.whole("the node's id")?;
+        self.name(|name| names.set_node(id, name));
         self.key("at")?;
         let (x, y) = self.pair("the node's corner as X,Y")?;
         self.key("size")?;
@@ -301,8 +211,9 @@ impl<'a> Words<'a> {
         })
     }
 
-    fn port(&mut self) -> Result<Port, String> {
+    fn port(&mut self, names: &mut Names) -> Result<Port, String> {
         let Endpoint { node, port: id } = self.endpoint("the port as NODE:PORT")?;
+        self.name(|name| names.set_port(node, id, name));
         let side = self.named(&SIDES, "the port's side: north, east, south or west")?;
         let offset = self.number("a number, the port's offset along its side")?;
         Ok(Port {
@@ -313,8 +224,9 @@ impl<'a> Words<'a> {
         })
     }
 
-    fn edge(&mut self) -> Result<Edge, String> {
+    fn edge(&mut self, names: &mut Names) -> Result<Edge, String> {
         let id = self.whole("the edge's id")?;
+        self.name(|name| names.set_edge(id, name));
         self.key("from")?;
         let source = self.endpoint("the edge's source as NODE:PORT")?;
         self.key("to")?;
@@ -331,8 +243,9 @@ impl<'a> Words<'a> {
         })
     }
 
-    fn bundle(&mut self) -> Result<Bundle, String> {
+    fn bundle(&mut self, names: &mut Names) -> Result<Bundle, String> {
         let id = self.whole("the bundle's id")?;
+        self.name(|name| names.set_bundle(id, name));
         self.key("at")?;
         let endpoint = self.endpoint("the bundle's port as NODE:PORT")?;
         let role = self.named(&ROLES, "the bundle's role: input or output")?;
@@ -371,6 +284,15 @@ impl<'a> Words<'a> {
             push(&mut list, plural, item(self)?)?;
         }
         Ok(list)
+    }
+
+    /// A name in quotation marks, if one stands here.
+    fn name(&mut self, set: impl FnOnce(&str)) {
+        let name = self.words.clone().next().and_then(unquote);
+        if let Some(name) = name {
+            self.words.next();
+            set(&name);
+        }
     }
 
     /// A word with a meaning.

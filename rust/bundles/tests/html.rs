@@ -189,7 +189,7 @@ fn crossings() {
 #[test]
 fn a_refused_board() {
     let board = example("clock-board");
-    let page = html_refused(&board, Refusal::Contact, &Names::default(), "refused");
+    let page = html_refused(&board, Refusal::ForbiddenContact, &Names::default(), "refused");
     assert!(page.contains("refused with 11"));
     if let Some(asked) = asked("refused", &page) {
         assert_eq!(asked, due(&board, false));
@@ -239,8 +239,8 @@ fn names_and_words() {
     let board = example("clock-board");
     let sheet = board.draw().expect("a sheet");
     let mut names = Names::default();
-    names.set_node(5, "time </script> & \"unit\"".to_string());
-    names.set_bundle(4, "time code".to_string());
+    names.set_node(5, "time </script> & \"unit\"");
+    names.set_bundle(4, "time code");
     let page = html(&board, &sheet, &names, "a < b");
     assert!(page.contains("<title>a &lt; b</title>"));
     assert_eq!(

@@ -29,7 +29,7 @@ fn example(name: &str) -> Board {
 
 /// The lines about joints and the last shift.
 fn explained(board: &Board, sheet: Sheet) -> String {
-    let text = explain(&Answer::Drawn(sheet), Some(board));
+    let text = explain(&Answer::Drawn(sheet), Some(board), &Names::default());
     text[text.find("joints: ").expect("a line about joints")..].to_string()
 }
 

@@ -5,7 +5,8 @@
 use std::fs;
 
 use bundle_stage::{Board, Flags, Visits};
-use bundles::text::{number, read, write};
+use bundles::names::Names;
+use bundles::text::{number, read, read_all, write, write_named};
 
 fn repository(name: &str) -> Vec<u8> {
     let path = format!("{}/../../{name}", env!("CARGO_MANIFEST_DIR"));
@@ -115,6 +116,10 @@ fn errors_name_the_line_and_what_was_expected() {
         ),
         ("node", "expected the node's id, found the line's end"),
         (
+            "node 7 \"open at 0,0 size 1,1",
+            "expected a name's closing `\"`, found `\"open at 0,0 size 1,1`",
+        ),
+        (
             "node -1 at 0,0 size 1,1",
             "expected the node's id, found `-1`",
         ),
@@ -188,4 +193,31 @@ fn too_many_records_name_the_line() {
         error.to_string(),
         "line 65541: too many ports: a job can count 65535"
     );
+}
+
+#[test]
+fn names_come_back() {
+    let mut names = Names::default();
+    assert!(names.is_empty());
+    names.set_node(5, "timestamp \"unit\" # 1");
+    names.set_port(5, 11, "time \\ code");
+    names.set_edge(3, "Zeit über alles, 時");
+    names.set_bundle(4, "");
+    let text = format!(
+        "{SETTINGS}node 5 at 0,0 size 1,1\nport 5:11 east 0\nport 5:12 east 1\n\
+         edge 3 from 5:11 to 5:11\nedge 4 from 5:11 to 5:11\nbundle 4 at 5:11 input width 0\n"
+    );
+    let board = read(text.as_bytes()).expect("a board");
+    let named = write_named(&board, &names);
+    assert!(
+        named.contains("node 5 \"timestamp \\\"unit\\\" # 1\" at 0,0"),
+        "{named}"
+    );
+    let back = read_all(named.as_bytes()).expect("its own text");
+    assert_eq!((&back.board, &back.names), (&board, &names));
+    // A file of names, and a board's text as one.
+    assert_eq!(Names::read(names.write().as_bytes()), Ok(names.clone()));
+    assert_eq!(Names::read(named.as_bytes()), Ok(names));
+    let error = Names::read(b"\nwire 5 \"a\"\n").expect_err("no such table");
+    assert_eq!(error.line, 2);
 }

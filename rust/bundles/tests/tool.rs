@@ -95,7 +95,14 @@ bundle  role    place     collector x  y           taps
 4       output  interior  580          240 to 350  4
 5       input   rail      120          410 to 430  3
 6       output  rail      880          415 to 425  2
-
+";
+    let ways = "
+B1: 1:1 → 4:1, 4:2, 4:3, 4:4
+B2: 4:11, 4:12, 4:13, 4:14 → 6:1
+B3: 2:1 → 4:5, 7:1, 5:1
+B4: 2:1, 5:11, 5:12 → 7:1
+B5: 3:1 → 5:2, 5:3, 5:4
+B6: 5:13, 5:14 → 8:1
 ";
     let left = "tap visits: 1999720 left\ngeometry visits: 19998994 left\n\
                 joints: not looked at, as that takes the job\n";
@@ -105,7 +112,7 @@ bundle  role    place     collector x  y           taps
                 last shift: it subtracted nothing\n";
     assert_eq!(
         text(out(0, &["explain", &answer], b"")),
-        format!("{table}{left}")
+        format!("{table}\n{left}")
     );
     assert_eq!(
         text(out(
@@ -113,7 +120,7 @@ bundle  role    place     collector x  y           taps
             &["explain", "-", &job],
             &fs::read(&answer).expect("an example")
         )),
-        format!("{table}{paid}")
+        format!("{table}{ways}\n{paid}")
     );
 }
 
@@ -245,6 +252,91 @@ fn several_jobs() {
     assert!(out(1, &["draw", &name("c.job"), &name("a.job")], b"").is_empty());
     assert_eq!(fs::read(name("c.answer")).expect("a notice"), NOTICE);
     assert!(failed(&["draw", &name("a.job"), "-"]).contains("standard input"));
+    // One cannot be read: it is told, and the others are drawn.
+    fs::remove_file(name("b.answer")).expect("a file");
+    let said = failed(&["draw", &name("not-there.job"), &name("c.job"), &name("b")]);
+    assert!(said.contains("1 of 3: not drawn: "), "{said}");
+    assert_eq!(fs::read(name("b.answer")).expect("an answer"), answer);
+}
+
+/// A text in place of a job: it is packed, and its lines and names are told.
+#[test]
+fn texts_in_place_of_jobs() {
+    let (board, job) = (example("clock-board.txt"), example("clock-board.job"));
+    let answer = fs::read(example("clock-board.answer")).expect("an example");
+    assert_eq!(out(0, &["draw", &board], b""), answer);
+    let picture = out(0, &["svg", &job, "-"], &answer);
+    assert_eq!(out(0, &["picture", &job], b""), picture);
+    assert!(text(out(0, &["picture", &board], b"")).starts_with("<svg "));
+    let words = text(out(0, &["explain", "-", &board], &answer));
+    assert!(
+        words.contains("\nB4 time code: 2:1, 5:11, 5:12 → 7:1\n"),
+        "{words}"
+    );
+    assert!(words.contains("\nnode 5: timestamp unit\n"), "{words}");
+    let named = out(0, &["explain", "-", &job, "--names", &board], &answer);
+    assert_eq!(text(named), words);
+    let folder = folder("texts");
+    let name = |name: &str| folder.join(name).to_str().expect("text").to_string();
+    let names = out(0, &["names", &board], b"");
+    fs::write(name("board.names"), &names).expect("a file");
+    let unpacked = out(0, &["unpack", &job, "--names", &name("board.names")], b"");
+    fs::write(name("unpacked.txt"), &unpacked).expect("a file");
+    assert_eq!(out(0, &["names", &name("unpacked.txt")], b""), names);
+    assert_eq!(
+        out(0, &["pack", &name("unpacked.txt")], b""),
+        fs::read(&job).expect("a job")
+    );
+}
+
+/// Line, id and name of what a refusal is about.
+#[test]
+fn refusals_with_their_place() {
+    let folder = folder("refusals");
+    let name = folder.join("board.txt").to_str().expect("text").to_string();
+    let board = fs::read_to_string(example("clock-board.txt")).expect("an example");
+    let line = |start: &str| {
+        1 + board
+            .lines()
+            .position(|line| line.starts_with(start))
+            .expect(start)
+    };
+    let said = |from: &str, to: &str| {
+        assert_eq!(board.matches(from).count(), 1, "{from}");
+        fs::write(&name, board.replace(from, to)).expect("a file");
+        let output = bundles(&["draw", &name], b"");
+        assert_eq!(output.status.code(), Some(1), "{to}");
+        let explained = text(out(1, &["explain", "-", &name], &output.stdout));
+        let words = text(output.stderr);
+        let place = words.lines().last().expect("a line").to_string();
+        assert!(explained.ends_with(&format!("{place}\n")), "{explained}");
+        place
+    };
+    let (four, five) = (line("node 4"), line("node 5"));
+    assert_eq!(
+        said("node 5 \"timestamp unit\"", "node 4 \"timestamp unit\""),
+        format!(
+            "  lines {four}, {five}: node 4 (timestamp unit) is there twice: the fourth and the fifth of the nodes"
+        )
+    );
+    let bundle = line("bundle 6");
+    assert_eq!(
+        said("\"alarms\" at 8:1", "\"alarms\" at 8:7"),
+        format!("  line {bundle}: bundle 6 (alarms) names port 8:7, and node 8 has no such port")
+    );
+    assert_eq!(
+        said("members 61@0", "members 61@999"),
+        format!(
+            "  line {bundle}: byte 2791: the lane of edge 61 in bundle 6 (alarms) is 999, and at most 255 is allowed"
+        )
+    );
+}
+
+#[test]
+fn version() {
+    let due = concat!("bundles ", env!("CARGO_PKG_VERSION"), "\n");
+    assert_eq!(text(out(0, &["--version"], b"")), due);
+    assert_eq!(text(out(0, &["version"], b"")), due);
 }
 
 #[test]
@@ -278,10 +370,13 @@ fn what_fails() {
 fn help() {
     let all = text(out(0, &["help"], b""));
     assert_eq!(text(out(0, &["--help"], b"")), all);
-    for command in ["pack", "unpack", "draw", "explain", "svg", "help"] {
+    for command in [
+        "pack", "unpack", "names", "draw", "explain", "svg", "picture", "version", "help",
+    ] {
         assert!(all.contains(&format!("\n  bundles {command} ")));
         let one = text(out(0, &["help", command], b""));
         assert!(one.starts_with(&format!("bundles {command} ")));
         assert!(one.contains("Exit codes: "));
+        assert_eq!(text(out(0, &[command, "--help"], b"")), one);
     }
 }

@@ -45,6 +45,24 @@ pub fn answer_before_shift(job: &[u8]) -> Vec<u8> {
     sheet(job, |_| {}, |_| {}).unwrap_or_else(answer::notice)
 }
 
+/// The number of a refusal by the drawing, and the place of the bundle at whose turn it came.
+pub fn refused_at(job: &[u8]) -> Option<(u8, usize)> {
+    let board = Board::new(&job::read(job).ok()?);
+    let graph = board.graph();
+    let prepared = board.prepare(&graph);
+    let mut tap_visits = board.tap_visits as usize;
+    let planned = prepared.plan(&board.routes, board.separate, &mut tap_visits)?;
+    let mut visits = board.geometry_visits as usize;
+    let drawn = draw(
+        &board,
+        &prepared,
+        &planned,
+        &mut board.layout(),
+        &mut visits,
+    );
+    drawn.err().map(|refused| (refused.number, refused.bundle))
+}
+
 /// For this thread, what is called before and after each pitch less the tolerance: the one operation
 /// that rounds for a job on the drafting grid (document 02, F-2), so that the CPU's flag for it can
 /// be kept out of it.

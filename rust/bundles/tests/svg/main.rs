@@ -209,14 +209,18 @@ fn jobs_of_a_folder() {
 #[test]
 fn a_refused_board() {
     let (board, _) = example("clock-board");
-    let picture = svg_refused(&board, Refusal::Contact, "a < b & \"c\"\u{1}");
+    let picture = svg_refused(&board, Refusal::ForbiddenContact, "a < b & \"c\"\u{1}");
     let elements = checked(&picture);
     assert!(picture.contains("<title>a &lt; b &amp; &quot;c&quot; </title>"));
     assert!(picture.contains("refused with 11, caused by the drawing: "));
     assert_eq!(of_class(&elements, "route").len(), board.edges.len());
     assert!(of_class(&elements, "bundle").is_empty() && of_class(&elements, "tap").is_empty());
     // No board at all.
-    let empty = checked(&svg_refused(&Board::default(), Refusal::Length, "nothing"));
+    let empty = checked(&svg_refused(
+        &Board::default(),
+        Refusal::LengthMismatch,
+        "nothing",
+    ));
     assert!(of_class(&empty, "node").is_empty());
 }
 
@@ -228,7 +232,7 @@ fn numbers_that_are_no_places() {
     board.nodes[2].height = -1.0;
     board.ports[5].offset = 1e300;
     board.edges[0].points[0].y = -1e300;
-    let picture = svg_refused(&board, Refusal::Number, "numbers");
+    let picture = svg_refused(&board, Refusal::NumberOutOfRange, "numbers");
     let elements = checked(&picture);
     assert_eq!(of_class(&elements, "node").len(), board.nodes.len() - 3);
     assert_eq!(of_class(&elements, "route").len(), board.edges.len() - 1);
@@ -243,7 +247,7 @@ fn sheets_of_hardly_any_size() {
             let way: &[(f64, f64)] = &[(0.0, 0.0), (x, 0.0), (x, y)];
             let mut board = board(&[(1, way), (2, &[(0.0, y), (x / 2.0, y)])]);
             board.nodes.clear();
-            checked(&svg_refused(&board, Refusal::Unknown, "small"));
+            checked(&svg_refused(&board, Refusal::UnknownId, "small"));
         }
     }
 }
@@ -253,7 +257,7 @@ fn very_many_lines() {
     let zigzag = (0..60_000_u32).map(|turn| (f64::from(turn / 2), f64::from(turn.div_ceil(2) % 2)));
     let zigzag = zigzag.collect::<Vec<_>>();
     let board = board(&[(1, &zigzag)]);
-    checked(&svg_refused(&board, Refusal::Limit, "many"));
+    checked(&svg_refused(&board, Refusal::LimitExceeded, "many"));
 }
 
 // ---- what a reader could take for a joint
