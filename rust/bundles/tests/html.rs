@@ -189,7 +189,12 @@ fn crossings() {
 #[test]
 fn a_refused_board() {
     let board = example("clock-board");
-    let page = html_refused(&board, Refusal::ForbiddenContact, &Names::default(), "refused");
+    let page = html_refused(
+        &board,
+        Refusal::ForbiddenContact,
+        &Names::default(),
+        "refused",
+    );
     assert!(page.contains("refused with 11"));
     if let Some(asked) = asked("refused", &page) {
         assert_eq!(asked, due(&board, false));

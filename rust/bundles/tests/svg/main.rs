@@ -116,8 +116,10 @@ fn all_there(elements: &[Element], sheet: &Sheet) {
 fn examples() {
     for name in ["clock-board", "crossings"] {
         let (board, sheet) = example(name);
-        let picture = svg(&board, &sheet, name);
-        assert_eq!(svg(&board, &sheet, name), picture);
+        let text = text::read_all(&file(&format!("examples/{name}.txt"))).expect("a text");
+        let named = || bundles::svg::svg(&board, &sheet, &text.names, name);
+        let picture = named().expect("a clear picture");
+        assert_eq!(named().expect("a clear picture"), picture);
         let elements = checked(&picture);
         all_there(&elements, &sheet);
         assert_eq!(of_class(&elements, "port").len(), board.ports.len());
@@ -132,7 +134,7 @@ fn examples() {
         let shown = file(&format!("docs/pictures/{name}.svg"));
         assert!(
             shown == picture.as_bytes(),
-            "docs/pictures/{name}.svg is an old picture: make it anew with `bundles svg`"
+            "docs/pictures/{name}.svg is an old picture: make it anew with `./run`"
         );
     }
 }
