@@ -17,6 +17,7 @@ use Rattle.board.specs.declared.DrawnBundle.{DrawnBundle}
 use Rattle.board.specs.declared.DrawnTap.{DrawnTap}
 use Rattle.board.specs.declared.DrawnTaps.{DrawnTaps}
 use Rattle.board.specs.Board.{window}
+use Rattle.plan.specs.declared.Planning.{Planning}
 use Rattle.plan.specs.BoardTables.{no-bundle}
 use Rattle.planner.specs.Members.{member-at, edge-row}
 use Rattle.planner.proofs.MemberTurns.{window-cons}
@@ -31,13 +32,12 @@ use Rattle.drawing.specs.Normal.{Page, page-of}
 use Rattle.normalize.specs.declared.Laid.{Laid}
 use Rattle.normalize.specs.PageTables.{Heading, heading, sheet-in, page-in, Windows}
 use Rattle.answer.specs.declared.Frame.{Frame}
-use lib.Seq.{sets}
-use Rattle.answer.specs.Answer.{Sheet, Trunk, trunk-of, spot-of, lines-of, answer-bytes}
+use Rattle.answer.specs.Answer.{Trunk, trunk-of, spot-of, lines-of}
 use Rattle.answer.specs.SheetTables.{sheet-of}
 use Rattle.job.specs.declared.Job as code
-use Rattle.promise.specs.Stage.{tap-told, bundle-told, bundles-told, page-told, told-bytes}
+use Rattle.promise.specs.Stage.{tap-told, bundle-told, bundles-told, page-told, answer-of}
 use Rattle.job_tables.specs.Came.{Sizes, job-in}
-use Rattle.draw_job.specs.JobTables.{Writes, TapsOf, MembersOn, OnSheet, sheet-told, told-as}
+use Rattle.draw_job.specs.JobTables.{TapsOf, MembersOn, OnSheet, finished}
 
 null-tap : DrawnTap
 null-tap = record { edge = 0; point = point-at [] 0 }
@@ -116,11 +116,11 @@ module _ (j : code.Job) (edges : List ℕ) (ds : DrawnBundles) (points : List Fl
       let k : i < ds .count = omega (arith, h, length-take-le (ds .count) (j .bundles .rows) short) in
       subst (λ (u : Bundle). u .first + u .count ≤ j .members .count) (sym (getD-take (ds .count) (j .bundles .rows) i no-bundle k)) (on .windows i k)
 
-  module _ (buffer : List Float) (left rest : ℕ) (l : Laid) (after shifted : List Float) (t : DrawnTaps) (of : TapsOf (j .edges) (j .members) shifted t) (kt : j .members .count ≤ length (t .rows))
+  module _ (buffer : List Float) (p : Planning) (rest : ℕ) (l : Laid) (after shifted : List Float) (t : DrawnTaps) (of : TapsOf (j .edges) (j .members) shifted t) (kt : j .members .count ≤ length (t .rows))
       (page : page-in edges l after counts shifted ≡ page-of (sheet-in edges (j .nodes) ds points counts taps)) (as-many : l .drawn .count ≡ ds .count)
       (kept : map heading (take (l .drawn .count) (l .drawn .rows)) ≡ map heading (take (ds .count) (ds .rows))) where
     abbrev frame : Frame
-    frame = record { «tap_visits» = left; «geometry_visits» = rest; width = l .width; height = l .height }
+    frame = record { «tap_visits» = p .left .0; «geometry_visits» = rest; width = l .width; height = l .height }
 
     trunks : map (trunk-of (take (t .count) (t .rows))) (take (l .drawn .count) (l .drawn .rows))
         ≡ bundles-told (take (j .edges .count) (j .edges .rows)) (take (j .bundles .count) (j .bundles .rows)) (map (drawn-of edges shifted) (take (l .drawn .count) (l .drawn .rows)))
@@ -129,12 +129,8 @@ module _ (j : code.Job) (edges : List ℕ) (ds : DrawnBundles) (points : List Fl
         ∙ trunks-same (j .edges) (j .members) edges shifted t of (on .members-on) kt (on .edges-are) (take (ds .count) (j .bundles .rows)) (take (l .drawn .count) (l .drawn .rows)) (take (ds .count) (ds .rows)) kept (on .each-row) bundle-windows
         ∙ ap (λ (n : ℕ). bundles-told (take (j .edges .count) (j .edges .rows)) (take n (j .bundles .rows)) (map (drawn-of edges shifted) (take (l .drawn .count) (l .drawn .rows)))) (on .all-drawn)
 
-    pub sheet-same : sheet-of frame (l .nodes) (j .edges) after counts (l .drawn) t ≡ sheet-told j buffer edges ds points counts taps left rest
+    pub sheet-same : sheet-of frame (l .nodes) (j .edges) after counts (l .drawn) t ≡ answer-of (finished j buffer p edges ds points counts taps rest)
     unfolding page-told
     sheet-same =
-        ap (λ (b : List Trunk). record { tap-visits = left; geometry-visits = rest; width = l .width; height = l .height; nodes = map spot-of (take (l .nodes .count) (l .nodes .rows)); routes = lines-of (take (j .edges .count) (j .edges .rows)) (routes-of after counts); bundles = b }) trunks
-        ∙ ap (λ (p : Page). page-told (job-in j buffer .board) left rest p) page
-
-pub answer-writes : (before after : List ℕ) (r : ℕ) (a s : Sheet) → a ≡ s → after ≡ sets before 0 (answer-bytes a) → r ≡ length (answer-bytes a) → Writes before after r (told-as s)
-unfolding told-bytes
-answer-writes before after r a s e b c = record { bytes = rw (← e) b; count = rw (← e) c }
+        ap (λ (b : List Trunk). record { tap-visits = p .left .0; geometry-visits = rest; width = l .width; height = l .height; nodes = map spot-of (take (l .nodes .count) (l .nodes .rows)); routes = lines-of (take (j .edges .count) (j .edges .rows)) (routes-of after counts); bundles = b }) trunks
+        ∙ ap (λ (q : Page). page-told (job-in j buffer .board) (p .left .0) rest q) page

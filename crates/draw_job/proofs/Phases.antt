@@ -2,14 +2,16 @@
 -- Assumes nothing.
 use Prim.Native.Nat.{ℕ, _*_, _≤_, _<_}
 use mathlib.Core.Path.{_≡_, refl, sym, ap, _∙_, subst}
-use mathlib.Core.Bool.{Bool, true, false, cond}
+use mathlib.Core.Bool.{Bool, true, false, not, _&&_, cond}
 use mathlib.Core.List.{List, [], map}
+use mathlib.Core.Logic.{_⊎_, inl, inr}
 use native.Mathlib.Omega.{arith}
 use lib.ListN.{length, take}
 use lib.Seq.{sets}
 use lib.Ieee.{Float}
-use Rattle.limits.specs.Limits.{max-edges, max-members, answer-room, tap-numbers, slot-numbers}
+use Rattle.limits.specs.Limits.{max-edges, max-members, answer-room, id-columns, tap-numbers, slot-numbers}
 use Rattle.route.specs.Slots.{routes-of, Held}
+use Rattle.board.specs.declared.Nodes.{Nodes}
 use Rattle.board.specs.declared.DrawnBundles.{DrawnBundles}
 use Rattle.board.specs.declared.DrawnTaps.{DrawnTaps}
 use Rattle.geometry.specs.Points.{Route}
@@ -38,36 +40,67 @@ use Rattle.components.specs.declared.Step.{Step}
 use Rattle.components.specs.Settled.{step-in}
 use Rattle.answer.specs.Answer.{Sheet, answer-bytes, notice-bytes}
 use Rattle.answer.specs.Stores.{notice-length}
+use Rattle.answer.specs.declared.Frame.{Frame}
 use Rattle.answer.specs.SheetTables as answer
-use Rattle.promise.specs.Stage.{Told, refused, drawn, normalized, page-told, planned, sheet-drawn, after-sheet, after-plan, after-reading, told, told-bytes, written, stage-of}
-use Rattle.promise.specs.Size.{short, roomy, written-size}
+use Rattle.promise.specs.Stage.{Finished, answer-of, Told, refused, drawn, planned, sheet-drawn, after-sheet, after-plan, after-reading, told, told-bytes}
+use Rattle.promise.specs.Size.{roomy, written-size}
+use Rattle.bundle_page.specs.AnswerPage.{answer-page}
+use Rattle.bundle_page.specs.PageTables.{Printables}
+use Rattle.page_promise.specs.PageFits.{PageFits, own-plan-near, page-fits, printables}
+use Rattle.outputs.specs.declared.Wants.{Wants}
+use Rattle.outputs.specs.Outputs.{Outputs, notice, after-all, outputs-told}
 use Rattle.job_tables.specs.Ready.{read-accepted, tables-sound, routes-in}
 use Rattle.job_tables.specs.Came.{Sizes, job-in, Came}
-use Rattle.draw_job.specs.JobTables.{Writes, TapsOf, OnSheet, Lent, told-as}
+use Rattle.draw_job.specs.JobTables.{Writes, TapsOf, OnSheet, Lent, finished}
 use Rattle.draw_job.proofs.Ready.{given-same}
 use Rattle.draw_job.proofs.Answers.{sheet-same}
 
 -- ---- what is written
 
-pub notice-writes : (before after : List ℕ) (r n : ℕ) (t : Told) → t ≡ refused n → after ≡ sets before 0 (notice-bytes n) → r ≡ 6 → Writes before after r t
-unfolding told-bytes
-notice-writes before after r n t e b c = record { bytes = rw e b; count = rw e (c ∙ sym (notice-length n)) }
+-- a refusal's notice, and no other output
+pub notice-writes : (before after : Outputs) (r n : ℕ) (o : Outputs) → o ≡ notice n → after .answer ≡ sets (before .answer) 0 (notice-bytes n) → after .page ≡ before .page → r ≡ 6 → Writes before after r o
+notice-writes before after r n o e b p c = subst (Writes before after r) (sym e) (record { answer = b; page = p; count = c ∙ sym (notice-length n) })
 
-pub writes-as : (before after : List ℕ) (r : ℕ) (s t : Told) → s ≡ t → Writes before after r s → Writes before after r t
+pub writes-as : (before after : Outputs) (r : ℕ) (s t : Outputs) → s ≡ t → Writes before after r s → Writes before after r t
 writes-as before after r s t e w = subst (Writes before after r) e w
 
-pub short-stage : (bytes buffer : List ℕ) → length buffer < answer-room → buffer ≡ stage-of bytes buffer
-short-stage bytes buffer h = sym (ap (sets buffer 0) (short bytes (length buffer) h))
+-- what is told, with the last refusal, as outputs
+abbrev pub outputs-for : Wants → Told → Outputs
+outputs-for w t = outputs-told w (after-all w t)
 
-pub short-count : (bytes buffer : List ℕ) → length buffer < answer-room → 0 ≡ length (written bytes (length buffer))
-short-count bytes buffer h = sym (ap length (short bytes (length buffer) h))
+pub refused-outputs : (w : Wants) (t : Told) (n : ℕ) → t ≡ refused n → outputs-for w t ≡ notice n
+unfolding after-all outputs-told
+refused-outputs w t n e = ap (outputs-for w) e
 
-module _ (bytes buffer after : List ℕ) (r : ℕ) (h : answer-room ≤ length buffer) (w : Writes buffer after r (told bytes)) where
-  pub stage-written : after ≡ stage-of bytes buffer
-  stage-written = w .bytes ∙ sym (ap (sets buffer 0) (roomy bytes (length buffer) h))
+-- 16
+pub off-grid-outputs : (w : Wants) (t : Told) (f : Finished) → t ≡ drawn f → (w .page && not (f .said .flags .«on_grid»)) ≡ true → outputs-for w t ≡ notice 16
+unfolding after-all outputs-told
+off-grid-outputs w t f e h = ap (outputs-for w) e ∙ ap (λ (b : Bool). outputs-told w (cond b (refused 16) (drawn f))) h
 
-  pub stage-counted : r ≡ length (written bytes (length buffer))
-  stage-counted = w .count ∙ sym (ap length (roomy bytes (length buffer) h))
+-- which way a branch came
+pub way : {A B C : Type 0} → A ⊎ B → (A → C) → (B → C) → C
+way (inl a) f g = f a
+way (inr b) f g = g b
+
+-- the page's buffer where it was wanted, and where it was not
+pub page-put : (before after : List ℕ) (wanted : Bool) (page : List ℕ) → wanted ≡ true → after ≡ sets before 0 page → after ≡ sets before 0 (cond wanted page [])
+page-put before after wanted page h e = e ∙ sym (ap (λ (b : Bool). sets before 0 (cond b page [])) h)
+
+pub page-left : (before after : List ℕ) (wanted : Bool) (page : List ℕ) → wanted ≡ false → after ≡ before → after ≡ sets before 0 (cond wanted page [])
+page-left before after wanted page h e = e ∙ sym (ap (λ (b : Bool). sets before 0 (cond b page [])) h)
+
+-- the answer, and the page where it is wanted
+pub drawn-writes : (w : Wants) (t : Told) (f : Finished) → t ≡ drawn f → (w .page && not (f .said .flags .«on_grid»)) ≡ false → (before after : Outputs) (r : ℕ) (s : Sheet) → s ≡ answer-of f
+    → after .answer ≡ sets (before .answer) 0 (answer-bytes s) → after .page ≡ sets (before .page) 0 (cond (w .page) (answer-page id-columns s) []) → r ≡ length (answer-bytes s) → Writes before after r (outputs-for w t)
+unfolding after-all outputs-told
+drawn-writes w t f e h before after r s is a p c =
+    writes-as before after r (outputs-told w (drawn f)) (outputs-for w t)
+    (sym (ap (outputs-for w) e ∙ ap (λ (b : Bool). outputs-told w (cond b (refused 16) (drawn f))) h))
+    (record {
+      answer = a ∙ ap (λ (z : Sheet). sets (before .answer) 0 (answer-bytes z)) is;
+      page = p ∙ ap (λ (z : Sheet). sets (before .page) 0 (cond (w .page) (answer-page id-columns z) [])) is;
+      count = c ∙ ap (λ (z : Sheet). length (answer-bytes z)) is;
+    })
 
 -- ---- reading
 
@@ -93,17 +126,18 @@ module _ (j : code.Job) (buffer : List Float) (from : Came j buffer) (sizes : Si
   planned-is : planned (job-in j buffer) ≡ step-in (j .bundles .count) s
   planned-is = ap (λ (g : List Route). plan-of (job-in j buffer .board) g (j .flags .«separates_collectors») (j .grants .«tap_visits»)) (sym (given-same j buffer from sizes)) ∙ sym is
 
+  pub planned-going : s .refused ≡ false → planned (job-in j buffer) ≡ plan.going (plan-in (j .bundles .count) (s .plan))
+  planned-going e = planned-is ∙ rw e
+
   pub plan-refused : s .refused ≡ true → after-plan (job-in j buffer) (planned (job-in j buffer)) ≡ refused 13
   unfolding after-plan
   plan-refused e =
       let z : planned (job-in j buffer) ≡ plan.refused (s .plan .left .0) = planned-is ∙ rw e in
       ap (after-plan (job-in j buffer)) z
 
-  pub plan-going : s .refused ≡ false → after-plan (job-in j buffer) (planned (job-in j buffer)) ≡ after-sheet (job-in j buffer .board) (plan-in (j .bundles .count) (s .plan)) (sheet-drawn (job-in j buffer) (plan-in (j .bundles .count) (s .plan)))
+  pub plan-going : s .refused ≡ false → after-plan (job-in j buffer) (planned (job-in j buffer)) ≡ after-sheet (job-in j buffer) (plan-in (j .bundles .count) (s .plan)) (sheet-drawn (job-in j buffer) (plan-in (j .bundles .count) (s .plan)))
   unfolding after-plan
-  plan-going e =
-      let z : planned (job-in j buffer) ≡ plan.going (plan-in (j .bundles .count) (s .plan)) = planned-is ∙ rw e in
-      ap (after-plan (job-in j buffer)) z
+  plan-going e = ap (after-plan (job-in j buffer)) (planned-going e)
 
 -- ---- the sheet
 
@@ -117,7 +151,7 @@ module _ (j : code.Job) (buffer : List Float) (from : Came j buffer) (sizes : Si
     ≡ sheet-of (tables.board-of (j .options) (j .nodes) (j .ports) (take (j .edges .count) (j .edges .rows)) (j .bundles) (j .members)) (j .flags .«permits_crossings»)
     (turns-from (take (j .bundles .count) (j .bundles .rows)) (map x-of (take (j .bundles .count) (p .rows))) offsets) (blank (tables.given-routes buffer (j .edges)) (j .grants .«geometry_visits»))) where
   abbrev told-now : Told
-  told-now = after-sheet (job-in j buffer .board) (plan-in (j .bundles .count) p) (sheet-drawn (job-in j buffer) (plan-in (j .bundles .count) p))
+  told-now = after-sheet (job-in j buffer) (plan-in (j .bundles .count) p) (sheet-drawn (job-in j buffer) (plan-in (j .bundles .count) p))
 
   drawn-is : sheet-drawn (job-in j buffer) (plan-in (j .bundles .count) p) ≡ ends-as v rs ds
   drawn-is =
@@ -131,13 +165,15 @@ module _ (j : code.Job) (buffer : List Float) (from : Came j buffer) (sizes : Si
   unfolding ends-as after-check after-sheet
   sheet-refused n q e =
       let z : sheet-drawn (job-in j buffer) (plan-in (j .bundles .count) p) ≡ drawing.refused n (q .0) = drawn-is ∙ rw e in
-      ap (after-sheet (job-in j buffer .board) (plan-in (j .bundles .count) p)) z
+      ap (after-sheet (job-in j buffer) (plan-in (j .bundles .count) p)) z
 
-  pub sheet-clean : (q : GeometryVisits) → v ≡ Clean q → told-now ≡ drawn (page-told (job-in j buffer .board) (p .left .0) (q .0) (normalized (job-in j buffer .board) (standing rs ds (q .0))))
-  unfolding ends-as after-check after-sheet
-  sheet-clean q e =
-      let z : sheet-drawn (job-in j buffer) (plan-in (j .bundles .count) p) ≡ drawing.going (standing rs ds (q .0)) = drawn-is ∙ rw e in
-      ap (after-sheet (job-in j buffer .board) (plan-in (j .bundles .count) p)) z
+  pub sheet-going : (q : GeometryVisits) → v ≡ Clean q → sheet-drawn (job-in j buffer) (plan-in (j .bundles .count) p) ≡ drawing.going (standing rs ds (q .0))
+  unfolding ends-as after-check
+  sheet-going q e = drawn-is ∙ rw e
+
+  pub sheet-clean : (q : GeometryVisits) → v ≡ Clean q → told-now ≡ drawn (record { said = job-in j buffer; plan-used = plan-in (j .bundles .count) p; sheet-made = standing rs ds (q .0) })
+  unfolding after-sheet
+  sheet-clean q e = ap (after-sheet (job-in j buffer) (plan-in (j .bundles .count) p)) (sheet-going q e)
 
 -- what was in the slots does not matter
 pub lent-as : (j : code.Job) (edges lanes : List ℕ) (taps points points' : List Float) (counts : List ℕ) (mask : List Bool) (scratch : List Float) → length points' ≡ length points → Lent j edges lanes taps points counts mask scratch → Lent j edges lanes taps points' counts mask scratch
@@ -168,9 +204,9 @@ module _ (j : code.Job) (buffer : List Float) (from : Came j buffer) (sizes : Si
         places = omega (arith, lent .room .places, taps-kept);
       }
 
-pub sheet-room : (t : Told) (s : Sheet) (room : ℕ) → t ≡ drawn s → length (told-bytes t) ≤ room → length (answer-bytes s) ≤ room
+pub sheet-room : (t : Told) (f : Finished) (s : Sheet) (room : ℕ) → t ≡ drawn f → s ≡ answer-of f → length (told-bytes t) ≤ room → length (answer-bytes s) ≤ room
 unfolding told-bytes
-sheet-room t s room e h = rw e at h
+sheet-room t f s room e is h = rw is (rw e at h)
 
 pub told-room : (s t : Told) (room : ℕ) → s ≡ t → length (told-bytes s) ≤ room → length (told-bytes t) ≤ room
 told-room s t room e h = subst (λ (z : Told). length (told-bytes z) ≤ room) e h
@@ -192,11 +228,20 @@ module _ (j : code.Job) (buffer : List Float) (from : Came j buffer) (sizes : Si
   pub all-refused : (n : ℕ) (q : GeometryVisits) → v ≡ Refused n q → after-plan (job-in j buffer) (planned (job-in j buffer)) ≡ refused n
   all-refused n q e = plan-going j buffer from sizes s is on-going ∙ sheet-refused j buffer from sizes (s .plan) offsets v (routes-of points counts) (drawn-in edges taps ds) as-offsets ends n q e
 
+  pub all-drawn : (q : GeometryVisits) → v ≡ Clean q → after-plan (job-in j buffer) (planned (job-in j buffer)) ≡ drawn (finished j buffer (s .plan) edges ds points counts taps (q .0))
+  all-drawn q e = plan-going j buffer from sizes s is on-going ∙ sheet-clean j buffer from sizes (s .plan) offsets v (routes-of points counts) (drawn-in edges taps ds) as-offsets ends q e
+
   -- the answer of the tables after the last shift
-  pub all-told : (q : GeometryVisits) → v ≡ Clean q → OnSheet j edges ds points counts taps → (l : Laid) (after shifted : List Float) (t : DrawnTaps) → TapsOf (j .edges) (j .members) shifted t → page-in edges l after counts shifted ≡ page-of (sheet-in edges (j .nodes) ds points counts taps)
+  pub all-told : (q : GeometryVisits) → OnSheet j edges ds points counts taps → (l : Laid) (after shifted : List Float) (t : DrawnTaps) → TapsOf (j .edges) (j .members) shifted t → page-in edges l after counts shifted ≡ page-of (sheet-in edges (j .nodes) ds points counts taps)
       → l .drawn .count ≡ ds .count → map heading (take (l .drawn .count) (l .drawn .rows)) ≡ map heading (take (ds .count) (ds .rows))
-      → after-plan (job-in j buffer) (planned (job-in j buffer)) ≡ told-as (answer.sheet-of (record { «tap_visits» = s .plan .left .0; «geometry_visits» = q .0; width = l .width; height = l .height }) (l .nodes) (j .edges) after counts (l .drawn) t)
-  all-told q e on l after shifted t of page as-many kept =
-      plan-going j buffer from sizes s is on-going
-      ∙ sheet-clean j buffer from sizes (s .plan) offsets v (routes-of points counts) (drawn-in edges taps ds) as-offsets ends q e
-      ∙ sym (ap told-as (sheet-same j edges ds points counts taps on sizes buffer (s .plan .left .0) (q .0) l after shifted t of (omega (arith, on .fits .members, of .rows-long)) page as-many kept))
+      → answer.sheet-of (record { «tap_visits» = s .plan .left .0; «geometry_visits» = q .0; width = l .width; height = l .height }) (l .nodes) (j .edges) after counts (l .drawn) t ≡ answer-of (finished j buffer (s .plan) edges ds points counts taps (q .0))
+  all-told q on l after shifted t of page as-many kept = sheet-same j edges ds points counts taps on sizes buffer (s .plan) (q .0) l after shifted t of (omega (arith, on .fits .members, of .rows-long)) page as-many kept
+
+  -- 16 was looked at: each bundle of the table can be printed
+  pub all-printable : j .flags .«on_grid» ≡ true → (q : GeometryVisits) → v ≡ Clean q → (a : Frame) (nodes : Nodes) (after : List Float) (b : DrawnBundles) (t : DrawnTaps)
+      → answer.sheet-of a nodes (j .edges) after counts b t ≡ answer-of (finished j buffer (s .plan) edges ds points counts taps (q .0)) → b .count ≤ length (b .rows) → Printables (b .count) (b .rows)
+  all-printable on q e a nodes after b t same h =
+      let near = own-plan-near (from .bytes) (job-in j buffer) (from .is) on (plan-in (j .bundles .count) (s .plan)) (planned-going j buffer from sizes s is on-going) in
+      let going = sheet-going j buffer from sizes (s .plan) offsets v (routes-of points counts) (drawn-in edges taps ds) as-offsets ends q e in
+      printables (b .count) (b .rows) (take (t .count) (t .rows)) h
+      (subst (λ (z : Sheet). PageFits (z .bundles)) (sym same) (page-fits (from .bytes) (job-in j buffer) (from .is) on (plan-in (j .bundles .count) (s .plan)) near (standing (routes-of points counts) (drawn-in edges taps ds) (q .0)) going))

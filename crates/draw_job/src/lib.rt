@@ -1,12 +1,15 @@
-// A job that was read, drawn: the plan (13), the sheet (10, 11, 12, 14), the last shift and the answer.
+// A job that was read, drawn: the plan (13), the sheet (10, 11, 12, 14), the last refusal (16), the last
+// shift, the answer and what else is wanted.
 //
 // Ported from cachanova/schemweave, commit c4a1a2c60a, crates/schemweave/src/boundary_bundles.rs
 // (Apache-2.0, see NOTICE).
 ghost use mathlib.Core.Path.{_≡_};
+ghost use mathlib.Core.Bool.{false};
 ghost use Prim.Native.Nat.{_*_, _≤_};
 ghost use lib.ListN.{length};
-ghost use Rattle.limits.specs.Limits.{max-edges, max-members, candidate-room, search-work};
+ghost use Rattle.limits.specs.Limits.{max-edges, max-members, page-room, candidate-room, search-work};
 ghost use Rattle.promise.specs.Stage.{planned, after-plan, told-bytes};
+ghost use Rattle.outputs.specs.Outputs.{lacks, after-all, outputs-told};
 ghost use Rattle.job_tables.specs.Came.{job-in, Came};
 ghost use Rattle.draw_job.specs.JobTables.{Writes, TapsOf, MembersOn, Lent};
 use answer::Frame;
@@ -20,6 +23,7 @@ use geometry::Point;
 use job::Job;
 use limits::MAX_MEMBERS;
 use limits::SEARCH_WORK;
+use outputs::Wants;
 use search::TapVisits;
 
 // ---- the sheet (10, 11, 12, 14) and the answer
@@ -51,10 +55,11 @@ pub fn tap_rows(table: Edges, members: Members, taps: &[f64]) -> DrawnTaps
     }
 }
 
-// The plan (13), the sheet of it and the last shift, in lent slices; the answer, or the notice of a
-// refusal. One function for all of it: a table that is handed on is copied. The search keeps its
+// The plan (13), the sheet of it and the last shift, in lent slices; the answer and the page, or the
+// notice of a refusal. One function for all of it: a table that is handed on is copied. The search keeps its
 // stretches and sorts in the slots of the present routes: nothing is in them before the sheet.
 pub fn draw_in(
+    wants: Wants,
     j: Job,
     given: &[f64],
     sorted: &mut [f64],
@@ -66,12 +71,13 @@ pub fn draw_in(
     mask: &mut [bool],
     scratch: &mut [f64],
     answer: &mut [u8],
+    page: &mut [u8],
 ) -> usize
-    requires { ⌜ Came j (now given) × (6 ≤ length (now answer)) ⌝ }
+    requires { ⌜ Came j (now given) × (6 ≤ length (now answer)) × (lacks (wants .page) (length (now page)) page-room ≡ false) ⌝ }
     requires { ⌜ length (told-bytes (after-plan (job-in j (now given)) (planned (job-in j (now given))))) ≤ length (now answer) ⌝ }
     requires { ⌜ (search-work ≤ length (now points)) × (length (now sorted) ≡ candidate-room) ⌝ }
     requires { ⌜ Lent j (now edges) (now lanes) (now taps) (now points) (now counts) (now mask) (now scratch) ⌝ }
-    ensures { λ r. ⌜ Writes (now (answer .entry)) (now (answer .exit)) r (after-plan (job-in j (now (given .entry))) (planned (job-in j (now (given .entry))))) ⌝ }
+    ensures { λ r. ⌜ Writes (record { answer = now (answer .entry); page = now (page .entry) }) (record { answer = now (answer .exit); page = now (page .exit) }) r (outputs-told wants (after-all wants (after-plan (job-in j (now (given .entry))) (planned (job-in j (now (given .entry))))))) ⌝ }
 {
     let offsets = plan_depths::corridor_depth_offsets(
         j.options,
@@ -124,6 +130,9 @@ pub fn draw_in(
     match v {
         Verdict::Refused(r, q) => answer::write_notice(&mut answer[..], r),
         Verdict::Clean(rest) => {
+            if wants.page & !j.flags.on_grid {
+                return answer::write_notice(&mut answer[..], 16);
+            }
             let n = j.members.count;
             let l = normalize::normalize_layout(
                 j.nodes,
@@ -134,6 +143,9 @@ pub fn draw_in(
                 n,
             );
             let t = tap_rows(j.edges, j.members, &taps[..]);
+            if wants.page {
+                page_writer::put_page(&mut page[..], l.drawn);
+            }
             answer::write_answer(
                 &mut answer[..],
                 Frame {

@@ -4,17 +4,18 @@ use Prim.Native.Nat.{ℕ, _/_, _%_, _<_}
 use mathlib.Core.Path.{_≡_}
 use mathlib.Core.List.{List, map}
 use lib.ListN.{length, getD}
-use Rattle.answer.specs.Answer.{notice-bytes}
+use Rattle.answer.specs.Answer.{answer-bytes, notice-bytes}
 use Rattle.job.specs.Job.{Job, given-routes, read-job}
 use Rattle.job.specs.Job as job
 use Rattle.plan.specs.Plan as plan
 use Rattle.promise.specs.Stage as stage
-use Rattle.promise.specs.Stage.{page-told, planned, told-bytes}
+use Rattle.promise.specs.Stage.{page-told, planned}
 use Rattle.grid_plan.specs.Board as Z
 use Rattle.grid_plan.specs.Image as I
 use Rattle.grid_plan.specs.OnGrid.{OnDraftingGrid}
 use Rattle.grid_plan.specs.Plan as P
-use Rattle.grid_sheet.specs.Image.{page}
+use Rattle.grid_sheet.specs.Draw as W
+use Rattle.grid_sheet.specs.Image.{page, progress}
 use Rattle.grid_sheet.specs.Numbers.{Numbers}
 use Rattle.grid_sheet.specs.Whole.{Told, refused, drawn, after-sheet, sheet-drawn}
 use Rattle.grid_promise.specs.Wholes.{wholes, whole-routes}
@@ -33,14 +34,25 @@ given j = whole-routes (given-routes j)
 abbrev pub whole-plan : Job → P.Plan
 whole-plan j = P.plan-of (whole-board j) (given j) (j .flags .«separates_collectors») (j .grants .«tap_visits»)
 
--- planned once on the given routes, then drawn, then normalized
-abbrev pub whole-job : Job → Told
-whole-job j = after-sheet (whole-board j) (whole-plan j .left) (sheet-drawn (whole-board j) (given j) (j .flags .«permits_crossings») (whole-plan j .xs) (j .grants .«geometry_visits»))
+-- planned once on the given routes, then drawn
+abbrev pub whole-sheet : Job → W.Outcome
+whole-sheet j = sheet-drawn (whole-board j) (given j) (j .flags .«permits_crossings») (whole-plan j .xs) (j .grants .«geometry_visits»)
 
--- the answer for that: each whole number over 128 as binary64
-abbrev pub as-told : Job → Told → stage.Told
-as-told j (refused e) = stage.refused e
-as-told j (drawn taps geometry p) = stage.drawn (page-told (j .board) taps geometry (page p))
+-- then normalized
+abbrev pub whole-job : Job → Told
+whole-job j = after-sheet (whole-board j) (whole-plan j .left) (whole-sheet j)
+
+-- ---- the same with each whole number over 128 as binary64
+
+-- the sheet before the last shift
+abbrev pub as-told : Job → W.Outcome → stage.Told
+as-told j (W.refused e n) = stage.refused e
+as-told j (W.going u) = stage.drawn (record { said = j; plan-used = I.plan (whole-plan j); sheet-made = progress u })
+
+-- the answer's bytes
+abbrev pub as-bytes : Job → Told → List ℕ
+as-bytes j (refused e) = notice-bytes e
+as-bytes j (drawn taps geometry p) = answer-bytes (page-told (j .board) taps geometry (page p))
 
 -- ---- the statement
 pub record Grid (bytes answer : List ℕ) (j : Job) : Type 0 where
@@ -53,10 +65,10 @@ pub record Grid (bytes answer : List ℕ) (j : Job) : Type 0 where
   pub numbers-are : Numbers (whole-board j) (given j)
   -- the plan is that in whole numbers, which has no refusal
   pub plan-is : planned j ≡ plan.going (I.plan (whole-plan j))
-  -- the sheet with the visits left, or the number of a refusal
-  pub told-is : stage.told bytes ≡ as-told j (whole-job j)
-  -- and the bytes of the answer
-  pub answer-is : answer ≡ told-bytes (as-told j (whole-job j))
+  -- the sheet before the last shift with the visits left, or the number of a refusal
+  pub told-is : stage.told bytes ≡ as-told j (whole-sheet j)
+  -- and, the sheet shifted, the bytes of the answer
+  pub answer-is : answer ≡ as-bytes j (whole-job j)
   -- "13 cannot happen"
   pub never-13 : answer ≡ notice-bytes 13 → ⊥
 

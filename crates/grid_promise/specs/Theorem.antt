@@ -16,17 +16,17 @@ use Rattle.drawing.specs.Sheet.{Turn, Progress}
 use Rattle.answer.specs.Answer.{notice-bytes}
 use Rattle.answer.specs.Stores.{answer-length, notice-length}
 use Rattle.ranges.specs.Thirteen.{is-refused}
-use Rattle.promise.specs.Stage.{Told, planned, told, told-bytes, written, stage-of}
+use Rattle.promise.specs.Stage.{answer-of, Told, planned, told, told-bytes, written, stage-of}
 use Rattle.promise.specs.Due.{Stops, ten, eleven, twelve, Due, two, in-reading, thirteen, fourteen, in-sheet}
 use Rattle.promise.specs.Refusals.{ReaderNumber, reader-numbers, due-read}
 use Rattle.promise.specs.Flags.{on-grid-bit}
 use Rattle.promise.specs.Size.{Cause, a-refusal, a-sheet, cause, clamp-is, Room, too-short, enough, room-of, short, roomy, notice-byte, written-over}
 use Rattle.last_shift.specs.InAnswer.{Demand3InAnswer}
 use Rattle.grid_sheet.specs.AllNumbers.{numbers}
-use Rattle.grid_promise.specs.Grid.{whole-board, given, whole-job, as-told, OnGrid}
+use Rattle.grid_promise.specs.Grid.{whole-board, given, whole-sheet, as-told, OnGrid}
 use Rattle.grid_promise.specs.GridAnswer.{Demand3OnGrid}
 use Rattle.grid_promise.specs.Back.{board-back, routes-back, on-grid}
-use Rattle.grid_promise.specs.Whole.{plan-is, told-is, read-so}
+use Rattle.grid_promise.specs.Whole.{plan-is, told-is, answer-is, read-so}
 use Rattle.grid_promise.specs.ExactShift.{shift-exact}
 
 -- ---- number 13
@@ -56,7 +56,7 @@ not-13 bytes j p r f t (a-refusal n h d) e =
     let k : n % 256 ≡ 13 % 256 = sym (notice-byte n) ∙ ap (λ (l : List ℕ). getD l 5 1) e ∙ notice-byte 13 in
     let q : n ≡ 13 = omega (arith, k, h .0, h .1) in
     true≢false (sym (due-13 bytes answer-room n (d answer-room (omega arith)) q j r) ∙ ap is-refused f)
-not-13 bytes j p r f t (a-sheet s c) e = omega (arith, answer-length s, notice-length 13, ap length e)
+not-13 bytes j p r f t (a-sheet u c) e = omega (arith, answer-length (answer-of u), notice-length 13, ap length e)
 
 -- ---- where any byte is written, the buffer was long enough
 long-enough : (bytes : List ℕ) (room : ℕ) → 0 < length (written bytes room) → written bytes room ≡ told-bytes (told bytes)
@@ -71,7 +71,7 @@ pub grid : (bytes : List ℕ) (room : ℕ) → OnGrid bytes (written bytes room)
 grid bytes room any j e bit =
     let g = on-grid-bit bytes j e bit in
     let s = accepted-sound bytes j e .0 in
-    let t : told bytes ≡ as-told j (whole-job j) = read-so bytes j e ∙ told-is j s g in
+    let t : told bytes ≡ as-told j (whole-sheet j) = read-so bytes j e ∙ told-is j s g in
     let w = long-enough bytes room any in
     record {
       board-is = board-back j s g;
@@ -80,7 +80,7 @@ grid bytes room any j e bit =
       numbers-are = numbers (whole-board j) (given j) (on-grid j s g);
       plan-is = plan-is j s g;
       told-is = t;
-      answer-is = w ∙ ap told-bytes t;
+      answer-is = w ∙ ap told-bytes t ∙ answer-is j s g;
       never-13 = λ q. not-13 bytes j _ e (plan-is j s g) (told bytes) (cause bytes) (sym w ∙ q);
     }
 

@@ -141,5 +141,19 @@ abbrev pub largest-answer : ℕ
 largest-answer = 36 + 20 * max-nodes + 6 * max-edges + 16 * max-drawn-points + 71 * max-bundles + 20 * max-members
 
 -- an answer for tables of any content: every slot full, and all taps at every bundle
+abbrev pub any-answer-room : ℕ
+any-answer-room = 36 + 20 * max-nodes + 6 * max-edges + 16 * (slot-points * max-edges) + 71 * max-bundles + 20 * (max-members * max-bundles)
+
+-- ---- the bundle page, from document 02's F-4
+
+-- "id right-aligned in 10 columns"
+abbrev pub id-columns : ℕ
+id-columns = 10
+
+-- "Each line has 76 bytes": the id; a space, I or R, a space; three numbers in 20 columns with a space or the newline behind each
+abbrev pub line-bytes : ℕ
+line-bytes = id-columns + 66
+
+-- a line for each bundle
 abbrev pub page-room : ℕ
-page-room = 36 + 20 * max-nodes + 6 * max-edges + 16 * (slot-points * max-edges) + 71 * max-bundles + 20 * (max-members * max-bundles)
+page-room = max-bundles * line-bytes

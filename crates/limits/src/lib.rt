@@ -116,9 +116,21 @@ pub const LARGEST_ANSWER: usize = 36
     + 20 * MAX_MEMBERS;
 
 // An answer for tables of any content: every slot full, and all taps at every bundle.
-pub const PAGE_ROOM: usize = 36
+pub const ANY_ANSWER_ROOM: usize = 36
     + 20 * MAX_NODES
     + 6 * MAX_EDGES
     + 16 * (SLOT_POINTS * MAX_EDGES)
     + 71 * MAX_BUNDLES
     + 20 * (MAX_MEMBERS * MAX_BUNDLES);
+
+// ---- the bundle page, from document 02's F-4
+
+// The columns of an id.
+pub const ID_COLUMNS: usize = 10;
+
+// The bytes of a line: the id; a space, I or R, a space; three numbers in 20 columns with a space or
+// the newline behind each.
+pub const LINE_BYTES: usize = ID_COLUMNS + 66;
+
+// A line for each bundle.
+pub const PAGE_ROOM: usize = MAX_BUNDLES * LINE_BYTES;

@@ -4,7 +4,7 @@
 ghost use mathlib.Core.Path.{_≡_};
 ghost use Prim.Native.Nat.{_*_, _≤_};
 ghost use lib.ListN.{length};
-ghost use Rattle.limits.specs.Limits.{max-nodes, max-edges, max-bundles, max-members, point-numbers, slot-numbers, page-room};
+ghost use Rattle.limits.specs.Limits.{max-nodes, max-edges, max-bundles, max-members, point-numbers, slot-numbers, any-answer-room};
 ghost use Rattle.route.specs.Slots.{Held};
 ghost use Rattle.answer.specs.SheetTables.{Windows};
 ghost use Rattle.job_tables.specs.Came.{Came};
@@ -18,11 +18,11 @@ use drawing::GeometryVisits;
 use drawing::Verdict;
 use job::Job;
 use limits::ALL_SLOT_NUMBERS;
+use limits::ANY_ANSWER_ROOM;
 use limits::JOB_ROOM;
 use limits::MAX_BUNDLES;
 use limits::MAX_EDGES;
 use limits::MAX_MEMBERS;
-use limits::PAGE_ROOM;
 use limits::POINT_NUMBERS;
 use limits::SLOT_NUMBERS;
 use limits::TAP_NUMBERS;
@@ -98,7 +98,7 @@ fn put_page(
     requires { ⌜ (nodes .count ≤ max-nodes) × (table .count ≤ max-edges) × (drawn .count ≤ max-bundles) × (members .count ≤ max-members) ⌝ }
     requires { ⌜ (table .count ≤ length (now counts)) × (slot-numbers * table .count ≤ length (now points)) × Held (now counts) ⌝ }
     requires { ⌜ Windows (drawn .count) (drawn .rows) (members .count) × (2 * members .count ≤ length (now taps)) ⌝ }
-    requires { ⌜ MembersOn table members × (page-room ≤ length (now page)) ⌝ }
+    requires { ⌜ MembersOn table members × (any-answer-room ≤ length (now page)) ⌝ }
 {
     let t = draw_job::tap_rows(table, members, taps);
     let n = answer::write_answer(&mut page[..], f, nodes, table, points, counts, drawn, t);
@@ -119,7 +119,7 @@ fn put_pages(
     out: &mut [u8],
 ) -> usize
     requires { ⌜ OnSheet j (now edges) drawn (now points) (now counts) (now taps) ⌝ }
-    requires { ⌜ page-room ≤ length (now page) ⌝ }
+    requires { ⌜ any-answer-room ≤ length (now page) ⌝ }
 {
     let members = j.members;
     let n = members.count;
@@ -178,7 +178,7 @@ fn draw_in(
     page: &mut [u8],
     out: &mut [u8],
 ) -> usize
-    requires { ⌜ Came j (now given) × (page-room ≤ length (now page)) ⌝ }
+    requires { ⌜ Came j (now given) × (any-answer-room ≤ length (now page)) ⌝ }
     requires { ⌜ Lent j (now edges) (now lanes) (now taps) (now points) (now counts) (now mask) (now scratch) ⌝ }
 {
     let flags = j.flags;
@@ -232,7 +232,7 @@ fn draw_in(
 
 // The same, in slices of its own.
 fn draw(j: Job, given: &[f64], p: Planning, page: &mut [u8], out: &mut [u8]) -> usize
-    requires { ⌜ Came j (now given) × (page-room ≤ length (now page)) ⌝ }
+    requires { ⌜ Came j (now given) × (any-answer-room ≤ length (now page)) ⌝ }
 {
     let mut edges = [0; MAX_MEMBERS];
     let mut lanes = [0; MAX_MEMBERS];
@@ -276,7 +276,7 @@ fn size_of(record: &[u8], rest: usize) -> usize
 
 // The result of one record; answers its length. A record of another operation has an empty one.
 fn answer(record: &[u8], given: &mut [f64], page: &mut [u8], out: &mut [u8]) -> usize
-    requires { ⌜ (length (now given) ≡ point-numbers) × (page-room ≤ length (now page)) ⌝ }
+    requires { ⌜ (length (now given) ≡ point-numbers) × (any-answer-room ≤ length (now page)) ⌝ }
 {
     if record.len() < 1 {
         return 0;
@@ -299,7 +299,7 @@ fn answer(record: &[u8], given: &mut [f64], page: &mut [u8], out: &mut [u8]) -> 
 
 // One record; answers whether there was one.
 fn replay_one(space: &mut [u8], given: &mut [f64], page: &mut [u8], out: &mut [u8]) -> bool
-    requires { ⌜ (length (now given) ≡ point-numbers) × (page-room ≤ length (now page)) ⌝ }
+    requires { ⌜ (length (now given) ≡ point-numbers) × (any-answer-room ≤ length (now page)) ⌝ }
 {
     let r = records::next(&mut space[..]);
     match r {
@@ -317,7 +317,7 @@ fn replay_one(space: &mut [u8], given: &mut [f64], page: &mut [u8], out: &mut [u
 fn main() {
     let mut space = [0u8; JOB_ROOM];
     let mut given = [0.0; POINT_NUMBERS];
-    let mut page = [0u8; PAGE_ROOM];
+    let mut page = [0u8; ANY_ANSWER_ROOM];
     let mut out = [0u8; 131072];
     let mut turn: u32 = 0;
     while turn < 4000000000 {

@@ -4,15 +4,17 @@ use mathlib.Core.List.{List, _++_}
 use Prim.Native.Nat.{ℕ, _+_, _*_, _≤_, _<_}
 use native.Mathlib.Omega.{arith}
 use lib.ListN.{length, getD, take, drop}
-use lib.Seq.{length-take-le, length-front}
+use lib.Seq.{sets, length-take-le, length-front}
 use lib.Ieee.{Float}
-use Rattle.limits.specs.Limits.{search-work}
+use Rattle.limits.specs.Limits.{max-bundles, id-columns, search-work}
 use Rattle.board.specs.declared.DrawnBundles.{DrawnBundles}
 use Rattle.job_tables.specs.Came.{Sizes}
 use Rattle.job_tables.specs.Ready.{tables-sound, routes-in}
 use Rattle.normalize.proofs.Shift.{windows-kept}
 use Rattle.normalize.specs.PageTables.{Windows}
 use Rattle.plan.specs.TableReads as rows
+use Rattle.bundle_page.specs.Exact.{page-of-tables}
+use Rattle.outputs.specs.Front.{on-the-grid, wanted-room}
 use Rattle.draw_job.specs.JobTables.{OnSheet}
 use Rattle.draw_job.proofs.Answers as answers
 use Rattle.draw_job.proofs.Ready as ready
@@ -23,16 +25,16 @@ use Rattle.draw_job.proofs.draw_in.Tie as tie
 
 sizes : (s : tie.Start) → Sizes (s .args .j)
 sizes s = record {
-  nodes = let g = s .good .0 .1 .1 .1 .1 .1 .0 in search (needs, rows.length-mapped, g);
-  ports = let g = s .good .0 .1 .1 .1 .1 .1 .1 .0 in search (needs, rows.length-mapped, g);
-  edges = let g = s .good .0 .1 .1 .1 .1 .1 .1 .1 .0 in search (needs, rows.length-mapped, g);
-  bundles = let g = s .good .0 .1 .1 .1 .1 .1 .1 .1 .1 .0 in search (needs, rows.length-mapped, g);
-  members = let g = s .good .0 .1 .1 .1 .1 .1 .1 .1 .1 .1 .0 in search (needs, rows.length-mapped, g);
+  nodes = let g = s .good .1 .0 .1 .1 .1 .1 .1 .0 in search (needs, rows.length-mapped, g);
+  ports = let g = s .good .1 .0 .1 .1 .1 .1 .1 .1 .0 in search (needs, rows.length-mapped, g);
+  edges = let g = s .good .1 .0 .1 .1 .1 .1 .1 .1 .1 .0 in search (needs, rows.length-mapped, g);
+  bundles = let g = s .good .1 .0 .1 .1 .1 .1 .1 .1 .1 .1 .0 in search (needs, rows.length-mapped, g);
+  members = let g = s .good .1 .0 .1 .1 .1 .1 .1 .1 .1 .1 .1 .0 in search (needs, rows.length-mapped, g);
 }
 
 -- where every turn was clean: the slices after the last one
 abbrev start : tie.After-known-told2 → tie.Start
-start c = c .before .before .before .before .before .before .before .before .before .before .before .before .before .before .before .before .before .before .before .before .before .before .before .before .before .before .before .before .before .before .before .before .before .before .before .before .before .before .before .before .before .before .before .before .before .before .before
+start c = c .before .before .before .before .before .before .before .before .before .before .before .before .before .before .before .before .before .before .before .before .before .before .before .before .before .before .before .before .before .before .before .before .before .before .before .before .before .before .before .before .before .before .before .before .before .before .before .before
 
 abbrev drawn-by : tie.After-known-told2 → DrawnBundles
 drawn-by c = c .before .before .before .before .before .before .before .before .before .before .before .before .before .before .before .before .before .draw-sheet .result .drawn
@@ -61,9 +63,13 @@ on-sheet c =
 windows : (c : tie.After-known-told2) → Windows (drawn-by c .count) (drawn-by c .rows) (start c .args .j .members .count)
 windows c = answers.windows (start c .args .j) (edges-by c) (drawn-by c) (points-by c) (counts-by c) (taps-by c) (on-sheet c) (sizes (start c))
 
+-- the rows of the bundles drawn
+long-drawn : (c : tie.After-normalize-layout) → length (c .normalize-layout .result .drawn .rows) ≡ max-bundles
+long-drawn c = search (needs, rows.length-mapped)
+
 corridor-depth-offsets-requires : tie.Need-corridor-depth-offsets-requires
 corridor-depth-offsets-requires c κs =
-    let s = c .before .before .before .before .before .before .before .before .before .before in
+    let s = c .before .before .before .before .before .before .before .before .before .before .before in
     let a = s .args in
     tables-sound (a .j) (a .given .now) (s .pre .0 .0) (sizes s)
 
@@ -72,19 +78,19 @@ slice-relend-prefix-plan-interior-collectors c = search needs
 
 slice-aggregate-plan-interior-collectors : tie.Need-slice-aggregate-plan-interior-collectors
 slice-aggregate-plan-interior-collectors c =
-    let s = c .before .before .before .before .before .before .before .before .before .before .before .before .before in
+    let s = c .before .before .before .before .before .before .before .before .before .before .before .before .before .before in
     let a = s .args in
     sym (length-take-le search-work (a .points .now) (s .pre .1 .1 .0 .0))
 
 plan-interior-collectors-requires : tie.Need-plan-interior-collectors-requires
 plan-interior-collectors-requires c κs =
-    let s = c .before .before .before .before .before .before .before .before .before .before .before .before .before in
+    let s = c .before .before .before .before .before .before .before .before .before .before .before .before .before .before in
     let a = s .args in
     let x = length-take-le search-work (a .points .now) (s .pre .1 .1 .0 .0) in
     ((tables-sound (a .j) (a .given .now) (s .pre .0 .0) (sizes s), routes-in (a .j) (a .given .now) (s .pre .0 .0) (sizes s)), ((omega (arith, s .pre .1 .1 .0 .1), omega (arith, x, s .pre .1 .1 .0 .1)), c .before .before .corridor-depth-offsets .ensures))
 
 write-notice-requires : tie.Need-write-notice-requires
-write-notice-requires c κs = c .before .before .before .before .before .before .before .before .before .before .before .before .before .before .before .before .before .before .before .before .pre .0 .1
+write-notice-requires c κs = c .before .before .before .before .before .before .before .before .before .before .before .before .before .before .before .before .before .before .before .before .before .pre .0 .1
 
 same-length : tie.Need-same-length
 same-length c = search needs
@@ -97,15 +103,15 @@ same-length-3 c = search needs
 
 returns : tie.Need-returns
 returns c =
-    let s = c .before .before .before .before .before .before .before .before .before .before .before .before .before .before .before .before .before .before .before .before .before .before .before in
+    let s = c .before .before .before .before .before .before .before .before .before .before .before .before .before .before .before .before .before .before .before .before .before .before .before .before in
     let a = s .args in
     let p = c .before .before .before .before .before .before .before .before .before .plan-interior-collectors in
     let w = c .before .before .write-notice .ensures in
-    laws.notice-writes _ _ _ 13 _ (laws.plan-refused (a .j) (a .given .now) (s .pre .0 .0) (sizes s) (p .result) (p .ensures) (c .before .before .before .before .if1 .taken)) (w .0) (w .1)
+    laws.notice-writes _ _ _ 13 _ (laws.refused-outputs (a .wants) _ 13 (laws.plan-refused (a .j) (a .given .now) (s .pre .0 .0) (sizes s) (p .result) (p .ensures) (c .before .before .before .before .if1 .taken))) (w .0) refl (w .1)
 
 draw-sheet-requires : tie.Need-draw-sheet-requires
 draw-sheet-requires c κs =
-    let s = c .before .before .before .before .before .before .before .before .before .before .before .before .before .before .before .before .before .before .before .before .before .before .before .before .before .before .before .before .before in
+    let s = c .before .before .before .before .before .before .before .before .before .before .before .before .before .before .before .before .before .before .before .before .before .before .before .before .before .before .before .before .before .before in
     let a = s .args in
     let p = c .before .before .before .before .before .before .before .before .before .before .before .before .before .before .before .plan-interior-collectors in
     let lent = laws.lent-as (a .j) _ _ _ _ _ _ _ _ (length-front (a .points .now) (p .last .1 .1 .1 .1 .1 .1 .1 .1 .1 .1 .1 .0) search-work (p .kept .1 .1 .1 .1 .1 .1 .1 .1 .1 .1 .1 .0)) (s .pre .1 .1 .1) in
@@ -115,48 +121,16 @@ enum-known-v : tie.Need-enum-known-v
 enum-known-v c = search needs
 
 write-notice-requires-2 : tie.Need-write-notice-requires-2
-write-notice-requires-2 c κs = c .before .before .before .before .before .before .before .before .before .before .before .before .before .before .before .before .before .before .before .before .before .before .before .before .before .before .before .before .before .before .before .before .before .before .before .before .before .before .before .before .before .before .before .before .before .before .before .before .pre .0 .1
+write-notice-requires-2 c κs = c .before .before .before .before .before .before .before .before .before .before .before .before .before .before .before .before .before .before .before .before .before .before .before .before .before .before .before .before .before .before .before .before .before .before .before .before .before .before .before .before .before .before .before .before .before .before .before .before .before .pre .0 .1
 
 enum-known-v-2 : tie.Need-enum-known-v-2
 enum-known-v-2 c = search needs
 
-normalize-layout-requires : tie.Need-normalize-layout-requires
-normalize-layout-requires c κs =
-    let m = c .before .before .before in
-    let on = on-sheet m in
-    ((on .fits .nodes, omega (arith, on .all-drawn, on .fits .bundles)), ((on .slots, on .hold), (on .places, windows m)))
-
-tap-rows-requires : tie.Need-tap-rows-requires
-tap-rows-requires c κs =
-    let on = on-sheet (c .before .before .before .before .before .before .before .before .before) in
-    let n = c .before .before .before .before .before .normalize-layout in
-    ((on .fits .members, on .fits .edges, omega (arith, on .places, n .kept .1 .1 .1 .1 .0)), on .members-on)
-
-write-answer-requires : tie.Need-write-answer-requires
-write-answer-requires c κs =
-    let s = c .before .before .before .before .before .before .before .before .before .before .before .before .before .before .before .before .before .before .before .before .before .before .before .before .before .before .before .before .before .before .before .before .before .before .before .before .before .before .before .before .before .before .before .before .before .before .before .before .before .before .before .before .before .before .before .before .before .before .before .before in
-    let a = s .args in
-    let p = c .before .before .before .before .before .before .before .before .before .before .before .before .before .before .before .before .before .before .before .before .before .before .before .before .before .before .before .before .before .before .before .before .before .before .before .before .before .before .before .before .before .before .before .before .before .before .plan-interior-collectors in
-    let o = c .before .before .before .before .before .before .before .before .before .before .before .before .before .before .before .before .before .before .before .before .before .before .before .before .before .before .before .before .before .before .before .before .before .before .before .before .before .before .before .before .before .before .before .before .before .before .before .before .before .corridor-depth-offsets in
-    let d = c .before .before .before .before .before .before .before .before .before .before .before .before .before .before .before .before .before .before .before .before .before .before .before .before .before .before .before .before .before .before .draw-sheet in
-    let n = c .before .before .before .before .before .before .before .before .before .normalize-layout in
-    let t = c .before .before .before .tap-rows in
-    let m = c .before .before .before .before .before .before .before .before .before .before .before .before .before in
-    let on = on-sheet m in
-    record {
-      nodes = omega (arith, on .fits .nodes, n .ensures .1 .0);
-      edges = on .fits .edges;
-      counted = omega (arith, on .counted);
-      stored = omega (arith, on .counted, on .slots, n .kept .1 .1 .0);
-      held = on .hold;
-      bundles = omega (arith, on .all-drawn, on .fits .bundles, n .ensures .1 .1 .0);
-      taps = omega (arith, t .ensures .count-is, on .fits .members);
-      windows = subst (Windows (n .result .drawn .count) (n .result .drawn .rows)) (sym (t .ensures .count-is)) (windows-kept (a .j .members .count) (drawn-by m) (n .result .drawn) (n .ensures .1 .1 .1) (n .ensures .1 .1 .0) (windows m));
-      room-for-it = laws.sheet-room _ _ _ (laws.all-told (a .j) (a .given .now) (s .pre .0 .0) (sizes s) (p .result) (p .ensures) (c .before .before .before .before .before .before .before .before .before .before .before .before .before .before .before .before .before .before .before .before .before .before .before .before .before .before .before .before .before .before .before .before .before .before .before .before .before .before .before .before .before .if1 .left) (take (a .j .bundles .count) (o .result .rows)) (d .result .verdict) (edges-by m) (drawn-by m) (points-by m) (counts-by m) (taps-by m) (o .ensures (take (a .j .edges .count) (a .j .edges .rows))) (d .ensures .0) _ (c .before .before .before .before .before .before .before .before .before .before .before .before .before .before .v2 .given .1) on (n .result) (n .last .1 .1 .0) (n .last .1 .1 .1 .1 .0) (t .result) (t .ensures) (n .ensures .0 (edges-by m)) (n .ensures .1 .1 .0) (n .ensures .1 .1 .1)) (s .pre .1 .0);
-    }
+write-notice-requires-3 : tie.Need-write-notice-requires-3
+write-notice-requires-3 c κs = c .before .before .before .before .before .before .before .before .before .before .before .before .before .before .before .before .before .before .before .before .before .before .before .before .before .before .before .before .before .before .before .before .before .before .before .before .before .before .before .before .before .before .before .before .before .before .before .before .before .before .before .before .pre .0 .1
 
 same-length-4 : tie.Need-same-length-4
-same-length-4 c = let k = c .before .before .before .before .before .before .before .before .before .before .before .before .before .before .before .before .before .before .before .before .before .before .before .before .before .before .before .before .before .before .before .before .before .before .before .before .before .plan-interior-collectors .kept .1 .1 .1 .1 .1 .1 .1 .1 .1 .1 .0 in omega (arith, k)
+same-length-4 c = let k = c .before .before .before .before .before .before .before .before .before .before .before .before .before .before .before .before .before .before .before .before .before .before .before .before .before .before .before .before .before .before .before .before .before .before .before .before .before .before .before .before .plan-interior-collectors .kept .1 .1 .1 .1 .1 .1 .1 .1 .1 .1 .0 in omega (arith, k)
 
 same-length-5 : tie.Need-same-length-5
 same-length-5 c = search needs
@@ -169,9 +143,9 @@ same-length-7 c = search needs
 
 same-length-8 : tie.Need-same-length-8
 same-length-8 c =
-    let p = c .before .before .before .before .before .before .before .before .before .before .before .before .before .before .before .before .before .before .before .before .before .before .before .before .before .before .before .before .before .before .before .before .before .before .before .before .before .plan-interior-collectors in
-    let kept = length-front (c .before .before .before .before .before .before .before .before .before .before .before .before .before .before .before .before .before .before .before .before .before .before .before .before .before .before .before .before .before .before .before .before .before .before .before .before .before .before .before .before .before .before .before .before .before .before .before .before .before .before .before .args .points .now) (p .last .1 .1 .1 .1 .1 .1 .1 .1 .1 .1 .1 .0) search-work (p .kept .1 .1 .1 .1 .1 .1 .1 .1 .1 .1 .1 .0) in
-    omega (arith, kept, c .before .before .before .before .before .before .before .before .before .before .before .before .before .before .before .before .before .before .before .before .before .draw-sheet .kept .1 .1 .1 .1 .1 .1 .1 .1 .1 .1 .1 .1 .1 .0)
+    let p = c .before .before .before .before .before .before .before .before .before .before .before .before .before .before .before .before .before .before .before .before .before .before .before .before .before .before .before .before .before .before .before .before .before .before .before .before .before .before .before .before .plan-interior-collectors in
+    let kept = length-front (c .before .before .before .before .before .before .before .before .before .before .before .before .before .before .before .before .before .before .before .before .before .before .before .before .before .before .before .before .before .before .before .before .before .before .before .before .before .before .before .before .before .before .before .before .before .before .before .before .before .before .before .before .before .before .before .args .points .now) (p .last .1 .1 .1 .1 .1 .1 .1 .1 .1 .1 .1 .0) search-work (p .kept .1 .1 .1 .1 .1 .1 .1 .1 .1 .1 .1 .0) in
+    omega (arith, kept, c .before .before .before .before .before .before .before .before .before .before .before .before .before .before .before .before .before .before .before .before .before .before .before .before .draw-sheet .kept .1 .1 .1 .1 .1 .1 .1 .1 .1 .1 .1 .1 .1 .0)
 
 same-length-9 : tie.Need-same-length-9
 same-length-9 c = search needs
@@ -187,57 +161,158 @@ same-length-12 c = search needs
 
 returns-2 : tie.Need-returns-2
 returns-2 c =
-    let s = c .before .before .before .before .before .before .before .before .before .before .before .before .before .before .before .before .before .before .before .before .before .before .before .before .before .before .before .before .before .before .before .before .before .before .before .before .before .before .before .before .before .before .before .before .before .before .before .before .before .before .before in
+    let s = c .before .before .before .before .before .before .before .before .before .before .before .before .before .before .before .before .before .before .before .before .before .before .before .before .before .before .before .before .before .before .before .before .before .before .before .before .before .before .before .before .before .before .before .before .before .before .before .before .before .before .before .before .before .before .before in
     let a = s .args in
-    let p = c .before .before .before .before .before .before .before .before .before .before .before .before .before .before .before .before .before .before .before .before .before .before .before .before .before .before .before .before .before .before .before .before .before .before .before .before .before .plan-interior-collectors in
-    let o = c .before .before .before .before .before .before .before .before .before .before .before .before .before .before .before .before .before .before .before .before .before .before .before .before .before .before .before .before .before .before .before .before .before .before .before .before .before .before .before .before .corridor-depth-offsets in
-    let d = c .before .before .before .before .before .before .before .before .before .before .before .before .before .before .before .before .before .before .before .before .before .draw-sheet in
-    let w = c .before .before .write-notice2 .ensures in
-    laws.notice-writes _ _ _ _ _ (laws.all-refused (a .j) (a .given .now) (s .pre .0 .0) (sizes s) (p .result) (p .ensures) (c .before .before .before .before .before .before .before .before .before .before .before .before .before .before .before .before .before .before .before .before .before .before .before .before .before .before .before .before .before .before .before .before .if1 .left) (take (a .j .bundles .count) (o .result .rows)) (d .result .verdict) (d .last .1 .1 .1 .1 .1 .1 .1 .1 .1 .1 .0) (d .result .drawn) (d .last .1 .1 .1 .1 .1 .1 .1 .1 .1 .1 .1 .1 .1 .0) (d .last .1 .1 .1 .1 .1 .1 .1 .1 .1 .1 .1 .1 .1 .1 .0) (d .last .1 .1 .1 .1 .1 .1 .1 .1 .1 .1 .1 .1 .0) (o .ensures (take (a .j .edges .count) (a .j .edges .rows))) (d .ensures .0) _ _ (c .before .before .before .before .before .v .given .1)) (w .0) (w .1)
+    let p = c .before .before .before .before .before .before .before .before .before .before .before .before .before .before .before .before .before .before .before .before .before .before .before .before .before .before .before .before .before .before .before .before .before .before .before .before .before .before .before .before .plan-interior-collectors in
+    let o = c .before .before .before .before .before .before .before .before .before .before .before .before .before .before .before .before .before .before .before .before .before .before .before .before .before .before .before .before .before .before .before .before .before .before .before .before .before .before .before .before .before .before .before .corridor-depth-offsets in
+    let d = c .before .before .before .before .before .before .before .before .before .before .before .before .before .before .before .before .before .before .before .before .before .before .before .before .draw-sheet in
+    let m = c .before .before .before .before .before .before .before in
+    let w = c .before .before .write-notice3 .ensures in
+    laws.notice-writes _ _ _ 16 _ (laws.off-grid-outputs (a .wants) _ _ (laws.all-drawn (a .j) (a .given .now) (s .pre .0 .0) (sizes s) (p .result) (p .ensures) (c .before .before .before .before .before .before .before .before .before .before .before .before .before .before .before .before .before .before .before .before .before .before .before .before .before .before .before .before .before .before .before .before .before .before .before .if1 .left) (take (a .j .bundles .count) (o .result .rows)) (d .result .verdict) (edges-by m) (drawn-by m) (points-by m) (counts-by m) (taps-by m) (o .ensures (take (a .j .edges .count) (a .j .edges .rows))) (d .ensures .0) _ (c .before .before .before .before .before .before .before .before .v2 .given .1)) (c .before .before .before .before .if2 .taken)) (w .0) refl (w .1)
+
+normalize-layout-requires : tie.Need-normalize-layout-requires
+normalize-layout-requires c κs =
+    let m = c .before .before .before .before .before .before in
+    let on = on-sheet m in
+    ((on .fits .nodes, omega (arith, on .all-drawn, on .fits .bundles)), ((on .slots, on .hold), (on .places, windows m)))
+
+tap-rows-requires : tie.Need-tap-rows-requires
+tap-rows-requires c κs =
+    let on = on-sheet (c .before .before .before .before .before .before .before .before .before .before .before .before) in
+    let n = c .before .before .before .before .before .normalize-layout in
+    ((on .fits .members, on .fits .edges, omega (arith, on .places, n .kept .1 .1 .1 .1 .0)), on .members-on)
+
+put-page-requires : tie.Need-put-page-requires
+put-page-requires c κs =
+    let s = c .before .before .before .before .before .before .before .before .before .before .before .before .before .before .before .before .before .before .before .before .before .before .before .before .before .before .before .before .before .before .before .before .before .before .before .before .before .before .before .before .before .before .before .before .before .before .before .before .before .before .before .before .before .before .before .before .before .before .before .before .before .before .before in
+    let a = s .args in
+    let p = c .before .before .before .before .before .before .before .before .before .before .before .before .before .before .before .before .before .before .before .before .before .before .before .before .before .before .before .before .before .before .before .before .before .before .before .before .before .before .before .before .before .before .before .before .before .before .before .before .plan-interior-collectors in
+    let o = c .before .before .before .before .before .before .before .before .before .before .before .before .before .before .before .before .before .before .before .before .before .before .before .before .before .before .before .before .before .before .before .before .before .before .before .before .before .before .before .before .before .before .before .before .before .before .before .before .before .before .before .corridor-depth-offsets in
+    let d = c .before .before .before .before .before .before .before .before .before .before .before .before .before .before .before .before .before .before .before .before .before .before .before .before .before .before .before .before .before .before .before .before .draw-sheet in
+    let n = c .before .before .before .before .before .before .before .before .normalize-layout in
+    let t = c .before .before .tap-rows in
+    let m = c .before .before .before .before .before .before .before .before .before .before .before .before .before .before .before in
+    let on = on-sheet m in
+    let l = n .result .drawn in
+    let long = long-drawn (c .before .before .before .before .before .before .before .before) in
+    let many : l .count ≤ max-bundles = omega (arith, on .all-drawn, on .fits .bundles, n .ensures .1 .1 .0) in
+    (many, laws.all-printable (a .j) (a .given .now) (s .pre .0 .0) (sizes s) (p .result) (p .ensures) (c .before .before .before .before .before .before .before .before .before .before .before .before .before .before .before .before .before .before .before .before .before .before .before .before .before .before .before .before .before .before .before .before .before .before .before .before .before .before .before .before .before .before .before .if1 .left) (take (a .j .bundles .count) (o .result .rows)) (d .result .verdict) (edges-by m) (drawn-by m) (points-by m) (counts-by m) (taps-by m) (o .ensures (take (a .j .edges .count) (a .j .edges .rows))) (d .ensures .0) (on-the-grid (a .wants .page) _ (c .before .if3 .taken) (c .before .before .before .before .before .before .before .before .before .before .before .before .if2 .left)) _ (c .before .before .before .before .before .before .before .before .before .before .before .before .before .before .before .before .v2 .given .1) _ (n .result .nodes) (n .last .1 .1 .0) l (t .result) (laws.all-told (a .j) (a .given .now) (s .pre .0 .0) (sizes s) (p .result) (p .ensures) (c .before .before .before .before .before .before .before .before .before .before .before .before .before .before .before .before .before .before .before .before .before .before .before .before .before .before .before .before .before .before .before .before .before .before .before .before .before .before .before .before .before .before .before .if1 .left) (take (a .j .bundles .count) (o .result .rows)) (d .result .verdict) (edges-by m) (drawn-by m) (points-by m) (counts-by m) (taps-by m) (o .ensures (take (a .j .edges .count) (a .j .edges .rows))) (d .ensures .0) _ on (n .result) (n .last .1 .1 .0) (n .last .1 .1 .1 .1 .0) (t .result) (t .ensures) (n .ensures .0 (edges-by m)) (n .ensures .1 .1 .0) (n .ensures .1 .1 .1)) (omega (arith, many, long)), wanted-room (a .wants .page) _ _ (c .before .if3 .taken) (s .pre .0 .2))
+
+write-answer-requires : tie.Need-write-answer-requires
+write-answer-requires c κs =
+    let s = c .before .before .before .before .before .before .before .before .before .before .before .before .before .before .before .before .before .before .before .before .before .before .before .before .before .before .before .before .before .before .before .before .before .before .before .before .before .before .before .before .before .before .before .before .before .before .before .before .before .before .before .before .before .before .before .before .before .before .before .before .before .before .before .before .before in
+    let a = s .args in
+    let p = c .before .before .before .before .before .before .before .before .before .before .before .before .before .before .before .before .before .before .before .before .before .before .before .before .before .before .before .before .before .before .before .before .before .before .before .before .before .before .before .before .before .before .before .before .before .before .before .before .before .before .plan-interior-collectors in
+    let o = c .before .before .before .before .before .before .before .before .before .before .before .before .before .before .before .before .before .before .before .before .before .before .before .before .before .before .before .before .before .before .before .before .before .before .before .before .before .before .before .before .before .before .before .before .before .before .before .before .before .before .before .before .before .corridor-depth-offsets in
+    let d = c .before .before .before .before .before .before .before .before .before .before .before .before .before .before .before .before .before .before .before .before .before .before .before .before .before .before .before .before .before .before .before .before .before .before .draw-sheet in
+    let n = c .before .before .before .before .before .before .before .before .before .before .normalize-layout in
+    let t = c .before .before .before .before .tap-rows in
+    let m = c .before .before .before .before .before .before .before .before .before .before .before .before .before .before .before .before .before in
+    let on = on-sheet m in
+    record {
+      nodes = omega (arith, on .fits .nodes, n .ensures .1 .0);
+      edges = on .fits .edges;
+      counted = omega (arith, on .counted);
+      stored = omega (arith, on .counted, on .slots, n .kept .1 .1 .0);
+      held = on .hold;
+      bundles = omega (arith, on .all-drawn, on .fits .bundles, n .ensures .1 .1 .0);
+      taps = omega (arith, t .ensures .count-is, on .fits .members);
+      windows = subst (Windows (n .result .drawn .count) (n .result .drawn .rows)) (sym (t .ensures .count-is)) (windows-kept (a .j .members .count) (drawn-by m) (n .result .drawn) (n .ensures .1 .1 .1) (n .ensures .1 .1 .0) (windows m));
+      room-for-it = laws.sheet-room _ _ _ _ (laws.all-drawn (a .j) (a .given .now) (s .pre .0 .0) (sizes s) (p .result) (p .ensures) (c .before .before .before .before .before .before .before .before .before .before .before .before .before .before .before .before .before .before .before .before .before .before .before .before .before .before .before .before .before .before .before .before .before .before .before .before .before .before .before .before .before .before .before .before .before .if1 .left) (take (a .j .bundles .count) (o .result .rows)) (d .result .verdict) (edges-by m) (drawn-by m) (points-by m) (counts-by m) (taps-by m) (o .ensures (take (a .j .edges .count) (a .j .edges .rows))) (d .ensures .0) _ (c .before .before .before .before .before .before .before .before .before .before .before .before .before .before .before .before .before .before .v2 .given .1)) (laws.all-told (a .j) (a .given .now) (s .pre .0 .0) (sizes s) (p .result) (p .ensures) (c .before .before .before .before .before .before .before .before .before .before .before .before .before .before .before .before .before .before .before .before .before .before .before .before .before .before .before .before .before .before .before .before .before .before .before .before .before .before .before .before .before .before .before .before .before .if1 .left) (take (a .j .bundles .count) (o .result .rows)) (d .result .verdict) (edges-by m) (drawn-by m) (points-by m) (counts-by m) (taps-by m) (o .ensures (take (a .j .edges .count) (a .j .edges .rows))) (d .ensures .0) _ on (n .result) (n .last .1 .1 .0) (n .last .1 .1 .1 .1 .0) (t .result) (t .ensures) (n .ensures .0 (edges-by m)) (n .ensures .1 .1 .0) (n .ensures .1 .1 .1)) (s .pre .1 .0);
+    }
 
 same-length-13 : tie.Need-same-length-13
-same-length-13 c = let k = c .before .before .before .before .before .before .before .before .before .before .before .before .before .before .before .before .before .before .before .before .before .before .before .before .before .before .before .before .before .before .before .before .before .before .before .before .before .before .before .before .before .before .before .before .before .before .before .before .before .plan-interior-collectors .kept .1 .1 .1 .1 .1 .1 .1 .1 .1 .1 .0 in omega (arith, k)
+same-length-13 c = let k = c .before .before .before .before .before .before .before .before .before .before .before .before .before .before .before .before .before .before .before .before .before .before .before .before .before .before .before .before .before .before .before .before .before .before .before .before .before .plan-interior-collectors .kept .1 .1 .1 .1 .1 .1 .1 .1 .1 .1 .0 in omega (arith, k)
 
 same-length-14 : tie.Need-same-length-14
-same-length-14 c = omega (arith, c .before .before .before .before .before .before .before .before .before .before .before .before .before .before .before .before .before .before .before .before .before .before .before .before .before .before .before .before .before .before .before .before .before .draw-sheet .kept .1 .1 .1 .1 .1 .1 .1 .1 .1 .1 .0)
+same-length-14 c = search needs
 
 same-length-15 : tie.Need-same-length-15
-same-length-15 c = omega (arith, c .before .before .before .before .before .before .before .before .before .before .before .before .before .before .before .before .before .before .before .before .before .before .before .before .before .before .before .before .before .before .before .before .before .draw-sheet .kept .1 .1 .1 .1 .1 .1 .1 .1 .1 .1 .1 .0)
+same-length-15 c = search needs
 
 same-length-16 : tie.Need-same-length-16
-same-length-16 c = omega (arith, c .before .before .before .before .before .before .before .before .before .before .before .before .before .before .before .before .before .before .before .before .before .before .before .before .before .before .before .before .before .before .before .before .before .draw-sheet .kept .1 .1 .1 .1 .1 .1 .1 .1 .1 .1 .1 .1 .0, c .before .before .before .before .before .before .before .before .before .before .before .before .normalize-layout .kept .1 .1 .1 .1 .0)
+same-length-16 c = search needs
 
 same-length-17 : tie.Need-same-length-17
 same-length-17 c =
-    let p = c .before .before .before .before .before .before .before .before .before .before .before .before .before .before .before .before .before .before .before .before .before .before .before .before .before .before .before .before .before .before .before .before .before .before .before .before .before .before .before .before .before .before .before .before .before .before .before .before .before .plan-interior-collectors in
-    let kept = length-front (c .before .before .before .before .before .before .before .before .before .before .before .before .before .before .before .before .before .before .before .before .before .before .before .before .before .before .before .before .before .before .before .before .before .before .before .before .before .before .before .before .before .before .before .before .before .before .before .before .before .before .before .before .before .before .before .before .before .before .before .before .before .before .before .args .points .now) (p .last .1 .1 .1 .1 .1 .1 .1 .1 .1 .1 .1 .0) search-work (p .kept .1 .1 .1 .1 .1 .1 .1 .1 .1 .1 .1 .0) in
-    omega (arith, kept, c .before .before .before .before .before .before .before .before .before .before .before .before .before .before .before .before .before .before .before .before .before .before .before .before .before .before .before .before .before .before .before .before .before .draw-sheet .kept .1 .1 .1 .1 .1 .1 .1 .1 .1 .1 .1 .1 .1 .0, c .before .before .before .before .before .before .before .before .before .before .before .before .normalize-layout .kept .1 .1 .0)
+    let p = c .before .before .before .before .before .before .before .before .before .before .before .before .before .before .before .before .before .before .before .before .before .before .before .before .before .before .before .before .before .before .before .before .before .before .before .before .before .plan-interior-collectors in
+    let kept = length-front (c .before .before .before .before .before .before .before .before .before .before .before .before .before .before .before .before .before .before .before .before .before .before .before .before .before .before .before .before .before .before .before .before .before .before .before .before .before .before .before .before .before .before .before .before .before .before .before .before .before .before .before .before .args .points .now) (p .last .1 .1 .1 .1 .1 .1 .1 .1 .1 .1 .1 .0) search-work (p .kept .1 .1 .1 .1 .1 .1 .1 .1 .1 .1 .1 .0) in
+    omega (arith, kept, c .before .before .before .before .before .before .before .before .before .before .before .before .before .before .before .before .before .before .before .before .before .draw-sheet .kept .1 .1 .1 .1 .1 .1 .1 .1 .1 .1 .1 .1 .1 .0)
 
 same-length-18 : tie.Need-same-length-18
-same-length-18 c = omega (arith, c .before .before .before .before .before .before .before .before .before .before .before .before .before .before .before .before .before .before .before .before .before .before .before .before .before .before .before .before .before .before .before .before .before .draw-sheet .kept .1 .1 .1 .1 .1 .1 .1 .1 .1 .1 .1 .1 .1 .1 .0)
+same-length-18 c = search needs
 
 same-length-19 : tie.Need-same-length-19
-same-length-19 c = omega (arith, c .before .before .before .before .before .before .before .before .before .before .before .before .before .before .before .before .before .before .before .before .before .before .before .before .before .before .before .before .before .before .before .before .before .draw-sheet .kept .1 .1 .1 .1 .1 .1 .1 .1 .1 .1 .1 .1 .1 .1 .1 .0)
+same-length-19 c = search needs
 
 same-length-20 : tie.Need-same-length-20
-same-length-20 c = omega (arith, c .before .before .before .before .before .before .before .before .before .before .before .before .before .before .before .before .before .before .before .before .before .before .before .before .before .before .before .before .before .before .before .before .before .draw-sheet .kept .1 .1 .1 .1 .1 .1 .1 .1 .1 .1 .1 .1 .1 .1 .1 .1 .0)
+same-length-20 c = search needs
 
 same-length-21 : tie.Need-same-length-21
 same-length-21 c = search needs
 
 returns-3 : tie.Need-returns-3
 returns-3 c =
-    let s = c .before .before .before .before .before .before .before .before .before .before .before .before .before .before .before .before .before .before .before .before .before .before .before .before .before .before .before .before .before .before .before .before .before .before .before .before .before .before .before .before .before .before .before .before .before .before .before .before .before .before .before .before .before .before .before .before .before .before .before .before .before .before .before in
+    let s = c .before .before .before .before .before .before .before .before .before .before .before .before .before .before .before .before .before .before .before .before .before .before .before .before .before .before .before .before .before .before .before .before .before .before .before .before .before .before .before .before .before .before .before .before .before .before .before .before .before .before .before .before in
     let a = s .args in
-    let p = c .before .before .before .before .before .before .before .before .before .before .before .before .before .before .before .before .before .before .before .before .before .before .before .before .before .before .before .before .before .before .before .before .before .before .before .before .before .before .before .before .before .before .before .before .before .before .before .before .before .plan-interior-collectors in
-    let o = c .before .before .before .before .before .before .before .before .before .before .before .before .before .before .before .before .before .before .before .before .before .before .before .before .before .before .before .before .before .before .before .before .before .before .before .before .before .before .before .before .before .before .before .before .before .before .before .before .before .before .before .before .corridor-depth-offsets in
-    let d = c .before .before .before .before .before .before .before .before .before .before .before .before .before .before .before .before .before .before .before .before .before .before .before .before .before .before .before .before .before .before .before .before .before .draw-sheet in
-    let n = c .before .before .before .before .before .before .before .before .before .before .before .before .normalize-layout in
-    let t = c .before .before .before .before .before .before .tap-rows in
-    let m = c .before .before .before .before .before .before .before .before .before .before .before .before .before .before .before .before in
+    let p = c .before .before .before .before .before .before .before .before .before .before .before .before .before .before .before .before .before .before .before .before .before .before .before .before .before .before .before .before .before .before .before .before .before .before .before .before .before .plan-interior-collectors in
+    let o = c .before .before .before .before .before .before .before .before .before .before .before .before .before .before .before .before .before .before .before .before .before .before .before .before .before .before .before .before .before .before .before .before .before .before .before .before .before .before .before .before .corridor-depth-offsets in
+    let d = c .before .before .before .before .before .before .before .before .before .before .before .before .before .before .before .before .before .before .before .before .before .draw-sheet in
+    let w = c .before .before .write-notice2 .ensures in
+    laws.notice-writes _ _ _ _ _ (laws.refused-outputs (a .wants) _ _ (laws.all-refused (a .j) (a .given .now) (s .pre .0 .0) (sizes s) (p .result) (p .ensures) (c .before .before .before .before .before .before .before .before .before .before .before .before .before .before .before .before .before .before .before .before .before .before .before .before .before .before .before .before .before .before .before .before .if1 .left) (take (a .j .bundles .count) (o .result .rows)) (d .result .verdict) (d .last .1 .1 .1 .1 .1 .1 .1 .1 .1 .1 .0) (d .result .drawn) (d .last .1 .1 .1 .1 .1 .1 .1 .1 .1 .1 .1 .1 .1 .0) (d .last .1 .1 .1 .1 .1 .1 .1 .1 .1 .1 .1 .1 .1 .1 .0) (d .last .1 .1 .1 .1 .1 .1 .1 .1 .1 .1 .1 .1 .0) (o .ensures (take (a .j .edges .count) (a .j .edges .rows))) (d .ensures .0) _ _ (c .before .before .before .before .before .v .given .1))) (w .0) refl (w .1)
+
+same-length-22 : tie.Need-same-length-22
+same-length-22 c = let k = c .before .before .before .before .before .before .before .before .before .before .before .before .before .before .before .before .before .before .before .before .before .before .before .before .before .before .before .before .before .before .before .before .before .before .before .before .before .before .before .before .before .before .before .before .before .before .before .before .before .before .before .before .before .plan-interior-collectors .kept .1 .1 .1 .1 .1 .1 .1 .1 .1 .1 .0 in omega (arith, k)
+
+same-length-23 : tie.Need-same-length-23
+same-length-23 c = omega (arith, c .before .before .before .before .before .before .before .before .before .before .before .before .before .before .before .before .before .before .before .before .before .before .before .before .before .before .before .before .before .before .before .before .before .before .before .before .before .draw-sheet .kept .1 .1 .1 .1 .1 .1 .1 .1 .1 .1 .0)
+
+same-length-24 : tie.Need-same-length-24
+same-length-24 c = omega (arith, c .before .before .before .before .before .before .before .before .before .before .before .before .before .before .before .before .before .before .before .before .before .before .before .before .before .before .before .before .before .before .before .before .before .before .before .before .before .draw-sheet .kept .1 .1 .1 .1 .1 .1 .1 .1 .1 .1 .1 .0)
+
+same-length-25 : tie.Need-same-length-25
+same-length-25 c = omega (arith, c .before .before .before .before .before .before .before .before .before .before .before .before .before .before .before .before .before .before .before .before .before .before .before .before .before .before .before .before .before .before .before .before .before .before .before .before .before .draw-sheet .kept .1 .1 .1 .1 .1 .1 .1 .1 .1 .1 .1 .1 .0, c .before .before .before .before .before .before .before .before .before .before .before .before .before .normalize-layout .kept .1 .1 .1 .1 .0)
+
+same-length-26 : tie.Need-same-length-26
+same-length-26 c =
+    let p = c .before .before .before .before .before .before .before .before .before .before .before .before .before .before .before .before .before .before .before .before .before .before .before .before .before .before .before .before .before .before .before .before .before .before .before .before .before .before .before .before .before .before .before .before .before .before .before .before .before .before .before .before .before .plan-interior-collectors in
+    let kept = length-front (c .before .before .before .before .before .before .before .before .before .before .before .before .before .before .before .before .before .before .before .before .before .before .before .before .before .before .before .before .before .before .before .before .before .before .before .before .before .before .before .before .before .before .before .before .before .before .before .before .before .before .before .before .before .before .before .before .before .before .before .before .before .before .before .before .before .before .before .before .args .points .now) (p .last .1 .1 .1 .1 .1 .1 .1 .1 .1 .1 .1 .0) search-work (p .kept .1 .1 .1 .1 .1 .1 .1 .1 .1 .1 .1 .0) in
+    omega (arith, kept, c .before .before .before .before .before .before .before .before .before .before .before .before .before .before .before .before .before .before .before .before .before .before .before .before .before .before .before .before .before .before .before .before .before .before .before .before .before .draw-sheet .kept .1 .1 .1 .1 .1 .1 .1 .1 .1 .1 .1 .1 .1 .0, c .before .before .before .before .before .before .before .before .before .before .before .before .before .normalize-layout .kept .1 .1 .0)
+
+same-length-27 : tie.Need-same-length-27
+same-length-27 c = omega (arith, c .before .before .before .before .before .before .before .before .before .before .before .before .before .before .before .before .before .before .before .before .before .before .before .before .before .before .before .before .before .before .before .before .before .before .before .before .before .draw-sheet .kept .1 .1 .1 .1 .1 .1 .1 .1 .1 .1 .1 .1 .1 .1 .0)
+
+same-length-28 : tie.Need-same-length-28
+same-length-28 c = omega (arith, c .before .before .before .before .before .before .before .before .before .before .before .before .before .before .before .before .before .before .before .before .before .before .before .before .before .before .before .before .before .before .before .before .before .before .before .before .before .draw-sheet .kept .1 .1 .1 .1 .1 .1 .1 .1 .1 .1 .1 .1 .1 .1 .1 .0)
+
+same-length-29 : tie.Need-same-length-29
+same-length-29 c = omega (arith, c .before .before .before .before .before .before .before .before .before .before .before .before .before .before .before .before .before .before .before .before .before .before .before .before .before .before .before .before .before .before .before .before .before .before .before .before .before .draw-sheet .kept .1 .1 .1 .1 .1 .1 .1 .1 .1 .1 .1 .1 .1 .1 .1 .1 .0)
+
+same-length-30 : tie.Need-same-length-30
+same-length-30 c = search needs
+
+same-length-31 : tie.Need-same-length-31
+same-length-31 c = laws.way (c .before .before .before .before .before .before .if3 .came) (λ x. ap length (x .5) ∙ x .2 .kept .0) (λ x. ap length (x .1))
+
+returns-4 : tie.Need-returns-4
+returns-4 c =
+    let s = c .before .before .before .before .before .before .before .before .before .before .before .before .before .before .before .before .before .before .before .before .before .before .before .before .before .before .before .before .before .before .before .before .before .before .before .before .before .before .before .before .before .before .before .before .before .before .before .before .before .before .before .before .before .before .before .before .before .before .before .before .before .before .before .before .before .before .before .before in
+    let a = s .args in
+    let p = c .before .before .before .before .before .before .before .before .before .before .before .before .before .before .before .before .before .before .before .before .before .before .before .before .before .before .before .before .before .before .before .before .before .before .before .before .before .before .before .before .before .before .before .before .before .before .before .before .before .before .before .before .before .plan-interior-collectors in
+    let o = c .before .before .before .before .before .before .before .before .before .before .before .before .before .before .before .before .before .before .before .before .before .before .before .before .before .before .before .before .before .before .before .before .before .before .before .before .before .before .before .before .before .before .before .before .before .before .before .before .before .before .before .before .before .before .before .before .corridor-depth-offsets in
+    let d = c .before .before .before .before .before .before .before .before .before .before .before .before .before .before .before .before .before .before .before .before .before .before .before .before .before .before .before .before .before .before .before .before .before .before .before .before .before .draw-sheet in
+    let n = c .before .before .before .before .before .before .before .before .before .before .before .before .before .normalize-layout in
+    let t = c .before .before .before .before .before .before .before .tap-rows in
+    let m = c .before .before .before .before .before .before .before .before .before .before .before .before .before .before .before .before .before .before .before .before in
     let on = on-sheet m in
     let w = c .before .before .write-answer .ensures in
-    laws.writes-as _ _ _ _ _ (sym (laws.all-told (a .j) (a .given .now) (s .pre .0 .0) (sizes s) (p .result) (p .ensures) (c .before .before .before .before .before .before .before .before .before .before .before .before .before .before .before .before .before .before .before .before .before .before .before .before .before .before .before .before .before .before .before .before .before .before .before .before .before .before .before .before .before .before .before .before .if1 .left) (take (a .j .bundles .count) (o .result .rows)) (d .result .verdict) (edges-by m) (drawn-by m) (points-by m) (counts-by m) (taps-by m) (o .ensures (take (a .j .edges .count) (a .j .edges .rows))) (d .ensures .0) _ (c .before .before .before .before .before .before .before .before .before .before .before .before .before .before .before .before .before .v2 .given .1) on (n .result) (n .last .1 .1 .0) (n .last .1 .1 .1 .1 .0) (t .result) (t .ensures) (n .ensures .0 (edges-by m)) (n .ensures .1 .1 .0) (n .ensures .1 .1 .1))) (answers.answer-writes _ _ _ _ _ refl (w .0) (w .1))
+    let l = n .result .drawn in
+    let same = page-of-tables id-columns (record { «tap_visits» = 0; «geometry_visits» = 0; width = n .result .width; height = n .result .height }) (n .result .nodes) (a .j .edges) (n .last .1 .1 .0) (counts-by m) l (t .result) in
+    laws.drawn-writes (a .wants) _ _ (laws.all-drawn (a .j) (a .given .now) (s .pre .0 .0) (sizes s) (p .result) (p .ensures) (c .before .before .before .before .before .before .before .before .before .before .before .before .before .before .before .before .before .before .before .before .before .before .before .before .before .before .before .before .before .before .before .before .before .before .before .before .before .before .before .before .before .before .before .before .before .before .before .before .if1 .left) (take (a .j .bundles .count) (o .result .rows)) (d .result .verdict) (edges-by m) (drawn-by m) (points-by m) (counts-by m) (taps-by m) (o .ensures (take (a .j .edges .count) (a .j .edges .rows))) (d .ensures .0) _ (c .before .before .before .before .before .before .before .before .before .before .before .before .before .before .before .before .before .before .before .before .before .v2 .given .1)) (c .before .before .before .before .before .before .before .before .before .before .before .before .before .before .before .before .before .if2 .left) _ _ _ _ (laws.all-told (a .j) (a .given .now) (s .pre .0 .0) (sizes s) (p .result) (p .ensures) (c .before .before .before .before .before .before .before .before .before .before .before .before .before .before .before .before .before .before .before .before .before .before .before .before .before .before .before .before .before .before .before .before .before .before .before .before .before .before .before .before .before .before .before .before .before .before .before .before .if1 .left) (take (a .j .bundles .count) (o .result .rows)) (d .result .verdict) (edges-by m) (drawn-by m) (points-by m) (counts-by m) (taps-by m) (o .ensures (take (a .j .edges .count) (a .j .edges .rows))) (d .ensures .0) _ on (n .result) (n .last .1 .1 .0) (n .last .1 .1 .1 .1 .0) (t .result) (t .ensures) (n .ensures .0 (edges-by m)) (n .ensures .1 .1 .0) (n .ensures .1 .1 .1)) (w .0)
+    (laws.way (c .before .before .before .before .before .before .if3 .came)
+    (λ x. laws.page-put _ _ _ _ (x .0 .taken) (x .5 ∙ x .2 .ensures .0 ∙ ap (sets (a .page .now) 0) same))
+    (λ x. laws.page-left _ _ _ _ (x .0 .left) (x .1)))
+    (w .1)
 
 pub draw-in-spec : {M : Type 1} → statement M
 draw-in-spec =
@@ -256,9 +331,7 @@ draw-in-spec =
     enum-known-v
     write-notice-requires-2
     enum-known-v-2
-    normalize-layout-requires
-    tap-rows-requires
-    write-answer-requires
+    write-notice-requires-3
     same-length-4
     same-length-5
     same-length-6
@@ -269,6 +342,10 @@ draw-in-spec =
     same-length-11
     same-length-12
     returns-2
+    normalize-layout-requires
+    tap-rows-requires
+    put-page-requires
+    write-answer-requires
     same-length-13
     same-length-14
     same-length-15
@@ -278,4 +355,15 @@ draw-in-spec =
     same-length-19
     same-length-20
     same-length-21
-    returns-3)
+    returns-3
+    same-length-22
+    same-length-23
+    same-length-24
+    same-length-25
+    same-length-26
+    same-length-27
+    same-length-28
+    same-length-29
+    same-length-30
+    same-length-31
+    returns-4)

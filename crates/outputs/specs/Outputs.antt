@@ -1,0 +1,56 @@
+-- What a call of stage_sheet writes into its buffers, from document 02's requests: which outputs are wanted, which refusal comes last, and the bytes of each output. Definitions only.
+-- Assumes nothing.
+use Prim.Native.Nat.{ℕ, _/_, _%_}
+use mathlib.Core.Bool.{Bool, true, false, not, _&&_, _||_, cond}
+use mathlib.Core.List.{List, []}
+use lib.Dec.{eqb, ltb}
+use Rattle.limits.specs.Limits.{answer-room, page-room, id-columns}
+use Rattle.answer.specs.Answer.{answer-bytes, notice-bytes}
+use Rattle.promise.specs.Stage.{answer-of, Told, refused, drawn, told}
+use Rattle.bundle_page.specs.AnswerPage.{answer-page}
+use Rattle.outputs.specs.declared.Wants.{Wants}
+
+-- ---- what is wanted
+
+-- bit 1 of the mask: the page is wanted; a bit that is not listed says nothing
+unfoldable pub wants-of : ℕ → Wants
+wants-of mask = record { page = eqb (mask / 2 % 2) 1 }
+
+-- ---- the outputs
+
+-- what is written at the front of each buffer; an empty list leaves its buffer untouched
+pub record Outputs : Type 0 where
+  pub answer : List ℕ
+  pub page : List ℕ
+
+-- 2: "nothing is written"
+abbrev pub nothing : Outputs
+nothing = record { answer = []; page = [] }
+
+-- a refusal: its notice in the answer's buffer, every other output untouched
+abbrev pub notice : ℕ → Outputs
+notice n = record { answer = notice-bytes n; page = [] }
+
+-- ---- the phases
+
+-- an output that is wanted, with a buffer under its largest size
+unfoldable pub lacks : Bool → ℕ → ℕ → Bool
+lacks wanted room least = wanted && ltb room least
+
+-- 2: the answer's buffer is under 65,536 bytes, or that of an output that is wanted is under its largest size
+unfoldable pub too-short : Wants → ℕ → ℕ → Bool
+too-short w answer page = ltb answer answer-room || lacks (w .page) page page-room
+
+-- 16: "the page is wanted and bit 2 is clear", after all other refusals
+unfoldable pub after-all : Wants → Told → Told
+after-all w (refused n) = refused n
+after-all w (drawn f) = cond (w .page && not (f .said .flags .«on_grid»)) (refused 16) (drawn f)
+
+-- F-4: the page is of the numbers in the answer
+unfoldable pub outputs-told : Wants → Told → Outputs
+outputs-told w (refused n) = notice n
+outputs-told w (drawn f) = record { answer = answer-bytes (answer-of f); page = cond (w .page) (answer-page id-columns (answer-of f)) [] }
+
+-- THE WHOLE: a mask, a job's bytes, and how many bytes the answer's and the page's buffers have
+unfoldable pub outputs-of : ℕ → List ℕ → ℕ → ℕ → Outputs
+outputs-of mask bytes answer page = cond (too-short (wants-of mask) answer page) nothing (outputs-told (wants-of mask) (after-all (wants-of mask) (told bytes)))

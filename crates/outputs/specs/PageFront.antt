@@ -1,0 +1,68 @@
+-- F-4's promise of what stage_sheet leaves in the buffers: where the page is wanted and an answer is written, the page reads back.
+-- Assumes nothing.
+use Prim.Native.Nat.{ℕ, _≤_, _<_}
+use mathlib.Core.Path.{_≡_, refl, sym, ap, _∙_, subst}
+use mathlib.Core.Bool.{Bool, true, false, not, _&&_, cond}
+use mathlib.Core.List.{List, []}
+use native.Mathlib.Omega.{arith}
+use lib.ListN.{length, getD, take}
+use lib.Seq.{sets}
+use Rattle.limits.specs.Limits.{page-room, id-columns}
+use Rattle.answer.specs.Answer.{answer-bytes, notice-bytes}
+use Rattle.answer.specs.Stores.{notice-length}
+use Rattle.promise.specs.Stage.{Finished, answer-of, Told, refused, drawn, told}
+use Rattle.promise.specs.Size.{ComesTo, comes-of, Cause, a-refusal, a-sheet, cause, over}
+use Rattle.bundle_page.specs.AnswerPage.{answer-page}
+use Rattle.page_promise.specs.PageReadsBack.{PageReadsBack, PageIsRead}
+use Rattle.page_promise.specs.Theorem.{page-in}
+use Rattle.outputs.specs.declared.Wants.{Wants}
+use Rattle.outputs.specs.Outputs.{Outputs, nothing, wants-of, lacks, too-short, after-all, outputs-told, outputs-of}
+use Rattle.outputs.specs.Front.{on-the-grid, wanted-room, long-page, front-of, fits}
+
+-- an answer and its page
+record Printed (bytes : List ℕ) (page : ℕ) (o : Outputs) : Type 0 where
+  made : Finished
+  comes : ComesTo bytes made
+  on-grid : made .said .flags .«on_grid» ≡ true
+  room : page-room ≤ page
+  answer-is : o .answer ≡ answer-bytes (answer-of made)
+  page-is : o .page ≡ answer-page id-columns (answer-of made)
+
+told-printed : (w : Wants) (bytes : List ℕ) (page : ℕ) → w .page ≡ true → page-room ≤ page → (t : Told) → Cause bytes t → 6 < length (outputs-told w (after-all w t) .answer) → Printed bytes page (outputs-told w (after-all w t))
+unfolding after-all outputs-told
+told-printed w bytes page wanted h t (a-refusal n l d) long = absurd (omega (arith, long, notice-length n))
+told-printed w bytes page wanted h t (a-sheet f c) long = go (w .page && not (f .said .flags .«on_grid»)) refl long
+  where
+    go : (b : Bool) → (w .page && not (f .said .flags .«on_grid»)) ≡ b → 6 < length (outputs-told w (cond b (refused 16) (drawn f)) .answer) → Printed bytes page (outputs-told w (cond b (refused 16) (drawn f)))
+    go true g long = absurd (omega (arith, long, notice-length 16))
+    go false g long = record {
+      made = f;
+      comes = c;
+      on-grid = on-the-grid (w .page) (f .said .flags .«on_grid») wanted g;
+      room = h;
+      answer-is = refl;
+      page-is = ap (λ (b : Bool). cond b (answer-page id-columns (answer-of f)) []) wanted;
+    }
+
+printed : (mask : ℕ) (bytes : List ℕ) (answer page : ℕ) → wants-of mask .page ≡ true → 6 < length (outputs-of mask bytes answer page .answer) → Printed bytes page (outputs-of mask bytes answer page)
+unfolding outputs-of
+printed mask bytes answer page wanted long = go (too-short (wants-of mask) answer page) refl long
+  where
+    go : (b : Bool) → too-short (wants-of mask) answer page ≡ b → 6 < length (cond b nothing (outputs-told (wants-of mask) (after-all (wants-of mask) (told bytes))) .answer)
+        → Printed bytes page (cond b nothing (outputs-told (wants-of mask) (after-all (wants-of mask) (told bytes))))
+    go true e long = absurd (omega arith)
+    go false e long =
+        told-printed (wants-of mask) bytes page wanted (wanted-room (wants-of mask .page) page page-room wanted (long-page (wants-of mask) answer page e)) (told bytes) (cause bytes) long
+
+-- THE THEOREM, of what stands in the buffers
+pub page-promised : (mask : ℕ) (bytes answer page answer' page' : List ℕ) (n : ℕ) → ((i : ℕ) → i < length bytes → getD bytes i 0 < 256)
+    → answer' ≡ sets answer 0 (outputs-of mask bytes (length answer) (length page) .answer) → n ≡ length (outputs-of mask bytes (length answer) (length page) .answer)
+    → page' ≡ sets page 0 (outputs-of mask bytes (length answer) (length page) .page) → wants-of mask .page ≡ true → PageReadsBack bytes (take n answer') page'
+page-promised mask bytes answer page answer' page' n all a c p wanted =
+    let o = outputs-of mask bytes (length answer) (length page) in
+    let front : take n answer' ≡ o .answer =
+    ap (take n) a ∙ ap (λ (k : ℕ). take k (sets answer 0 (o .answer))) c ∙ over answer (o .answer) (fits bytes (length answer) (o .answer) (front-of mask bytes (length answer) (length page))) .at-front in
+    subst (λ (l : List ℕ). PageReadsBack bytes l page') (sym front)
+    (λ long.
+    let r = printed mask bytes (length answer) (length page) wanted long in
+    page-in bytes (answer-of (r .made)) (comes-of bytes (r .made) (r .comes)) all (r .on-grid) (o .answer) page page' (r .answer-is) (r .room) (p ∙ ap (sets page 0) (r .page-is)))

@@ -1,0 +1,34 @@
+// What a call of stage_sheet wants beside the answer. What is written is in specs/Outputs.antt.
+ghost use mathlib.Core.Path.{_≡_};
+ghost use Rattle.outputs.specs.Outputs.{wants-of, lacks, too-short};
+use limits::ANSWER_ROOM;
+use limits::PAGE_ROOM;
+
+// The outputs that are wanted.
+pub struct Wants {
+    pub page: bool,
+}
+
+pub fn wants_of(mask: u32) -> Wants
+    ensures { λ r. ⌜ r ≡ wants-of mask ⌝ }
+{
+    Wants {
+        page: mask / 2 % 2 == 1,
+    }
+}
+
+fn lacks_room(wanted: bool, room: usize, least: usize) -> bool
+    ensures { λ r. ⌜ r ≡ lacks wanted room least ⌝ }
+{
+    let under = room < least;
+    wanted & under
+}
+
+// 2: a buffer is too short.
+pub fn is_too_short(wants: Wants, answer: usize, page: usize) -> bool
+    ensures { λ r. ⌜ r ≡ too-short wants answer page ⌝ }
+{
+    let p = lacks_room(wants.page, page, PAGE_ROOM);
+    let a = answer < ANSWER_ROOM;
+    a | p
+}
