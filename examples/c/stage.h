@@ -18,8 +18,15 @@ extern "C" {
 #define STAGE_NOTICE_SIZE 6
 /* Where the number stands in an answer and in a notice: 0, drawn. */
 #define STAGE_NUMBER_AT 5
+/* Where an answer has its count of bundles, in two bytes, the higher first. */
+#define STAGE_BUNDLES_AT 34
+/* The bundle page: the least size of its buffer, and the bytes of a line, one line for each bundle. */
+#define STAGE_PAGE_SIZE 2432
+#define STAGE_PAGE_LINE_SIZE 76
+/* Bits of what stage_sheet is told is wanted; those that are not listed say nothing. */
+#define STAGE_WANT_PAGE 2u
 /* Stack that a call needs at most, as measured. */
-#define STAGE_STACK_SIZE 549048
+#define STAGE_STACK_SIZE 686760
 
 /*
  * Writes the answer to the job, or the notice of its refusal, to the front of the answer's buffer, and
@@ -29,6 +36,18 @@ extern "C" {
  * Job and answer must not overlap, not by one byte. Threads may call it at the same time.
  */
 size_t stage(const uint8_t *job, size_t job_length, uint8_t *answer, size_t answer_length);
+
+/*
+ * The same, and the bundle page at the front of its buffer, if STAGE_WANT_PAGE says so: a line of
+ * STAGE_PAGE_LINE_SIZE bytes for each bundle. Later bytes stay as they were, and so does the whole page
+ * where the job is refused. A page's buffer under STAGE_PAGE_SIZE, where it is wanted, is as an answer's
+ * buffer that is too short. 16 is the refusal of a page for a job that is not said to be on the drafting
+ * grid (flag bit 2), after all others.
+ *
+ * No two of job, answer and page overlap. No pointer is null; a page that is not wanted may have length 0.
+ */
+size_t stage_sheet(uint32_t wants, const uint8_t *job, size_t job_length, uint8_t *answer,
+                   size_t answer_length, uint8_t *page, size_t page_length);
 
 #ifdef __cplusplus
 }

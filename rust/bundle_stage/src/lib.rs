@@ -75,6 +75,7 @@ mod grid;
 mod joints;
 pub mod limits;
 mod locate;
+mod outputs;
 mod place;
 mod refusal;
 mod sheet;
@@ -90,6 +91,7 @@ pub use board::{
 pub use grid::OffGrid;
 pub use joints::{FalseJoint, Meeting};
 pub use locate::{Forecast, locate};
+pub use outputs::{Buffers, Drawn, PAGE_LINE_SIZE, PAGE_SIZE, Wanted, Written};
 pub use place::{Item, Part, Place, Refused};
 pub use refusal::{Cause, Refusal};
 pub use sheet::{Answer, DrawnBundle, PlacedNode, Route, Segment, Sheet, Tap};

@@ -3,7 +3,8 @@
 use std::error::Error;
 use std::fmt;
 
-/// Why there is no sheet: one case for each number of document 01, and of request F-2 of document 02.
+/// Why there is no sheet: one case for each number of document 01, and of requests F-2 and
+/// F-4 of document 02.
 ///
 /// [`Refused`](crate::Refused) adds what a refusal is about.
 #[derive(Clone, Copy, Debug, Eq, Hash, PartialEq)]
@@ -11,8 +12,8 @@ use std::fmt;
 pub enum Refusal {
     /// 1: the job has under 5 bytes, or its length is not that of the bytes that follow.
     LengthMismatch,
-    /// 2: the answer's buffer has under 65,536 bytes. This crate's buffers are never too short, so that no
-    /// call of it gives this one.
+    /// 2: the answer's buffer has under 65,536 bytes, or that of another output its largest size. This
+    /// crate's buffers are never too short, so that no call of it gives this one.
     BufferTooShort,
     /// 3: the job's version is not 1.
     UnknownVersion,
@@ -40,6 +41,8 @@ pub enum Refusal {
     GeometryVisitsSpent,
     /// 15: the job is said to be on the drafting grid, and a number is off it.
     OffGrid,
+    /// 16: the bundle page is wanted, and the job is not said to be on the drafting grid.
+    PageOffGrid,
 }
 
 /// Who can cause a refusal.
@@ -58,7 +61,7 @@ pub enum Cause {
 
 impl Refusal {
     /// All of them, by number.
-    pub const ALL: [Refusal; 15] = [
+    pub const ALL: [Refusal; 16] = [
         Refusal::LengthMismatch,
         Refusal::BufferTooShort,
         Refusal::UnknownVersion,
@@ -74,6 +77,7 @@ impl Refusal {
         Refusal::NoRoomToSplit,
         Refusal::GeometryVisitsSpent,
         Refusal::OffGrid,
+        Refusal::PageOffGrid,
     ];
 
     /// The number in the notice.
@@ -91,7 +95,7 @@ impl Refusal {
     /// Who can cause it.
     pub fn caused_by(self) -> Cause {
         match self.number() {
-            1 | 2 => Cause::Caller,
+            1 | 2 | 16 => Cause::Caller,
             3..=9 | 15 => Cause::Writer,
             10..=13 => Cause::Drawing,
             _ => Cause::Grant,
@@ -105,7 +109,10 @@ impl Refusal {
                 "the job has under 5 bytes, or its first four bytes do not count the bytes that \
                  follow them"
             }
-            Refusal::BufferTooShort => "the buffer for the answer has under 65,536 bytes",
+            Refusal::BufferTooShort => {
+                "the buffer for the answer has under 65,536 bytes, or that of another output that is \
+                 wanted under its largest size"
+            }
             Refusal::UnknownVersion => "the job's version is not 1",
             Refusal::FieldsMismatch => {
                 "a field of the job runs past its end, or bytes remain behind it"
@@ -140,6 +147,9 @@ impl Refusal {
             Refusal::OffGrid => {
                 "the job is said to be on the drafting grid, and a number is off it"
             }
+            Refusal::PageOffGrid => {
+                "the bundle page is wanted, and the job is not said to be on the drafting grid"
+            }
         }
     }
 
@@ -149,7 +159,9 @@ impl Refusal {
             Refusal::LengthMismatch => {
                 "Look at how the job was read or sent: it is cut short, too long, or no job."
             }
-            Refusal::BufferTooShort => "Lend a buffer of 65,536 bytes.",
+            Refusal::BufferTooShort => {
+                "Lend 65,536 bytes for the answer, and 2,432 for a page that is wanted."
+            }
             Refusal::UnknownVersion => {
                 "Look at the fifth byte, and at which program wrote the job."
             }
@@ -197,6 +209,10 @@ impl Refusal {
             Refusal::OffGrid => {
                 "Coordinates, sizes, offsets and options on the grid are multiples of 1/64 with \
                  magnitude at most 2^20; move the number, or do not say that the board is on it."
+            }
+            Refusal::PageOffGrid => {
+                "A page has exact decimals, which only numbers on the grid have: say that the board \
+                 is on it (flag bit 2; `grid yes` in a text), or do without the page."
             }
         }
     }

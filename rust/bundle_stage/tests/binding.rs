@@ -269,6 +269,69 @@ fn every_refusal_by_name() {
         board.nodes[0].x = 0.3;
     };
     assert_eq!(changed(off_grid), Err(Refusal::OffGrid));
+    let page = Wanted { page: true };
+    assert_eq!(board().draw_with(&page), Err(Refusal::PageOffGrid));
+}
+
+/// Document 02, F-4: the page of a board on the grid, and 16 after everything else.
+#[test]
+fn the_bundle_page() {
+    let mut board = board();
+    board.flags.on_grid = true;
+    board.nodes[0].y -= 1.0 / 64.0;
+    board.ports[0].offset += 1.0 / 64.0;
+    let wanted = Wanted { page: true };
+    let drawn = board.draw_with(&wanted).expect("drawn");
+    assert_eq!(drawn.sheet, board.draw().expect("drawn"));
+    assert_eq!(
+        drawn.page.as_deref(),
+        Some("         1 I          180.0000000           40.0000000           60.0000000\n")
+    );
+    let nothing = board.draw_with(&Wanted::default()).expect("drawn");
+    assert_eq!((nothing.page, nothing.sheet), (None, drawn.sheet));
+    board.flags.on_grid = false;
+    assert_eq!(board.draw_with(&wanted), Err(Refusal::PageOffGrid));
+    assert!(board.draw_with(&Wanted::default()).is_ok());
+    let last = board.edges.len() - 1;
+    board.edges[last].points.truncate(1);
+    assert_eq!(board.draw_with(&wanted), Err(Refusal::TapUnreachable));
+    board.edges[last].points = vec![at(0.0, 0.0); 65_536];
+    assert_eq!(board.draw_with(&wanted), Err(Refusal::LimitExceeded));
+}
+
+/// The buffers hold what was written before; nothing of it is taken for what is written now.
+#[test]
+fn buffers_are_used_again() {
+    let mut buffers = Box::new(Buffers::default());
+    let wanted = Wanted { page: true };
+    let records = stored("jobs.bin");
+    let (mut pages, mut refused) = (0, 0);
+    for pair in records.chunks_exact(2) {
+        let (job, due) = (&pair[0], &pair[1]);
+        let on_grid = job.get(5).is_some_and(|flags| flags & 4 != 0);
+        let written = buffers.write(job, &wanted);
+        if due[5] != 0 {
+            assert_eq!((written.answer, written.page), (&due[..], None));
+        } else if on_grid {
+            assert_eq!(written.answer, due);
+            let page = written.page.expect("a page");
+            let bundles = usize::from(u16::from_be_bytes([due[34], due[35]]));
+            assert_eq!(page.len(), bundles * PAGE_LINE_SIZE);
+            let mut lines = page.chunks(PAGE_LINE_SIZE);
+            assert!(lines.all(|line| line[75] == b'\n' && !line[..75].contains(&b'\n')));
+            pages += 1;
+        } else {
+            assert_eq!(written.answer, [0, 0, 0, 2, 1, 16]);
+            assert_eq!(written.page, None);
+            refused += 1;
+        }
+        let written = buffers.write(job, &Wanted::default());
+        assert_eq!((written.answer, written.page), (&due[..], None));
+    }
+    assert!(
+        pages > 10 && refused > 10,
+        "{pages} pages, {refused} with 16"
+    );
 }
 
 /// Document 02, F-2: a multiple of 1/64 with magnitude at most 2^20, after 7 at the same number.
@@ -409,7 +472,7 @@ fn refusals_have_their_numbers_and_words() {
         let _: &dyn Error = &refusal;
     }
     assert_eq!(Refusal::of_number(0), None);
-    assert_eq!(Refusal::of_number(16), None);
+    assert_eq!(Refusal::of_number(17), None);
 }
 
 // ---- against the Rust

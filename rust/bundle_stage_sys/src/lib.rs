@@ -1,15 +1,20 @@
-//! The C function of the proved bundle stage: the only unsafe code of the binding. Programs use the
+//! The C functions of the proved bundle stage: the only unsafe code of the binding. Programs use the
 //! crate `bundle_stage`.
 
 /// The bytes of an answer's buffer: the least that the stage accepts. No answer is longer.
 pub const BUFFER: usize = 65_536;
+/// The bytes of a bundle page's buffer: the least that the stage accepts, and the largest page.
+pub const PAGE: usize = 2_432;
 
-/// The library's function as C sees it, for callers with memory of their own.
+/// The bit of `wants` that says: the bundle page is wanted.
+pub const WANT_PAGE: u32 = 1 << 1;
+
+/// The library's functions as C sees them, for callers with memory of their own.
 pub mod c {
     unsafe extern "C" {
-        // SAFETY: the declaration is the library's `pub extern "C" fn stage(job: &[u8], answer: &mut
-        // [u8]) -> usize` (crates/stage), where a slice is a pointer and a count, and `usize` has 64
-        // bits on x86-64, for which alone the library is made. It exports no other name.
+        // SAFETY: the declarations are those of the library's `pub extern "C" fn` of the same names
+        // (crates/stage), where a slice is a pointer and a count, and `usize` has 64 bits on x86-64,
+        // for which alone the library is made. It exports no other name.
         /// # Safety
         ///
         /// Job and answer have as many bytes as is said. They must not overlap, not by one byte: what
@@ -19,6 +24,20 @@ pub mod c {
             job_length: usize,
             answer: *mut u8,
             answer_length: usize,
+        ) -> usize;
+
+        /// # Safety
+        ///
+        /// As `stage`, of three buffers: no two overlap. A pointer is not null, even where the length
+        /// is 0, as it may be for an output that is not wanted.
+        pub fn stage_sheet(
+            wants: u32,
+            job: *const u8,
+            job_length: usize,
+            answer: *mut u8,
+            answer_length: usize,
+            page: *mut u8,
+            page_length: usize,
         ) -> usize;
     }
 }
@@ -45,4 +64,39 @@ pub fn stage(job: &[u8], answer: &mut [u8; BUFFER]) -> usize {
     // call it at the same time. Its machine code touches each page of a frame as it makes it, as
     // Rust's does, so that a stack that is too short ends the process at its guard page.
     unsafe { c::stage(job.as_ptr(), job.len(), answer.as_mut_ptr(), answer.len()) }
+}
+
+/// The answer to the job as `stage` gives it, and the bundle page where a buffer for it is lent. A
+/// refusal, 16 of the page among them, leaves the page's buffer as it was.
+///
+/// ```
+/// use bundle_stage_sys::{BUFFER, PAGE};
+///
+/// let (mut answer, mut page) = ([0; BUFFER], [7; PAGE]);
+/// let count = bundle_stage_sys::stage_sheet(b"no job", &mut answer, Some(&mut page));
+/// assert_eq!(answer[..count], [0, 0, 0, 2, 1, 1]);
+/// assert_eq!(page, [7; PAGE]);
+/// ```
+pub fn stage_sheet(job: &[u8], answer: &mut [u8; BUFFER], page: Option<&mut [u8; PAGE]>) -> usize {
+    let mut wants = 0;
+    let page: &mut [u8] = match page {
+        Some(page) => {
+            wants |= WANT_PAGE;
+            page
+        }
+        None => &mut [],
+    };
+    // SAFETY: as in `stage`, of three slices, no two of which overlap; an empty one has a pointer that
+    // is not null. The contract holds for every `wants` and all lengths.
+    unsafe {
+        c::stage_sheet(
+            wants,
+            job.as_ptr(),
+            job.len(),
+            answer.as_mut_ptr(),
+            answer.len(),
+            page.as_mut_ptr(),
+            page.len(),
+        )
+    }
 }

@@ -7,7 +7,7 @@ struct Command {
     long: &'static str,
 }
 
-const COMMANDS: [Command; 10] = [
+const COMMANDS: [Command; 11] = [
     Command {
         name: "pack",
         words: "[BOARD]",
@@ -117,6 +117,21 @@ search takes names and ids. Wheel, two fingers, `+` and `-` zoom; dragging and t
 shows the whole sheet, Tab goes from one thing to the next, Enter chooses, Escape shows all again, `/`
 goes to the search. Behind `#` in the address can stand what is chosen: sheet.html#bundle-3. Printed
 it is the picture.",
+    },
+    Command {
+        name: "page",
+        words: "[BOARD]",
+        short: "a board's text or job, to the page of its bundles on standard output",
+        long: "\
+The page is a listing to clip to the unit, for boards on the drafting grid (`grid yes` in the text):
+one line for each bundle, in the board's order, and nothing else. A line is the bundle's id in 10
+columns, `I` where it stands inside the sheet (interior) or `R` where it stands at the rail, the x of its
+collector, and the y at which the collector begins and ends, each in 20 columns with seven decimals. The
+decimals are exact: each number is the one that is drawn, which is proved. All columns are set flush right,
+with a space between them; a line has 76 bytes, its newline among them.
+
+A board that is not said to be on the grid has no page: it is refused with 16, if with nothing else. Where
+the board is refused, standard output stays empty, and the refusal is told on standard error.",
     },
     Command {
         name: "picture",

@@ -9,7 +9,7 @@ use std::fs;
 use std::path::{Path, PathBuf};
 use std::process::ExitCode;
 
-use bundle_stage::{Answer, Board, Sheet, locate};
+use bundle_stage::{Answer, Board, Buffers, Sheet, Wanted, locate};
 use bundles::explain::{counted, explain, places};
 use bundles::html::{html, html_refused};
 use bundles::names::Names;
@@ -82,6 +82,8 @@ fn command(words: &[&str]) -> Result<Done, String> {
         ["svg", job, answer] => picture_of(job, answer, settings),
         ["picture", board] => picture(board, settings),
         ["html", board] => followed(board, settings),
+        ["page"] => page("-"),
+        ["page", board] => page(board),
         ["help" | "--help" | "-h"] => out(help::all().as_bytes()),
         ["version" | "--version" | "-V"] => {
             out(format!("bundles {}\n", env!("CARGO_PKG_VERSION")).as_bytes())
@@ -196,6 +198,20 @@ fn drawn(loaded: &Loaded) -> Result<(Vec<u8>, Answer), String> {
     let bytes = bundle_stage::answer(&loaded.job);
     let answer = Answer::from_bytes(&bytes).map_err(of(&loaded.name))?;
     Ok((bytes, answer))
+}
+
+/// The bundle page of a board, from its text or its job. A refusal is told, and there is no page.
+fn page(name: &str) -> Result<Done, String> {
+    let loaded = load(name, None)?;
+    let mut buffers = Box::new(Buffers::default());
+    let written = buffers.write(&loaded.job, &Wanted { page: true });
+    let answer = Answer::from_bytes(written.answer).map_err(of(&loaded.name))?;
+    out(written.page.unwrap_or_default())?;
+    if let Answer::Refused(refusal) = &answer {
+        eprintln!("{}: {refusal}", called(name));
+        eprint!("{}", located(&answer, &loaded));
+    }
+    Ok(done(&answer))
 }
 
 /// Where a job was refused, a line for each place that the refusal is about.

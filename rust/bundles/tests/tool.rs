@@ -124,6 +124,37 @@ B6: 5:13, 5:14 → 8:1
     );
 }
 
+/// Document 02, F-4: the page of a board on the grid, from its text and from its job.
+#[test]
+fn a_bundle_page() {
+    let due = fs::read(example("clock-board.page.txt")).expect("an example");
+    for board in ["clock-board.txt", "clock-board.job"] {
+        assert_eq!(out(0, &["page", &example(board)], b""), due);
+        let bytes = fs::read(example(board)).expect("an example");
+        assert_eq!(out(0, &["page"], &bytes), due);
+    }
+    assert!(due.len() == 6 * 76 && due.ends_with(b"425.0000000\n"));
+    // Not said to be on the grid; then refused for another reason as well, which goes first.
+    let board = fs::read_to_string(example("clock-board.txt")).expect("an example");
+    let off = board.replace("grid                yes", "grid                no");
+    let refused = bundles(&["page"], off.as_bytes());
+    assert_eq!(refused.status.code(), Some(1));
+    assert!(refused.stdout.is_empty());
+    let said = text(refused.stderr);
+    assert!(
+        said.contains("refused with 16, caused by the calling program: "),
+        "{said}"
+    );
+    let wrong = off.replace("members 61@0", "members 61@999");
+    let refused = bundles(&["page"], wrong.as_bytes());
+    assert!(refused.stdout.is_empty());
+    let said = text(refused.stderr);
+    assert!(
+        said.contains("refused with 5, ") && said.contains("is 999, and at most 255"),
+        "{said}"
+    );
+}
+
 /// Document 02, F-1: `-0` is packed as it stands, and drawn, explained and shown as 0 is.
 #[test]
 fn minus_zero_in_a_board() {
@@ -371,7 +402,8 @@ fn help() {
     let all = text(out(0, &["help"], b""));
     assert_eq!(text(out(0, &["--help"], b"")), all);
     for command in [
-        "pack", "unpack", "names", "draw", "explain", "svg", "picture", "version", "help",
+        "pack", "unpack", "names", "draw", "explain", "svg", "html", "page", "picture", "version",
+        "help",
     ] {
         assert!(all.contains(&format!("\n  bundles {command} ")));
         let one = text(out(0, &["help", command], b""));

@@ -1,44 +1,25 @@
 //! One job, in both stages: the same bytes, and no other byte changed.
 
-use std::collections::BTreeMap;
-
 use jobs::rng::Rng;
 use oracle::stage::BUFFER;
 
-use crate::outside::{Fenced, PAGE};
+use crate::rooms::{LONGEST, Rooms, Side};
+use crate::sheets::{Sheet, SheetSame, Sheets};
 
 /// A stage: the job, the answer's buffer, how many bytes are written.
 pub type Stage = fn(&[u8], &mut [u8]) -> usize;
+
+/// The entries that are compared.
+#[derive(Clone, Copy)]
+pub struct Entries {
+    pub stage: Stage,
+    pub sheet: Sheet,
+}
 
 /// Lengths of the answer's buffer that 2 lets through.
 pub const ENOUGH: [usize; 4] = [BUFFER, BUFFER + 1, 70_000, LONGEST];
 /// Lengths that it does not; there are others too.
 pub const SHORT: [usize; 3] = [0, 6, BUFFER - 1];
-/// No job and no buffer is longer.
-const LONGEST: usize = 131_072;
-
-/// Where a lent slice lies in its pages.
-#[derive(Clone, Copy, Debug)]
-enum Side {
-    /// It starts right after an unmapped page.
-    Start,
-    /// It ends right before one.
-    End,
-}
-
-impl Side {
-    fn any(rng: &mut Rng) -> Side {
-        rng.pick(&[Side::Start, Side::End])
-    }
-
-    /// The first place of `length` bytes in `room` bytes.
-    fn place(self, room: usize, length: usize) -> usize {
-        match self {
-            Side::Start => 0,
-            Side::End => room - length,
-        }
-    }
-}
 
 /// One way of calling the stage: where job and answer lie, and the length of the answer's buffer.
 #[derive(Clone, Copy, Debug)]
@@ -56,35 +37,7 @@ pub struct Same {
     /// another one.
     pub enough: usize,
     pub short: usize,
-}
-
-/// Pages between unmapped ones, by their number: no more than a slice of the length needs. They
-/// hold the pattern, but for what is lent.
-struct Rooms {
-    pattern: Vec<u8>,
-    rooms: BTreeMap<usize, Fenced>,
-}
-
-impl Rooms {
-    fn new(seed: u64) -> Rooms {
-        let mut rng = Rng::new("pattern", seed, 0);
-        Rooms {
-            pattern: (0..LONGEST).map(|_| rng.word() as u8).collect(),
-            rooms: BTreeMap::new(),
-        }
-    }
-
-    /// The room for so many bytes, and the pattern that it holds.
-    fn of(&mut self, length: usize) -> (&mut [u8], &[u8]) {
-        let pages = length.div_ceil(PAGE).max(1);
-        let pattern = &self.pattern[..pages * PAGE];
-        let room = self.rooms.entry(pages).or_insert_with(|| {
-            let mut room = Fenced::new(pages);
-            room.bytes().copy_from_slice(pattern);
-            room
-        });
-        (room.bytes(), pattern)
-    }
+    pub sheet: SheetSame,
 }
 
 /// Rooms for jobs and for answers.
@@ -92,23 +45,23 @@ pub struct Checker {
     stage: Stage,
     jobs: Rooms,
     answers: Rooms,
-    judge: Vec<u8>,
+    sheets: Sheets,
     seed: u64,
 }
 
 impl Checker {
-    pub fn new(stage: Stage, seed: u64) -> Checker {
+    pub fn new(entries: Entries, seed: u64) -> Checker {
         Checker {
-            stage,
+            stage: entries.stage,
             jobs: Rooms::new(seed),
             answers: Rooms::new(seed),
-            judge: vec![0; BUFFER],
+            sheets: Sheets::new(entries.sheet, seed),
             seed,
         }
     }
 
-    /// Compares one job, or says what differs. The places of job and answer and the lengths of the
-    /// two buffers are fixed by seed and index.
+    /// Compares one job, or says what differs. The places of what is lent and the lengths of the
+    /// buffers are fixed by seed and index.
     pub fn check(&mut self, job: &[u8], index: u64) -> Result<Same, String> {
         let mut rng = Rng::new("places", self.seed, index);
         let (enough, short) = (rng.below(ENOUGH.len()), rng.below(SHORT.len() + 1));
@@ -123,52 +76,32 @@ impl Checker {
             Some(&length) => length,
             None => rng.below(BUFFER),
         };
-        let due = oracle::stage(job, &mut self.judge);
-        self.call(job, whole, due)?;
-        self.call(job, none, 0)?;
+        let answer = oracle::answer_of(job);
+        self.call(job, whole, &answer)?;
+        self.call(job, none, &[])?;
         Ok(Same {
-            number: oracle::number(&self.judge),
+            number: oracle::number(&answer),
             enough,
             short,
+            sheet: self.sheets.check(job, answer, index)?,
         })
     }
 
-    /// Calls the stage; `due` bytes of the judge's answer are due, and nothing else may change.
-    fn call(&mut self, job: &[u8], call: Call, due: usize) -> Result<(), String> {
-        let (job_room, job_pattern) = self.jobs.of(job.len());
-        let from = call.job.place(job_room.len(), job.len());
-        let lent = from..from + job.len();
-        job_room[lent.clone()].copy_from_slice(job);
-        let (room, pattern) = self.answers.of(call.length);
-        let at = call.answer.place(room.len(), call.length);
-        let buffer = &mut room[at..at + call.length];
-        let count = (self.stage)(&job_room[lent.clone()], buffer);
-        if let Some(place) = difference(job_room, job_pattern, from, job) {
+    /// Calls the stage; these bytes of the answer are due, and nothing else may change.
+    fn call(&mut self, job: &[u8], call: Call, due: &[u8]) -> Result<(), String> {
+        let mut lent = self.jobs.lend_filled(call.job, job);
+        let mut answer = self.answers.lend(call.answer, call.length);
+        let count = (self.stage)(lent.bytes(), answer.bytes());
+        if let Some(place) = lent.settle(job) {
             return Err(format!("the job's byte {place} is changed ({call:?})"));
         }
-        let answer = &self.judge[..due];
-        let place = difference(room, pattern, at, answer);
-        if count != due || place.is_some() {
+        let place = answer.settle(due);
+        if count != due.len() || place.is_some() {
             return Err(format!(
-                "{count} bytes, due {due}; first difference {place:?} ({call:?})"
+                "{count} bytes, due {}; first difference {place:?} ({call:?})",
+                due.len()
             ));
         }
-        job_room[lent.clone()].copy_from_slice(&job_pattern[lent]);
-        room[at..at + due].copy_from_slice(&pattern[at..at + due]);
         Ok(())
     }
-}
-
-/// The first place, counted from `at`, where a room does not hold `bytes` from `at` on and the
-/// pattern elsewhere.
-fn difference(room: &[u8], pattern: &[u8], at: usize, bytes: &[u8]) -> Option<i64> {
-    let end = at + bytes.len();
-    let same =
-        room[..at] == pattern[..at] && room[at..end] == *bytes && room[end..] == pattern[end..];
-    if same {
-        return None;
-    }
-    let due = pattern[..at].iter().chain(bytes).chain(&pattern[end..]);
-    let place = room.iter().zip(due).position(|(byte, due)| byte != due);
-    place.map(|place| place as i64 - at as i64)
 }

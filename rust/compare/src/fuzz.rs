@@ -9,19 +9,22 @@ use std::time::{Duration, Instant};
 
 use jobs::families::FAMILIES;
 use jobs::mutations::Mutations;
-use jobs::numbers::{fields, has_minus_zero};
-use jobs::survey::NUMBERS;
+use jobs::pages;
 
-use crate::check::{Checker, ENOUGH, SHORT, Same, Stage};
+use crate::check::{Checker, Entries};
+use crate::counts::Counts;
 use crate::outside::{End, PANICKED, end_after, forked, shared_words, wait_for_any};
 
-/// Jobs of each family among `CYCLE` that follow one another, and mutated ones. Few are of the
-/// families that come around after some thousands of jobs, or whose jobs take long.
+/// Jobs of each kind among `CYCLE` that follow one another: of each family, mutated ones, and those for
+/// pages. Few are of the families that come around after some thousands of jobs, or whose jobs take
+/// long.
 const SHARES: [u64; KINDS] = [
-    64, 48, 96, 64, 96, 24, 64, 8, 24, 12, 1, 32, 24, 48, 48, 32, 1, 2, 336,
+    64, 48, 96, 64, 96, 24, 64, 8, 24, 12, 1, 32, 24, 48, 48, 32, 1, 2, 304, 32,
 ];
-const KINDS: usize = FAMILIES.len() + 1;
-const MUTATED: usize = FAMILIES.len();
+pub const KINDS: usize = FAMILIES.len() + OTHERS.len();
+/// The kinds of jobs that are of no family.
+const OTHERS: [&str; 2] = ["mutated", "pages"];
+pub const MUTATED: usize = FAMILIES.len();
 const CYCLE: u64 = 1_024;
 /// How many jobs there are between two lines that say how far it is.
 const MILLION: u64 = 1_000_000;
@@ -38,7 +41,7 @@ pub struct Settings {
     pub workers: u64,
     /// Seconds after which a job is said to run on.
     pub guard: u32,
-    /// The family whose jobs alone are run, by its place, or the mutated ones alone.
+    /// The kind of jobs that alone are run, by its place.
     pub only: Option<usize>,
 }
 
@@ -103,37 +106,6 @@ pub struct Outcome {
     pub failure: Option<(u64, How)>,
 }
 
-/// Jobs by kind and number, those that have a minus zero in a number field, and calls by the length of
-/// the answer's buffer.
-#[derive(Clone, Debug, Default, Eq, PartialEq)]
-pub struct Counts {
-    pub jobs: [[u64; NUMBERS]; KINDS],
-    pub with_minus_zeros: u64,
-    pub enough: [u64; ENOUGH.len()],
-    pub short: [u64; SHORT.len() + 1],
-}
-
-impl Counts {
-    /// Every count, always in the same order.
-    fn all(&mut self) -> impl Iterator<Item = &mut u64> {
-        let jobs = self.jobs.iter_mut().flatten();
-        jobs.chain([&mut self.with_minus_zeros])
-            .chain(&mut self.enough)
-            .chain(&mut self.short)
-    }
-
-    fn add(&mut self, kind: usize, job: &[u8], same: Same) {
-        self.jobs[kind][usize::from(same.number)] += 1;
-        self.with_minus_zeros += u64::from(has_minus_zero(job, &fields(job)));
-        self.enough[same.enough] += 1;
-        self.short[same.short] += 1;
-    }
-
-    pub fn total(&self) -> u64 {
-        self.jobs.iter().flatten().sum()
-    }
-}
-
 /// What a worker shares with the process that waits for it: the index of its present job, then its
 /// counts.
 struct Board {
@@ -178,11 +150,12 @@ fn place(index: u64) -> (usize, u64) {
     unreachable!("the shares make a cycle");
 }
 
-fn name(kind: usize) -> &'static str {
-    FAMILIES.get(kind).map_or("mutated", |family| family.name)
+pub fn name(kind: usize) -> &'static str {
+    let family = FAMILIES.get(kind);
+    family.map_or_else(|| OTHERS[kind - MUTATED], |family| family.name)
 }
 
-/// The place of a family, or of the mutated jobs, by name.
+/// The place of a family, or of another kind of jobs, by name.
 pub fn kind(family: &str) -> Option<usize> {
     (0..KINDS).find(|&kind| name(kind) == family)
 }
@@ -204,7 +177,8 @@ impl Jobs {
     fn job(&mut self, kind: usize, place: u64) -> Vec<u8> {
         match FAMILIES.get(kind) {
             Some(family) => family.job(self.seed, place),
-            None => self.mutations.job(place),
+            None if kind == MUTATED => self.mutations.job(place),
+            None => pages::job(self.seed, place),
         }
     }
 }
@@ -212,10 +186,10 @@ impl Jobs {
 const DIFFERS: i32 = 1;
 
 /// One worker's share of the jobs, until the time is over, one fails, or `stop` is set.
-fn work(settings: &Settings, stage: Stage, first: u64, board: &Board, stop: &AtomicU64) -> i32 {
+fn work(settings: &Settings, entries: Entries, first: u64, board: &Board, stop: &AtomicU64) -> i32 {
     let start = Instant::now();
     let bound = Duration::from_secs(settings.seconds);
-    let mut checker = Checker::new(stage, settings.seed);
+    let mut checker = Checker::new(entries, settings.seed);
     let mut jobs = Jobs::new(settings.seed);
     let mut counts = Counts::default();
     let indices = settings.from + first..settings.from + settings.jobs;
@@ -252,7 +226,7 @@ fn work(settings: &Settings, stage: Stage, first: u64, board: &Board, stop: &Ato
 }
 
 /// Runs the jobs in `settings.workers` processes. The calling process must have one thread.
-pub fn run(settings: &Settings, stage: Stage) -> Outcome {
+pub fn run(settings: &Settings, entries: Entries) -> Outcome {
     let size = Board::words();
     let workers = settings.workers as usize;
     let words = shared_words(1 + workers * size);
@@ -262,7 +236,7 @@ pub fn run(settings: &Settings, stage: Stage) -> Outcome {
     let processes = boards
         .iter()
         .zip(0..)
-        .map(|(board, first)| forked(|| work(settings, stage, first, board, stop)))
+        .map(|(board, first)| forked(|| work(settings, entries, first, board, stop)))
         .collect::<Vec<_>>();
     let mut failure = None;
     for _ in &processes {
@@ -286,16 +260,16 @@ pub fn run(settings: &Settings, stage: Stage) -> Outcome {
 }
 
 /// Runs and prints; true where nothing fails.
-pub fn fuzz(settings: &Settings, stage: Stage) -> bool {
+pub fn fuzz(settings: &Settings, entries: Entries) -> bool {
     let Range { start, end } = settings.from..settings.from + settings.jobs;
     println!(
         "seed {}, jobs {start} to {end}, at most {} seconds, {} workers",
         settings.seed, settings.seconds, settings.workers
     );
     let began = Instant::now();
-    let outcome = run(settings, stage);
+    let outcome = run(settings, entries);
     let seconds = began.elapsed().as_secs_f64();
-    print_counts(&outcome.counts);
+    outcome.counts.print();
     let total = outcome.counts.total();
     if let Some((index, how)) = outcome.failure {
         let (kind, place) = settings.place(index);
@@ -327,52 +301,6 @@ pub fn fuzz(settings: &Settings, stage: Stage) -> bool {
         seconds * 1e6 / total as f64
     );
     true
-}
-
-fn print_counts(counts: &Counts) {
-    let row = |name: &str, numbers: &[u64; NUMBERS]| {
-        print!("{name:12}{:>10}", numbers.iter().sum::<u64>());
-        for (number, count) in numbers.iter().enumerate() {
-            if number != 2 {
-                print!("{count:>9}");
-            }
-        }
-        println!();
-    };
-    print!("{:12}{:>10}", "family", "jobs");
-    for number in (0..NUMBERS).filter(|&number| number != 2) {
-        print!("{number:>9}");
-    }
-    println!();
-    let mut all = [0; NUMBERS];
-    for (kind, numbers) in counts.jobs.iter().enumerate() {
-        if numbers.iter().any(|&count| count > 0) {
-            row(name(kind), numbers);
-        }
-        for (sum, count) in all.iter_mut().zip(numbers) {
-            *sum += count;
-        }
-    }
-    row("all", &all);
-    let mutated = &counts.jobs[MUTATED];
-    let deep = mutated[10..=14].iter().sum::<u64>();
-    println!(
-        "mutated jobs: {} accepted, {deep} refused with 10 to 14",
-        mutated[0]
-    );
-    println!(
-        "jobs with a minus zero in a number field: {}",
-        counts.with_minus_zeros
-    );
-    println!("calls by the length of the answer's buffer:");
-    for (length, count) in ENOUGH.iter().zip(&counts.enough) {
-        println!("{length:>10}{count:>10}");
-    }
-    for (length, count) in SHORT.iter().zip(&counts.short) {
-        println!("{length:>10}{count:>10}   nothing written");
-    }
-    let others = counts.short[SHORT.len()];
-    println!("{:>10}{others:>10}   nothing written", "less");
 }
 
 fn hexadecimal(bytes: &[u8]) -> String {

@@ -4,6 +4,8 @@
 
 pub mod boards;
 pub mod check;
+pub mod counts;
+pub mod entries;
 pub mod fuzz;
 pub mod heap;
 pub mod joints;
@@ -11,6 +13,8 @@ pub mod joints;
 pub mod outside;
 pub mod plot;
 pub mod report;
+pub mod rooms;
 pub mod rounding;
+pub mod sheets;
 pub mod stack;
 pub mod time;

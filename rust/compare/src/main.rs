@@ -7,10 +7,10 @@ use std::process::ExitCode;
 
 use compare::fuzz::{self, Settings};
 use compare::time::Whose;
-use compare::{boards, heap, joints, outside, report, rounding, stack, time};
+use compare::{boards, entries, heap, joints, outside, report, rounding, stack, time};
 
 const USAGE: &str = "compare fuzz [--seed S] [--from I] [--jobs N] [--seconds T] [--workers W] [--family F]
-                                        same bytes on all families and mutated jobs, or on one of them
+                                        same bytes on all kinds of jobs, or on one of them
 compare heap [SEED [COUNT]]             same bytes, buffers of exact size on the heap; for memcheck
 compare joints [SEED [COUNT]]           false joints before and after the last shift, COUNT jobs of each
                                         family
@@ -18,6 +18,7 @@ compare rounding [SEED [COUNT]]         that nothing rounds on the drafting grid
 compare stack [SEED [COUNT]]            bytes of stack, COUNT jobs of each family
 compare stack-of PAGES                  largest jobs on a stack of that many pages
 compare time [SEED [ROUNDS]]            microseconds a job, both stages
+compare entries [SEED [ROUNDS]]         microseconds a job in each entry
 compare boards                          the names of the boards that are measured
 compare repeat BOARD ours|rust TIMES    one stage on one board's jobs, for callgrind and perf
 compare document FOLDER COUNTS          measures and writes the table and the plot of BENCHMARKS.md";
@@ -40,7 +41,7 @@ fn main() -> ExitCode {
 
 fn command(words: &[&str]) -> Result<bool, String> {
     match *words {
-        ["fuzz", ref rest @ ..] => Ok(fuzz::fuzz(&settings(rest)?, outside::stage)),
+        ["fuzz", ref rest @ ..] => Ok(fuzz::fuzz(&settings(rest)?, outside::PROVED)),
         ["heap", ref rest @ ..] => {
             let [seed, count] = numbers(rest, [1, 1_000])?;
             Ok(heap::heap(seed, count))
@@ -61,6 +62,11 @@ fn command(words: &[&str]) -> Result<bool, String> {
         ["time", ref rest @ ..] => {
             let [seed, rounds] = numbers(rest, [1, ROUNDS])?;
             report::time(seed, rounds as usize);
+            Ok(true)
+        }
+        ["entries", ref rest @ ..] => {
+            let [seed, rounds] = numbers(rest, [1, ROUNDS])?;
+            entries::entries(seed, rounds as usize);
             Ok(true)
         }
         ["boards"] => {

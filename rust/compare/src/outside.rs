@@ -10,6 +10,11 @@ use std::slice;
 use std::sync::atomic::AtomicU64;
 
 use bundle_stage_sys::c;
+use oracle::outputs::{Lengths, WANT_PAGE};
+use oracle::page::LINE;
+
+use crate::check::Entries;
+use crate::sheets::Lent;
 
 const PROT_NONE: c_int = 0;
 const PROT_READ: c_int = 1;
@@ -55,6 +60,34 @@ pub fn stage(job: &[u8], answer: &mut [u8]) -> usize {
     unsafe { c::stage(job.as_ptr(), job.len(), answer.as_mut_ptr(), answer.len()) }
 }
 
+/// The proved entry that can give other outputs too.
+pub fn stage_sheet(lent: Lent<'_>) -> usize {
+    let Lent {
+        wants,
+        job,
+        answer,
+        page,
+    } = lent;
+    // SAFETY: as in `stage`, of three slices.
+    unsafe {
+        c::stage_sheet(
+            wants,
+            job.as_ptr(),
+            job.len(),
+            answer.as_mut_ptr(),
+            answer.len(),
+            page.as_mut_ptr(),
+            page.len(),
+        )
+    }
+}
+
+/// The proved entries.
+pub const PROVED: Entries = Entries {
+    stage,
+    sheet: stage_sheet,
+};
+
 /// The answer in a buffer of `length` bytes that nobody has written to before, so that memcheck
 /// sees a read of the buffer before it is written, and a byte of the answer that is not written.
 pub fn stage_on_heap(job: &[u8], length: usize) -> Vec<u8> {
@@ -68,6 +101,35 @@ pub fn stage_on_heap(job: &[u8], length: usize) -> Vec<u8> {
         answer.set_len(count);
     }
     answer
+}
+
+/// The same of `stage_sheet`, with the page if it is wanted; the answer and the page.
+pub fn stage_sheet_on_heap(job: &[u8], wants: u32, lengths: Lengths) -> (Vec<u8>, Vec<u8>) {
+    let mut answer = Vec::<u8>::with_capacity(lengths.answer);
+    let mut page = Vec::<u8>::with_capacity(lengths.page);
+    // SAFETY: as above, of three slices. By the contract the page of an accepted job, if it is wanted,
+    // has a line for each bundle, which the answer counts, and no other byte of it is written.
+    unsafe {
+        let count = c::stage_sheet(
+            wants,
+            job.as_ptr(),
+            job.len(),
+            answer.as_mut_ptr(),
+            lengths.answer,
+            page.as_mut_ptr(),
+            lengths.page,
+        );
+        assert!(count <= lengths.answer, "{count} bytes of {lengths:?}");
+        answer.set_len(count);
+        if wants & WANT_PAGE != 0
+            && let Some(&[high, low]) = answer.get(34..36)
+        {
+            let written = LINE * usize::from(u16::from_be_bytes([high, low]));
+            assert!(written <= lengths.page, "{written} bytes of {lengths:?}");
+            page.set_len(written);
+        }
+    }
+    (answer, page)
 }
 
 /// The proved stage on a stack of its own, whose top is the end of `stack`.
@@ -89,6 +151,39 @@ pub fn stage_on_stack(stack: &mut Fenced, job: &[u8], answer: &mut [u8]) -> usiz
             in("rsi") job.len(),
             in("rdx") answer.as_mut_ptr(),
             in("rcx") answer.len(),
+            out("rax") count,
+            out("r12") _,
+            clobber_abi("C"),
+        );
+    }
+    count
+}
+
+/// The same of `stage_sheet`, whose last words stand on the stack, at its top.
+pub fn stage_sheet_on_stack(stack: &mut Fenced, lent: Lent<'_>) -> usize {
+    let last = [lent.page.len(), 0];
+    let bytes = stack.bytes();
+    let (_, top) = bytes.split_at_mut(bytes.len() - size_of_val(&last));
+    for (place, word) in top.chunks_exact_mut(8).zip(last) {
+        place.copy_from_slice(&word.to_ne_bytes());
+    }
+    let count: usize;
+    // SAFETY: as in `stage_on_stack`. What is at the stack's top is what the call takes there: the
+    // seventh word, and one more, so that the stack is aligned to 16 bytes.
+    unsafe {
+        asm!(
+            "mov r12, rsp",
+            "mov rsp, {top}",
+            "call {stage}",
+            "mov rsp, r12",
+            top = in(reg) top.as_mut_ptr(),
+            stage = sym c::stage_sheet,
+            in("rdi") u64::from(lent.wants),
+            in("rsi") lent.job.as_ptr(),
+            in("rdx") lent.job.len(),
+            in("rcx") lent.answer.as_mut_ptr(),
+            in("r8") lent.answer.len(),
+            in("r9") lent.page.as_mut_ptr(),
             out("rax") count,
             out("r12") _,
             clobber_abi("C"),

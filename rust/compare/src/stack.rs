@@ -3,12 +3,14 @@
 use std::process::Command;
 
 use jobs::families::{FAMILIES, Family};
+use oracle::outputs::{Outputs, PAGE_BUFFER, WANT_PAGE, beside};
 use oracle::stage::BUFFER;
 
-use crate::outside::{Fenced, PAGE, stage_on_stack};
+use crate::outside::{Fenced, PAGE, stage_on_stack, stage_sheet_on_stack};
+use crate::sheets::Lent;
 
 /// Pages of stack that are enough for every job: what `stack` has measured, rounded up.
-pub const PAGES: usize = 135;
+pub const PAGES: usize = 168;
 /// More than the stage needs, to measure on.
 const MEASURED_ON: usize = 256;
 const PATTERN: u8 = 0xa5;
@@ -28,15 +30,53 @@ fn cases(family: &Family, seed: u64, count: u64) -> Vec<Case> {
         .collect()
 }
 
-/// The most bytes of stack that a job needs, the return address of the call among them.
-fn deepest(cases: &[Case]) -> usize {
+/// Buffers of the answer and of the page.
+struct Buffers {
+    answer: Vec<u8>,
+    page: Vec<u8>,
+}
+
+impl Buffers {
+    fn new() -> Buffers {
+        Buffers {
+            answer: vec![0; BUFFER],
+            page: vec![0; PAGE_BUFFER],
+        }
+    }
+
+    /// `stage` on that stack; true where the answer is the judge's.
+    fn stage(&mut self, stack: &mut Fenced, (job, due): &Case) -> bool {
+        let count = stage_on_stack(stack, job, &mut self.answer);
+        self.answer[..count] == *due
+    }
+
+    /// `stage_sheet` with all that can be wanted.
+    fn sheet(&mut self, stack: &mut Fenced, (job, due): &Case) -> bool {
+        let lent = Lent {
+            wants: WANT_PAGE,
+            job,
+            answer: &mut self.answer,
+            page: &mut self.page,
+        };
+        let count = stage_sheet_on_stack(stack, lent);
+        let Outputs { answer, page } = beside(WANT_PAGE, job, due.clone());
+        self.answer[..count] == answer && self.page.starts_with(&page)
+    }
+}
+
+/// A call of an entry on a stack of its own.
+type Entry = fn(&mut Buffers, &mut Fenced, &Case) -> bool;
+const ENTRIES: [Entry; 2] = [Buffers::stage, Buffers::sheet];
+
+/// The most bytes of stack that a job needs, the return address of the call among them, and the words
+/// that are lent on the stack.
+fn deepest(entry: Entry, cases: &[Case]) -> usize {
     let mut stack = Fenced::new(MEASURED_ON);
-    let mut answer = vec![0; BUFFER];
+    let mut buffers = Buffers::new();
     let mut most = 0;
-    for (job, due) in cases {
+    for case in cases {
         stack.bytes().fill(PATTERN);
-        let count = stage_on_stack(&mut stack, job, &mut answer);
-        assert!(answer[..count] == *due, "another answer");
+        assert!(entry(&mut buffers, &mut stack, case), "another answer");
         let bytes = stack.bytes();
         let untouched = bytes.iter().take_while(|&&byte| byte == PATTERN).count();
         most = most.max(bytes.len() - untouched);
@@ -47,10 +87,10 @@ fn deepest(cases: &[Case]) -> usize {
 /// Runs jobs on a stack of that many pages and no more; true where the answers are the judge's.
 fn runs_on(pages: usize, cases: &[Case]) -> bool {
     let mut stack = Fenced::new(pages);
-    let mut answer = vec![0; BUFFER];
-    cases.iter().all(|(job, due)| {
-        let count = stage_on_stack(&mut stack, job, &mut answer);
-        answer[..count] == *due
+    let mut buffers = Buffers::new();
+    cases.iter().all(|case| {
+        let mut entries = ENTRIES.iter();
+        entries.all(|entry| entry(&mut buffers, &mut stack, case))
     })
 }
 
@@ -59,9 +99,14 @@ pub fn stack(seed: u64, count: u64) -> bool {
     let mut most = 0;
     for family in &FAMILIES {
         let cases = cases(family, seed, count);
-        let bytes = deepest(&cases);
-        println!("{:12}{:>8} jobs{bytes:>10} bytes", family.name, cases.len());
-        most = most.max(bytes);
+        let bytes = ENTRIES.map(|entry| deepest(entry, &cases));
+        let [stage, sheet] = bytes;
+        println!(
+            "{:12}{:>8} jobs{stage:>10} bytes, stage_sheet{sheet:>10}",
+            family.name,
+            cases.len()
+        );
+        most = bytes.into_iter().fold(most, usize::max);
     }
     let pages = most.div_ceil(PAGE);
     println!("the most: {most} bytes, {pages} pages; {PAGES} are promised");

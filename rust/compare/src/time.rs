@@ -11,7 +11,7 @@ use crate::boards::Set;
 use crate::outside::{microseconds, stage};
 
 /// The least time that one timing takes, so that reading the clock does not show.
-const LEAST: f64 = 2_000.0;
+pub const LEAST: f64 = 2_000.0;
 
 /// What one set of jobs comes to. Visits, bytes and times are means over its jobs, times the
 /// median of the rounds.
@@ -160,7 +160,7 @@ impl Parts {
     }
 }
 
-fn median(mut values: Vec<f64>) -> f64 {
+pub fn median(mut values: Vec<f64>) -> f64 {
     values.sort_by(f64::total_cmp);
     values[values.len() / 2]
 }

@@ -4,10 +4,13 @@
 use std::arch::asm;
 use std::hint::black_box;
 
-use compare::check::Stage;
+use compare::check::{Entries, Stage};
 use compare::fuzz::{How, Outcome, Settings, run};
-use compare::outside::stage;
+use compare::outside::{PROVED, stage, stage_sheet};
+use compare::sheets::{Lent, Sheet};
 use jobs::numbers::{fields, has_minus_zero};
+use oracle::outputs::WANT_PAGE;
+use oracle::page::LINE;
 
 const SIGILL: i32 = 4;
 const SIGFPE: i32 = 8;
@@ -152,6 +155,118 @@ fn runs_on(job: &[u8], answer: &mut [u8]) -> usize {
     count
 }
 
+/// The entry with the page in a copy, so that it can be changed where it is wanted and has lines.
+fn with_page(lent: Lent<'_>, change: fn(&mut [u8])) -> usize {
+    let Lent {
+        wants,
+        job,
+        answer,
+        page,
+    } = lent;
+    let lines = |answer: &[u8]| usize::from(u16::from_be_bytes([answer[34], answer[35]]));
+    let count = stage_sheet(Lent {
+        wants,
+        job,
+        answer,
+        page,
+    });
+    if accepted(count) && wants & WANT_PAGE != 0 && lines(answer) > 0 {
+        change(page);
+    }
+    count
+}
+
+fn prints_another_digit(lent: Lent<'_>) -> usize {
+    with_page(lent, |page| page[LINE - 2] ^= 1)
+}
+
+fn prints_r_for_i(lent: Lent<'_>) -> usize {
+    with_page(lent, |page| page[11] = b'R')
+}
+
+fn prints_a_line_more(lent: Lent<'_>) -> usize {
+    with_page(lent, |page| page[2_431] = b'\n')
+}
+
+/// The same lines, the last number in the place of the one before it.
+fn swaps_the_ys(lent: Lent<'_>) -> usize {
+    with_page(lent, |page| {
+        let (low, high) = (page[34..54].to_vec(), page[55..75].to_vec());
+        page[34..54].copy_from_slice(&high);
+        page[55..75].copy_from_slice(&low);
+    })
+}
+
+/// As if 16 were looked at before the sheet is made.
+fn says_16_first(lent: Lent<'_>) -> usize {
+    let off_grid = lent.wants & WANT_PAGE != 0 && lent.job.get(5).is_some_and(|bits| bits & 4 == 0);
+    let answer = lent.answer.as_mut_ptr();
+    let count = stage_sheet(lent);
+    if count == 6 && off_grid {
+        // SAFETY: the sixth byte of a notice that was just written.
+        unsafe { answer.add(5).write(16) };
+    }
+    count
+}
+
+fn never_says_16(lent: Lent<'_>) -> usize {
+    let on_grid = lent.job.get(5).is_none_or(|bits| bits & 4 != 0);
+    let wants = match on_grid {
+        true => lent.wants,
+        false => lent.wants & !WANT_PAGE,
+    };
+    stage_sheet(Lent { wants, ..lent })
+}
+
+fn prints_for_a_refusal(lent: Lent<'_>) -> usize {
+    let page = lent.page.first_mut().map(|byte| byte as *mut u8);
+    let wanted = lent.wants & WANT_PAGE != 0;
+    let count = stage_sheet(lent);
+    if let Some(page) = page.filter(|_| count == 6 && wanted) {
+        // SAFETY: the first byte of the page's buffer, which is lent for this call.
+        unsafe { page.write(!page.read()) };
+    }
+    count
+}
+
+fn prints_unasked(lent: Lent<'_>) -> usize {
+    let wants = match lent.page.len() {
+        2_432.. => lent.wants | WANT_PAGE,
+        _ => lent.wants,
+    };
+    stage_sheet(Lent { wants, ..lent })
+}
+
+/// As if a page of 2,431 bytes were enough.
+fn takes_a_short_page(lent: Lent<'_>) -> usize {
+    match lent.page.len() {
+        2_431 => stage_sheet(Lent { wants: 0, ..lent }),
+        _ => stage_sheet(lent),
+    }
+}
+
+/// As if every bit asked for the page.
+fn takes_any_bit_for_the_page(lent: Lent<'_>) -> usize {
+    let wants = match lent.page.len() {
+        2_432.. if lent.wants != 0 => WANT_PAGE,
+        _ => lent.wants,
+    };
+    stage_sheet(Lent { wants, ..lent })
+}
+
+const WRONG_SHEETS: [(&str, Sheet); 10] = [
+    ("another digit", prints_another_digit),
+    ("R for I", prints_r_for_i),
+    ("past the page", prints_a_line_more),
+    ("the ys swapped", swaps_the_ys),
+    ("16 first", says_16_first),
+    ("never 16", never_says_16),
+    ("a page for a refusal", prints_for_a_refusal),
+    ("a page unasked", prints_unasked),
+    ("a short page", takes_a_short_page),
+    ("any bit for the page", takes_any_bit_for_the_page),
+];
+
 const WRONG: [(&str, Stage, &[How]); 15] = [
     ("flips a byte", flips_a_byte, &[How::Differs]),
     ("11 for 14", says_11_for_14, &[How::Differs]),
@@ -184,21 +299,29 @@ const WRONG: [(&str, Stage, &[How]); 15] = [
 /// A byte outside the buffer is either on an unmapped page or beside the buffer on its own.
 const OUTSIDE: [How; 2] = [How::Differs, How::Signal(SIGSEGV)];
 
+/// The wrong entries are caught at a job, and again at that job alone.
+fn caught(name: &str, wrong: Entries, expected: &[How]) {
+    let outcome = run(&settings(), wrong);
+    let (index, how) = outcome.failure.expect(name);
+    assert!(expected.contains(&how), "{name}: {how:?}");
+    let alone = Settings {
+        from: index,
+        jobs: 1,
+        ..settings()
+    };
+    assert_eq!(run(&alone, wrong).failure, Some((index, how)), "{name}");
+    assert_eq!(run(&alone, PROVED).failure, None, "{name}");
+    println!("{name}: caught at index {index}: {how}");
+}
+
 fn main() {
-    for (name, wrong, expected) in WRONG {
-        let outcome = run(&settings(), wrong);
-        let (index, how) = outcome.failure.expect(name);
-        assert!(expected.contains(&how), "{name}: {how:?}");
-        let alone = Settings {
-            from: index,
-            jobs: 1,
-            ..settings()
-        };
-        assert_eq!(run(&alone, wrong).failure, Some((index, how)), "{name}");
-        assert_eq!(run(&alone, stage).failure, None, "{name}");
-        println!("{name}: caught at index {index}: {how}");
+    for (name, stage, expected) in WRONG {
+        caught(name, Entries { stage, ..PROVED }, expected);
     }
-    let one = run(&settings(), stage);
+    for (name, sheet) in WRONG_SHEETS {
+        caught(name, Entries { sheet, ..PROVED }, &[How::Differs]);
+    }
+    let one = run(&settings(), PROVED);
     assert_eq!(one.failure, None);
     assert_eq!(one.counts.total(), settings().jobs);
     let two = run(
@@ -206,7 +329,7 @@ fn main() {
             workers: 2,
             ..settings()
         },
-        stage,
+        PROVED,
     );
     assert_eq!(two, one, "two workers do the same jobs as one");
     let Outcome { counts, .. } = run(
@@ -214,7 +337,7 @@ fn main() {
             seconds: 0,
             ..settings()
         },
-        stage,
+        PROVED,
     );
     assert_eq!(counts.total(), 0, "no time, no jobs");
     println!("the proved stage passes {} jobs", one.counts.total());

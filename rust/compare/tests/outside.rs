@@ -13,7 +13,7 @@ const SHORT: usize = 8;
 /// All strings of up to eight bytes over the alphabet.
 #[test]
 fn same_bytes_on_short_strings() {
-    let mut checker = Checker::new(outside::stage, 1);
+    let mut checker = Checker::new(outside::PROVED, 1);
     for length in 0..=SHORT {
         for number in 0..ALPHABET.len().pow(length as u32) {
             let mut rest = number;
@@ -37,7 +37,7 @@ fn same_bytes_in_heap_memory() {
 #[test]
 fn same_bytes_on_stored_jobs() {
     let folder = Path::new(env!("CARGO_MANIFEST_DIR")).join("../../stored");
-    let mut checker = Checker::new(outside::stage, 1);
+    let mut checker = Checker::new(outside::PROVED, 1);
     for name in ["jobs.bin", "largest.bin"] {
         let bytes = std::fs::read(folder.join(name)).expect("a stored file");
         let mut from = Reader::new(&bytes);

@@ -18,7 +18,7 @@ fn answer(job: &[u8]) -> Vec<u8> {
 
 #[test]
 fn the_outcome_is_that_of_plus_zeros() {
-    let mut checker = Checker::new(outside::stage, 1);
+    let mut checker = Checker::new(outside::PROVED, 1);
     let mut changed = 0;
     let mut look = |job: &[u8]| {
         let same = with_plus_zeros(job, &fields(job));

@@ -19,17 +19,22 @@ const LIMIT: f64 = 1_048_576.0;
 /// A board on the grid, bit 2 set in most of them.
 pub fn job(seed: u64, index: u64) -> Vec<u8> {
     let mut rng = Rng::new("grid", seed, index);
-    let mut job = match rng.below(4) {
-        0 => grid_job(&mut rng),
-        1 => draft(&mut rng).job(&Scale::ONE),
-        2 => scaled(&mut rng, 160),
-        _ => largest(&mut rng),
-    };
+    let mut job = any_on_grid(&mut rng);
     job.on_grid = rng.chance(7, 8);
     if rng.chance(3, 4) {
         rename(&mut job, &mut rng);
     }
     job.encode()
+}
+
+/// A board on the grid, with ids that are places.
+pub fn any_on_grid(rng: &mut Rng) -> Job {
+    match rng.below(4) {
+        0 => grid_job(rng),
+        1 => draft(rng).job(&Scale::ONE),
+        2 => scaled(rng, 160),
+        _ => largest(rng),
+    }
 }
 
 fn draft(rng: &mut Rng) -> Draft {

@@ -13,6 +13,7 @@ pub mod floats;
 pub mod grid;
 pub mod mutations;
 pub mod numbers;
+pub mod pages;
 pub mod rng;
 pub mod stored;
 pub mod survey;

@@ -8,6 +8,8 @@ pub mod calls;
 pub mod clamp;
 pub mod digest;
 pub mod job;
+pub mod outputs;
+pub mod page;
 pub mod stage;
 pub mod wire;
 

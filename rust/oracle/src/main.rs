@@ -5,7 +5,10 @@
 use std::io::{self, BufReader, BufWriter, Read, Write};
 use std::process::ExitCode;
 
+use oracle::outputs;
+
 const USAGE: &str = "oracle job     one job on standard input, its answer on standard output
+oracle page    one job on standard input, its bundle page on standard output, or the notice of a refusal
 oracle batch   length-prefixed jobs in, length-prefixed answers out
 oracle calls   length-prefixed call records in, length-prefixed results out
 oracle digest  length-prefixed jobs in; number and digest of what was read out, nine bytes each
@@ -14,7 +17,8 @@ oracle show    one job on standard input, job and answer as text";
 fn main() -> ExitCode {
     let words = std::env::args().skip(1).collect::<Vec<_>>();
     let done = match words.iter().map(String::as_str).collect::<Vec<_>>()[..] {
-        ["job"] => one_job(),
+        ["job"] => one_job(oracle::answer_of),
+        ["page"] => one_job(page_or_notice),
         ["batch"] => each_record(|record| Ok(prefixed(oracle::answer_of(record)))),
         ["calls"] => each_record(|record| {
             oracle::calls::call(record)
@@ -35,17 +39,22 @@ fn main() -> ExitCode {
 }
 
 /// As the program sheet: at most 65,536 bytes of standard input are looked at.
-fn one_job() -> Result<(), String> {
+fn one_job(make: fn(&[u8]) -> Vec<u8>) -> Result<(), String> {
     let mut job = Vec::new();
     io::stdin()
         .lock()
         .take(65_536)
         .read_to_end(&mut job)
         .map_err(text)?;
-    io::stdout()
-        .lock()
-        .write_all(&oracle::answer_of(&job))
-        .map_err(text)
+    io::stdout().lock().write_all(&make(&job)).map_err(text)
+}
+
+fn page_or_notice(job: &[u8]) -> Vec<u8> {
+    let outputs = outputs::beside(outputs::WANT_PAGE, job, oracle::answer_of(job));
+    match oracle::number(&outputs.answer) {
+        0 => outputs.page,
+        _ => outputs.answer,
+    }
 }
 
 fn show() -> Result<(), String> {

@@ -1,0 +1,129 @@
+//! The outputs of the stage beside its answer.
+
+use bundle_stage_sys::{BUFFER, PAGE};
+
+use crate::board::Board;
+use crate::refusal::Refusal;
+use crate::sheet::{Answer, Sheet};
+
+/// The bytes of a buffer that holds every bundle page: 32 lines.
+pub const PAGE_SIZE: usize = PAGE;
+/// The bytes of a line of a bundle page, its newline among them.
+pub const PAGE_LINE_SIZE: usize = 76;
+/// Where an answer has its count of bundles, in two bytes.
+const BUNDLES_AT: usize = 34;
+
+/// What is wanted beside the answer.
+#[derive(Clone, Copy, Debug, Default, Eq, PartialEq)]
+pub struct Wanted {
+    /// The bundle page. A board that is not said to be on the drafting grid (`flags.on_grid`) has none
+    /// and is refused with [`Refusal::PageOffGrid`], if with nothing else.
+    pub page: bool,
+}
+
+/// Buffers of the largest sizes, so that none is too short. They can be used again.
+///
+/// ```
+/// use bundle_stage::*;
+///
+/// let mut buffers = Box::new(Buffers::default());
+/// let wanted = Wanted { page: true };
+/// let job = Board::default().to_bytes()?;
+/// assert_eq!(buffers.write(&job, &wanted).answer, [0, 0, 0, 2, 1, 16]);
+/// let grid = Board { flags: Flags { on_grid: true, ..Flags::default() }, ..Board::default() };
+/// let written = buffers.write(&grid.to_bytes()?, &wanted);
+/// assert_eq!(written.page, Some(&b""[..]), "a board without bundles has a page without lines");
+/// # Ok::<(), TooMany>(())
+/// ```
+#[derive(Clone, Debug)]
+pub struct Buffers {
+    answer: [u8; BUFFER],
+    page: [u8; PAGE],
+}
+
+impl Default for Buffers {
+    fn default() -> Buffers {
+        Buffers {
+            answer: [0; BUFFER],
+            page: [0; PAGE],
+        }
+    }
+}
+
+/// What the stage wrote for a job.
+#[derive(Clone, Copy, Debug, Eq, PartialEq)]
+pub struct Written<'a> {
+    /// The answer, or the notice of a refusal.
+    pub answer: &'a [u8],
+    /// The bundle page, if it is wanted and nothing was refused: lines of 76 bytes, one for each bundle.
+    pub page: Option<&'a [u8]>,
+}
+
+impl Buffers {
+    /// The answer to a job's bytes, whatever they are, and what else is wanted.
+    pub fn write(&mut self, job: &[u8], wanted: &Wanted) -> Written<'_> {
+        let page = wanted.page.then_some(&mut self.page);
+        let count = bundle_stage_sys::stage_sheet(job, &mut self.answer, page);
+        let answer = &self.answer[..count];
+        // A notice is shorter, and with it nothing else is written.
+        let bundles = match answer.get(BUNDLES_AT..BUNDLES_AT + 2) {
+            Some(&[high, low]) => usize::from(u16::from_be_bytes([high, low])),
+            _ => return Written { answer, page: None },
+        };
+        Written {
+            answer,
+            page: wanted.page.then(|| &self.page[..bundles * PAGE_LINE_SIZE]),
+        }
+    }
+}
+
+/// A sheet with what else is wanted.
+#[derive(Clone, Debug, PartialEq)]
+pub struct Drawn {
+    /// The sheet.
+    pub sheet: Sheet,
+    /// The bundle page, if it is wanted.
+    pub page: Option<String>,
+}
+
+impl Board {
+    /// Draws the bundles, as [`Board::draw`] does, and gives what else is wanted.
+    ///
+    /// # Errors
+    ///
+    /// The stage's refusal, as [`Board::draw`] gives it, or that of an output that is wanted.
+    ///
+    /// # Panics
+    ///
+    /// Never: the stage is proved to write whole answers, and pages of digits, letters and spaces.
+    ///
+    /// ```
+    /// use bundle_stage::*;
+    ///
+    /// let port = Endpoint { node: 1, port: 1 };
+    /// let board = Board {
+    ///     flags: Flags { on_grid: true, ..Flags::default() },
+    ///     nodes: vec![Node { id: 1, x: 0.0, y: 0.0, width: 40.0, height: 40.0 }],
+    ///     ports: vec![Port { node: 1, id: 1, side: Side::East, offset: 20.5 }],
+    ///     bundles: vec![Bundle { id: 7, endpoint: port, role: Role::Input, width: 0, members: vec![] }],
+    ///     ..Board::default()
+    /// };
+    /// let drawn = board.draw_with(&Wanted { page: true })?;
+    /// let due = "         7 I           40.0000000           20.5000000           20.5000000\n";
+    /// assert_eq!(drawn.page.as_deref(), Some(due));
+    /// # Ok::<(), Refusal>(())
+    /// ```
+    pub fn draw_with(&self, wanted: &Wanted) -> Result<Drawn, Refusal> {
+        let job = self.to_bytes().map_err(|_| Refusal::LimitExceeded)?;
+        let mut buffers = Box::new(Buffers::default());
+        let written = buffers.write(&job, wanted);
+        let sheet = Answer::from_bytes(written.answer)
+            .expect("the stage is proved to write whole answers")
+            .into_result()?;
+        let text = |page: &[u8]| str::from_utf8(page).expect("a page is ASCII").to_string();
+        Ok(Drawn {
+            sheet,
+            page: written.page.map(text),
+        })
+    }
+}

@@ -1,0 +1,186 @@
+//! What a run of the fuzzer came to, in numbers.
+
+use jobs::numbers::{fields, has_minus_zero};
+use jobs::survey::NUMBERS;
+use oracle::outputs::WANT_PAGE;
+
+use crate::check::{ENOUGH, SHORT, Same};
+use crate::fuzz::{KINDS, MUTATED, name};
+use crate::sheets::{LISTED, PageFacts, SheetSame};
+
+/// Numbers that `stage_sheet` tells: 0 to 16.
+const SHEET_NUMBERS: usize = 17;
+
+/// Jobs by kind and number, those that have a minus zero in a number field, and calls by the length of
+/// the answer's buffer.
+#[derive(Clone, Debug, Default, Eq, PartialEq)]
+pub struct Counts {
+    pub jobs: [[u64; NUMBERS]; KINDS],
+    pub with_minus_zeros: u64,
+    pub enough: [u64; ENOUGH.len()],
+    pub short: [u64; SHORT.len() + 1],
+    pub sheets: SheetCounts,
+}
+
+/// Calls of `stage_sheet`: by number, without and with the page, without and with bits that are not
+/// listed; and what the pages have.
+#[derive(Clone, Debug, Default, Eq, PartialEq)]
+pub struct SheetCounts {
+    pub numbers: [u64; SHEET_NUMBERS],
+    pub wanted: [[u64; 2]; 2],
+    /// The page is wanted with bit 2 clear, and another refusal came before 16: by its number.
+    pub before_16: [u64; SHEET_NUMBERS],
+    pub page: PageFacts,
+    /// Calls with too short a buffer of the answer, of the page, of both.
+    pub short: [u64; 3],
+}
+
+impl PageFacts {
+    fn all(&mut self) -> [&mut u64; 8] {
+        [
+            &mut self.pages,
+            &mut self.lines,
+            &mut self.interior,
+            &mut self.zeros,
+            &mut self.odd,
+            &mut self.large,
+            &mut self.largest,
+            &mut self.negative,
+        ]
+    }
+}
+
+impl SheetCounts {
+    fn all(&mut self) -> impl Iterator<Item = &mut u64> {
+        let wanted = self.wanted.iter_mut().flatten();
+        self.numbers
+            .iter_mut()
+            .chain(wanted)
+            .chain(&mut self.before_16)
+            .chain(self.page.all())
+            .chain(&mut self.short)
+    }
+
+    fn add(&mut self, mut same: SheetSame) {
+        self.numbers[usize::from(same.number)] += 1;
+        let page = usize::from(same.wants & WANT_PAGE != 0);
+        self.wanted[page][usize::from(same.wants & !LISTED != 0)] += 1;
+        if same.before_16 {
+            self.before_16[usize::from(same.number)] += 1;
+        }
+        for (sum, count) in self.page.all().into_iter().zip(same.page.all()) {
+            *sum += *count;
+        }
+        let [answer, page] = same.short;
+        self.short[usize::from(page) + usize::from(answer && page)] += 1;
+    }
+
+    fn print(&self) {
+        println!("calls of stage_sheet with buffers that are long enough, by number:");
+        print_numbers(&self.numbers);
+        let [[neither, unlisted], [page, both]] = self.wanted;
+        println!("wanted: nothing {neither}, the page {page}");
+        println!("the same with bits that are not listed: {unlisted}, {both}");
+        println!("16 would be due, but for this number before it:");
+        print_numbers(&self.before_16);
+        let PageFacts {
+            pages,
+            lines,
+            interior,
+            zeros,
+            odd,
+            large,
+            largest,
+            negative,
+        } = self.page;
+        println!("pages with lines: {pages}, lines: {lines}, of these I: {interior}");
+        println!(
+            "printed numbers: {}, zero {zeros}, no multiple of 1/64 {odd}, at least 2^20 {large}, \
+             at least 2^22 {largest}, negative {negative}",
+            3 * lines
+        );
+        let [answer, page, both] = self.short;
+        println!("nothing written, too short: the answer {answer}, the page {page}, both {both}");
+    }
+}
+
+fn print_numbers(counts: &[u64]) {
+    let told = counts.iter().enumerate().filter(|&(_, &count)| count > 0);
+    let told = told.map(|(number, count)| format!("{number}: {count}"));
+    println!("    {}", told.collect::<Vec<_>>().join(", "));
+}
+
+impl Counts {
+    /// Every count, always in the same order.
+    pub fn all(&mut self) -> impl Iterator<Item = &mut u64> {
+        let jobs = self.jobs.iter_mut().flatten();
+        jobs.chain([&mut self.with_minus_zeros])
+            .chain(&mut self.enough)
+            .chain(&mut self.short)
+            .chain(self.sheets.all())
+    }
+
+    pub fn add(&mut self, kind: usize, job: &[u8], same: Same) {
+        self.jobs[kind][usize::from(same.number)] += 1;
+        self.with_minus_zeros += u64::from(has_minus_zero(job, &fields(job)));
+        self.enough[same.enough] += 1;
+        self.short[same.short] += 1;
+        self.sheets.add(same.sheet);
+    }
+
+    pub fn total(&self) -> u64 {
+        self.jobs.iter().flatten().sum()
+    }
+
+    pub fn print(&self) {
+        print!("{:12}{:>10}", "family", "jobs");
+        for number in (0..NUMBERS).filter(|&number| number != 2) {
+            print!("{number:>9}");
+        }
+        println!();
+        let mut all = [0; NUMBERS];
+        for (kind, numbers) in self.jobs.iter().enumerate() {
+            if numbers.iter().any(|&count| count > 0) {
+                print_row(name(kind), numbers);
+            }
+            for (sum, count) in all.iter_mut().zip(numbers) {
+                *sum += count;
+            }
+        }
+        print_row("all", &all);
+        let mutated = &self.jobs[MUTATED];
+        let deep = mutated[10..=14].iter().sum::<u64>();
+        println!(
+            "mutated jobs: {} accepted, {deep} refused with 10 to 14",
+            mutated[0]
+        );
+        println!(
+            "jobs with a minus zero in a number field: {}",
+            self.with_minus_zeros
+        );
+        self.print_lengths();
+        self.sheets.print();
+    }
+
+    fn print_lengths(&self) {
+        println!("calls of stage by the length of the answer's buffer:");
+        for (length, count) in ENOUGH.iter().zip(&self.enough) {
+            println!("{length:>10}{count:>10}");
+        }
+        for (length, count) in SHORT.iter().zip(&self.short) {
+            println!("{length:>10}{count:>10}   nothing written");
+        }
+        let others = self.short[SHORT.len()];
+        println!("{:>10}{others:>10}   nothing written", "less");
+    }
+}
+
+fn print_row(name: &str, numbers: &[u64; NUMBERS]) {
+    print!("{name:12}{:>10}", numbers.iter().sum::<u64>());
+    for (number, count) in numbers.iter().enumerate() {
+        if number != 2 {
+            print!("{count:>9}");
+        }
+    }
+    println!();
+}

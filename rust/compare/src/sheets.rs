@@ -1,0 +1,243 @@
+//! The entry `stage_sheet`, which is told what outputs are wanted beside the answer: every output's
+//! bytes against the judge's, and no other byte changed.
+
+use jobs::rng::Rng;
+use oracle::outputs::{Lengths, Outputs, PAGE_BUFFER, WANT_PAGE, beside};
+use oracle::page::{LINE, rows, ten_millionths};
+use oracle::stage::BUFFER;
+
+use crate::check::{ENOUGH, SHORT};
+use crate::rooms::{Rooms, Side};
+
+/// What a call of `stage_sheet` is lent.
+pub struct Lent<'a> {
+    pub wants: u32,
+    pub job: &'a [u8],
+    pub answer: &'a mut [u8],
+    pub page: &'a mut [u8],
+}
+
+/// The entry: how many bytes of the answer are written.
+pub type Sheet = fn(Lent<'_>) -> usize;
+
+/// The bits of `wants` that are listed.
+pub const LISTED: u32 = WANT_PAGE;
+/// Lengths of the page's buffer that 2 lets through, and some that it does not.
+pub const PAGE_ENOUGH: [usize; 3] = [PAGE_BUFFER, PAGE_BUFFER + 1, 10_000];
+pub const PAGE_SHORT: [usize; 4] = [0, 1, LINE, PAGE_BUFFER - 1];
+
+/// One way of calling it.
+#[derive(Clone, Copy, Debug)]
+struct Call {
+    wants: u32,
+    job: Side,
+    answer: Side,
+    page: Side,
+    lengths: Lengths,
+}
+
+/// What the pages of accepted jobs have: each number counts pages, lines or printed numbers.
+#[derive(Clone, Copy, Debug, Default, Eq, PartialEq)]
+pub struct PageFacts {
+    pub pages: u64,
+    pub lines: u64,
+    pub interior: u64,
+    pub zeros: u64,
+    /// No multiples of 1/64.
+    pub odd: u64,
+    /// Of at least 2^20, and of at least 2^22.
+    pub large: u64,
+    pub largest: u64,
+    pub negative: u64,
+}
+
+/// A call in which nothing differs.
+#[derive(Clone, Copy, Debug, Eq, PartialEq)]
+pub struct SheetSame {
+    pub wants: u32,
+    pub number: u8,
+    /// The page is wanted, bit 2 is clear, and yet another number than 16 came: its turn is last.
+    pub before_16: bool,
+    pub page: PageFacts,
+    /// Whether the buffer of the answer was too short in the other call, and that of the page.
+    pub short: [bool; 2],
+}
+
+/// Rooms for what is lent.
+pub struct Sheets {
+    sheet: Sheet,
+    jobs: Rooms,
+    answers: Rooms,
+    pages: Rooms,
+    seed: u64,
+}
+
+impl Sheets {
+    pub fn new(sheet: Sheet, seed: u64) -> Sheets {
+        Sheets {
+            sheet,
+            jobs: Rooms::new(seed),
+            answers: Rooms::new(seed),
+            pages: Rooms::new(seed),
+            seed,
+        }
+    }
+
+    /// Two calls for a job with this answer by the judge: one with buffers that are long enough, one
+    /// with a buffer that is too short.
+    pub fn check(&mut self, job: &[u8], answer: Vec<u8>, index: u64) -> Result<SheetSame, String> {
+        let mut rng = Rng::new("sheets", self.seed, index);
+        let number = oracle::number(&answer);
+        let call = call(&mut rng);
+        let due = beside(call.wants, job, answer);
+        self.call(job, call, &due)?;
+        let page = page_facts(&due)?;
+        let none = too_short(&mut rng);
+        self.call(job, none, &Outputs::default())?;
+        let told = oracle::number(&due.answer);
+        Ok(SheetSame {
+            wants: call.wants,
+            number: told,
+            before_16: call.wants & WANT_PAGE != 0
+                && number != 0
+                && job.get(5).is_some_and(|flags| flags & 4 == 0),
+            page,
+            short: [
+                none.lengths.answer < BUFFER,
+                none.wants & WANT_PAGE != 0 && none.lengths.page < PAGE_BUFFER,
+            ],
+        })
+    }
+
+    /// With this `wants`, for tests.
+    pub fn check_wants(&mut self, job: &[u8], wants: u32, index: u64) -> Result<u8, String> {
+        let mut rng = Rng::new("wants", self.seed, index);
+        let mut call = call(&mut rng);
+        call.wants = wants;
+        if wants & WANT_PAGE != 0 {
+            call.lengths.page = PAGE_BUFFER;
+        }
+        let due = beside(wants, job, oracle::answer_of(job));
+        self.call(job, call, &due)?;
+        Ok(oracle::number(&due.answer))
+    }
+
+    fn call(&mut self, job: &[u8], call: Call, due: &Outputs) -> Result<(), String> {
+        let mut lent = self.jobs.lend_filled(call.job, job);
+        let mut answer = self.answers.lend(call.answer, call.lengths.answer);
+        let mut page = self.pages.lend(call.page, call.lengths.page);
+        let count = (self.sheet)(Lent {
+            wants: call.wants,
+            job: lent.bytes(),
+            answer: answer.bytes(),
+            page: page.bytes(),
+        });
+        let places = [
+            ("job", lent.settle(job)),
+            ("answer", answer.settle(&due.answer)),
+            ("page", page.settle(&due.page)),
+        ];
+        if count != due.answer.len() {
+            return Err(format!(
+                "{count} bytes, due {} ({call:?})",
+                due.answer.len()
+            ));
+        }
+        for (what, place) in places {
+            if let Some(place) = place {
+                return Err(format!("the {what} differs at its byte {place} ({call:?})"));
+            }
+        }
+        Ok(())
+    }
+}
+
+/// What is wanted: the page in three of four, and in one of three bits that are not listed.
+fn wants(rng: &mut Rng) -> u32 {
+    let listed = if rng.chance(3, 4) { WANT_PAGE } else { 0 };
+    let others = match rng.below(6) {
+        0 => rng.word() as u32,
+        1 => 1 << rng.below(32),
+        _ => 0,
+    };
+    listed | others & !LISTED
+}
+
+/// A call whose buffers are long enough; one that is not wanted may have any length.
+fn call(rng: &mut Rng) -> Call {
+    let wants = wants(rng);
+    let wanted = wants & WANT_PAGE != 0;
+    Call {
+        wants,
+        job: Side::any(rng),
+        answer: Side::any(rng),
+        page: Side::any(rng),
+        lengths: Lengths {
+            answer: rng.pick(&ENOUGH),
+            page: match wanted || rng.chance(1, 4) {
+                true => rng.pick(&PAGE_ENOUGH),
+                false => rng.pick(&PAGE_SHORT),
+            },
+        },
+    }
+}
+
+/// A call with the answer's buffer too short, or that of the page that is wanted, or both.
+fn too_short(rng: &mut Rng) -> Call {
+    let mut call = call(rng);
+    let which = match call.wants & WANT_PAGE {
+        0 => 0,
+        _ => rng.below(3),
+    };
+    if which != 1 {
+        call.lengths.answer = rng.pick(&SHORT);
+    }
+    if which != 0 {
+        call.lengths.page = match rng.below(5) {
+            0 => rng.below(PAGE_BUFFER),
+            _ => rng.pick(&PAGE_SHORT),
+        };
+    }
+    call
+}
+
+/// Counts of a page. Each line has its length, and each number in it, read by the standard library, is
+/// the answer's, bit for bit.
+fn page_facts(due: &Outputs) -> Result<PageFacts, String> {
+    let mut facts = PageFacts::default();
+    // No page, or that of a board without bundles.
+    if due.page.is_empty() {
+        return Ok(facts);
+    }
+    let rows = rows(&due.answer);
+    let text = str::from_utf8(&due.page).map_err(|_| "a page that is no text")?;
+    facts.pages = 1;
+    let lines = text.split_inclusive('\n').collect::<Vec<_>>();
+    if lines.len() != rows.len() || lines.iter().any(|line| line.len() != LINE) {
+        return Err(format!("a page of {} lines: {text:?}", lines.len()));
+    }
+    for (line, row) in lines.iter().zip(rows) {
+        let words = line.split_whitespace().collect::<Vec<_>>();
+        let [_, _, numbers @ ..] = &words[..] else {
+            return Err(format!("no line: {line:?}"));
+        };
+        let [x, start, _, end] = row.collector;
+        let read = numbers.iter().map(|word| word.parse::<f64>());
+        let read = read.map(|number| number.map(f64::to_bits));
+        if !read.eq([Ok(x), Ok(start), Ok(end)]) {
+            return Err(format!("{line:?} does not read back"));
+        }
+        facts.lines += 1;
+        facts.interior += u64::from(row.interior);
+        for bits in [x, start, end] {
+            let count = ten_millionths(bits).expect("it was printed");
+            // 1/64 is 156,250 ten-millionths.
+            facts.odd += u64::from(count % 156_250 != 0);
+            facts.zeros += u64::from(count == 0);
+            facts.large += u64::from(count >= 10_000_000 << 20);
+            facts.largest += u64::from(count >= 10_000_000 << 22);
+            facts.negative += u64::from(bits >> 63 == 1);
+        }
+    }
+    Ok(facts)
+}

@@ -1,0 +1,58 @@
+//! A call that can want other outputs than the answer: document 02, F-4.
+
+use crate::page::page;
+use crate::stage::{BUFFER, answer_of};
+use crate::{answer, number};
+
+/// The bit of `wants` for the page.
+pub const WANT_PAGE: u32 = 2;
+/// Smallest buffer of a page that 2 lets through: 32 lines of 76 bytes.
+pub const PAGE_BUFFER: usize = 2_432;
+
+/// Lengths of the buffers that are lent.
+#[derive(Clone, Copy, Debug, Eq, PartialEq)]
+pub struct Lengths {
+    pub answer: usize,
+    pub page: usize,
+}
+
+/// What is written to the front of each buffer; later bytes are untouched.
+#[derive(Clone, Debug, Default, Eq, PartialEq)]
+pub struct Outputs {
+    pub answer: Vec<u8>,
+    pub page: Vec<u8>,
+}
+
+impl Lengths {
+    /// 2: the answer's buffer is too short, or that of an output that is wanted.
+    pub fn are_short(&self, wants: u32) -> bool {
+        self.answer < BUFFER || wants & WANT_PAGE != 0 && self.page < PAGE_BUFFER
+    }
+}
+
+/// All that is written. A bit of `wants` that is not listed says nothing.
+pub fn outputs(wants: u32, job: &[u8], lengths: Lengths) -> Outputs {
+    if lengths.are_short(wants) {
+        return Outputs::default();
+    }
+    beside(wants, job, answer_of(job))
+}
+
+/// All that is written for a job with this answer, where no buffer is too short: 16 comes after every
+/// other refusal, and a refusal leaves all but the answer's buffer untouched.
+pub fn beside(wants: u32, job: &[u8], answer: Vec<u8>) -> Outputs {
+    let mut outputs = Outputs {
+        answer,
+        ..Outputs::default()
+    };
+    if number(&outputs.answer) != 0 || wants & WANT_PAGE == 0 {
+        return outputs;
+    }
+    // Bit 2 of the flags, which stand behind length and version.
+    if job[5] & 4 == 0 {
+        outputs.answer = answer::notice(16);
+        return outputs;
+    }
+    outputs.page = page(&outputs.answer);
+    outputs
+}
