@@ -7,7 +7,8 @@ use mathlib.Core.List.{List, [], map}
 use mathlib.Core.Logic.{_⊎_, inl, inr}
 use native.Mathlib.Omega.{arith}
 use lib.ListN.{length, take}
-use lib.Seq.{sets}
+use lib.Seq.{sets, length-take-le}
+use borrow.Author.Tests.{eq-eqb, ne-eqb}
 use lib.Ieee.{Float}
 use Rattle.limits.specs.Limits.{max-edges, max-members, answer-room, id-columns, tap-numbers, slot-numbers}
 use Rattle.route.specs.Slots.{routes-of, Held}
@@ -19,7 +20,7 @@ use Rattle.job.specs.declared.Job as code
 use Rattle.job.specs.declared.JobRead.{JobRead}
 use Rattle.job.specs.Job.{read-job, given-routes}
 use Rattle.job.specs.Job as job
-use Rattle.job.specs.AllTables.{JobTold, told-job, job-of}
+use Rattle.job.specs.AllTables.{JobTold, told-job}
 use Rattle.plan.specs.BoardTables as tables
 use Rattle.plan.specs.declared.Planning.{Planning}
 use Rattle.plan.specs.Depths.{offsets-of}
@@ -35,24 +36,26 @@ use Rattle.turns.specs.TurnTables.{ends-as, standing, drawn-in, Full, Room, Lis
 use Rattle.normalize.specs.declared.Laid.{Laid}
 use Rattle.normalize.specs.PageTables.{heading, sheet-in, page-in}
 use Rattle.plan.specs.Plan.{plan-of}
-use Rattle.plan.specs.Plan as plan
 use Rattle.components.specs.declared.Step.{Step}
 use Rattle.components.specs.Settled.{step-in}
 use Rattle.answer.specs.Answer.{Sheet, answer-bytes, notice-bytes}
 use Rattle.answer.specs.Stores.{notice-length}
 use Rattle.answer.specs.declared.Frame.{Frame}
 use Rattle.answer.specs.SheetTables as answer
-use Rattle.promise.specs.Stage.{Finished, answer-of, Told, refused, drawn, planned, sheet-drawn, after-sheet, after-plan, after-reading, told, told-bytes}
-use Rattle.promise.specs.Size.{roomy, written-size}
+use Rattle.promise.specs.Stage.{Finished, answer-of, Told, refused, drawn, planned, sheet-drawn, after-sheet, told-bytes}
 use Rattle.bundle_page.specs.AnswerPage.{answer-page}
 use Rattle.bundle_page.specs.PageTables.{Printables}
-use Rattle.page_promise.specs.PageFits.{PageFits, own-plan-near, page-fits, printables}
+use Rattle.page_promise.specs.PageFits.{PageFits, page-fits, printables}
+use Rattle.plan_bytes.specs.PlanBytes.{rejected, taken, read-plan}
+use Rattle.plan_reader.specs.declared.PlanRead.{PlanRead}
+use Rattle.plan_reader.specs.Reading.{told-plan}
+use Rattle.plan_stage.specs.Entries.{after-search, plan-for, plan-phase, after-taking, with-plan, told-with}
+use Rattle.plan_stage.specs.EitherPlan.{told-size, phase-whole}
 use Rattle.outputs.specs.declared.Wants.{Wants}
 use Rattle.outputs.specs.Outputs.{Outputs, notice, after-all, outputs-told}
-use Rattle.job_tables.specs.Ready.{read-accepted, tables-sound, routes-in}
+use Rattle.job_tables.specs.Ready.{read-accepted, tables-sound, routes-in, given-same}
 use Rattle.job_tables.specs.Came.{Sizes, job-in, Came}
 use Rattle.draw_job.specs.JobTables.{Writes, TapsOf, OnSheet, Lent, finished}
-use Rattle.draw_job.proofs.Ready.{given-same}
 use Rattle.draw_job.proofs.Answers.{sheet-same}
 
 -- ---- what is written
@@ -104,40 +107,57 @@ drawn-writes w t f e h before after r s is a p c =
 
 -- ---- reading
 
-module _ (r : JobRead) (buffer : List Float) (bytes : List ℕ) (t : JobTold r buffer (read-job bytes)) where
-  pub read-refused : r .ok ≡ false → told bytes ≡ refused (r .refusal)
-  unfolding told-job after-reading
+module _ (r : JobRead) (buffer : List Float) (bytes : List ℕ) (t : JobTold r buffer (read-job bytes)) (given : Bool) (plan : List ℕ) where
+  pub read-refused : r .ok ≡ false → told-with given bytes plan ≡ refused (r .refusal)
+  unfolding told-job with-plan
   read-refused e =
       let z : read-job bytes ≡ job.refusal (r .refusal) = sym (t .is) ∙ rw e in
-      ap after-reading z
+      ap (with-plan given plan) z
 
-  pub told-plan : r .ok ≡ true → told bytes ≡ after-plan (job-in (r .job) buffer) (planned (job-in (r .job) buffer))
-  unfolding after-reading
-  told-plan e = ap after-reading (read-accepted r buffer bytes t e)
+  pub told-phase : r .ok ≡ true → told-with given bytes plan ≡ after-taking (job-in (r .job) buffer) (plan-phase given (job-in (r .job) buffer) plan)
+  unfolding with-plan
+  told-phase e = ap (with-plan given plan) (read-accepted r buffer bytes t e)
 
-  pub plan-room : (room : ℕ) → answer-room ≤ room → r .ok ≡ true → length (told-bytes (after-plan (job-in (r .job) buffer) (planned (job-in (r .job) buffer)))) ≤ room
-  plan-room room h e = subst (λ (l : List ℕ). length l ≤ room) (roomy bytes room h ∙ ap told-bytes (told-plan e)) (written-size bytes room .1)
+  pub phase-room : (room : ℕ) → answer-room ≤ room → r .ok ≡ true → length (told-bytes (after-taking (job-in (r .job) buffer) (plan-phase given (job-in (r .job) buffer) plan))) ≤ room
+  phase-room room h e = let s = told-size given bytes plan in subst (λ (l : Told). length (told-bytes l) ≤ room) (told-phase e) (omega arith)
 
 -- ---- the plan
 
+-- our own
 module _ (j : code.Job) (buffer : List Float) (from : Came j buffer) (sizes : Sizes j) (s : Step)
     (is : step-in (j .bundles .count) s
     ≡ plan-of (tables.board-of (j .options) (j .nodes) (j .ports) (take (j .edges .count) (j .edges .rows)) (j .bundles) (j .members)) (tables.given-routes buffer (j .edges)) (j .flags .«separates_collectors») (j .grants .«tap_visits»)) where
   planned-is : planned (job-in j buffer) ≡ step-in (j .bundles .count) s
   planned-is = ap (λ (g : List Route). plan-of (job-in j buffer .board) g (j .flags .«separates_collectors») (j .grants .«tap_visits»)) (sym (given-same j buffer from sizes)) ∙ sym is
 
-  pub planned-going : s .refused ≡ false → planned (job-in j buffer) ≡ plan.going (plan-in (j .bundles .count) (s .plan))
-  planned-going e = planned-is ∙ rw e
+  pub own-phase : (given : Bool) → given ≡ false → (plan : List ℕ) (r : PlanRead) → ((n : ℕ) → told-plan n r ≡ after-search (step-in n s)) → told-plan (j .bundles .count) r ≡ plan-phase given (job-in j buffer) plan
+  unfolding plan-phase
+  own-phase given e plan r told = told (j .bundles .count) ∙ ap after-search (sym planned-is) ∙ sym (ap (λ (b : Bool). cond b (plan-for (job-in j buffer) plan) (after-search (planned (job-in j buffer)))) e)
 
-  pub plan-refused : s .refused ≡ true → after-plan (job-in j buffer) (planned (job-in j buffer)) ≡ refused 13
-  unfolding after-plan
-  plan-refused e =
-      let z : planned (job-in j buffer) ≡ plan.refused (s .plan .left .0) = planned-is ∙ rw e in
-      ap (after-plan (job-in j buffer)) z
+-- one that is given
+pub given-phase : (j : code.Job) (buffer : List Float) (given : Bool) → given ≡ true → j .bundles .count ≤ length (j .bundles .rows) → (plan : List ℕ) (r : PlanRead) → told-plan (j .bundles .count) r ≡ read-plan (j .flags .«on_grid») (j .bundles .count) (j .grants .«tap_visits») plan
+    → told-plan (j .bundles .count) r ≡ plan-phase given (job-in j buffer) plan
+unfolding plan-phase
+given-phase j buffer given e few plan r told =
+    told
+    ∙ ap (λ (n : ℕ). read-plan (j .flags .«on_grid») n (j .grants .«tap_visits») plan) (sym (length-take-le (j .bundles .count) (j .bundles .rows) few))
+    ∙ sym (ap (λ (b : Bool). cond b (plan-for (job-in j buffer) plan) (after-search (planned (job-in j buffer)))) e)
 
-  pub plan-going : s .refused ≡ false → after-plan (job-in j buffer) (planned (job-in j buffer)) ≡ after-sheet (job-in j buffer) (plan-in (j .bundles .count) (s .plan)) (sheet-drawn (job-in j buffer) (plan-in (j .bundles .count) (s .plan)))
-  unfolding after-plan
-  plan-going e = ap (after-plan (job-in j buffer)) (planned-going e)
+-- either
+module _ (j : code.Job) (buffer : List Float) (given : Bool) (plan : List ℕ) (r : PlanRead) (is : told-plan (j .bundles .count) r ≡ plan-phase given (job-in j buffer) plan) where
+  pub phase-refused : (r .number ≡ 0 → ⊥) → after-taking (job-in j buffer) (plan-phase given (job-in j buffer) plan) ≡ refused (r .number)
+  unfolding told-plan after-taking
+  phase-refused e =
+      let z : plan-phase given (job-in j buffer) plan ≡ rejected (r .number) = sym is ∙ rw (ne-eqb (r .number) 0 e) in
+      ap (after-taking (job-in j buffer)) z
+
+  pub phase-taken : r .number ≡ 0 → plan-phase given (job-in j buffer) plan ≡ taken (plan-in (j .bundles .count) (r .plan))
+  unfolding told-plan
+  phase-taken e = sym is ∙ rw (eq-eqb (r .number) 0 e)
+
+  pub phase-going : r .number ≡ 0 → after-taking (job-in j buffer) (plan-phase given (job-in j buffer) plan) ≡ after-sheet (job-in j buffer) (plan-in (j .bundles .count) (r .plan)) (sheet-drawn (job-in j buffer) (plan-in (j .bundles .count) (r .plan)))
+  unfolding after-taking
+  phase-going e = ap (after-taking (job-in j buffer)) (phase-taken e)
 
 -- ---- the sheet
 
@@ -217,31 +237,32 @@ room-for members n taps points counts mask scratch hm hn t p c m s = record { pl
 
 -- ---- the answer
 
-module _ (j : code.Job) (buffer : List Float) (from : Came j buffer) (sizes : Sizes j) (s : Step)
-    (is : step-in (j .bundles .count) s
-    ≡ plan-of (tables.board-of (j .options) (j .nodes) (j .ports) (take (j .edges .count) (j .edges .rows)) (j .bundles) (j .members)) (tables.given-routes buffer (j .edges)) (j .flags .«separates_collectors») (j .grants .«tap_visits»))
-    (on-going : s .refused ≡ false) (offsets : List Float) (v : Verdict) (edges : List ℕ) (ds : DrawnBundles) (points : List Float) (counts : List ℕ) (taps : List Float)
+module _ (j : code.Job) (buffer : List Float) (from : Came j buffer) (sizes : Sizes j) (given : Bool) (plan : List ℕ) (r : PlanRead) (is : told-plan (j .bundles .count) r ≡ plan-phase given (job-in j buffer) plan)
+    (on-going : r .number ≡ 0) (offsets : List Float) (v : Verdict) (edges : List ℕ) (ds : DrawnBundles) (points : List Float) (counts : List ℕ) (taps : List Float)
     (as-offsets : offsets ≡ offsets-of (tables.board-of (j .options) (j .nodes) (j .ports) (take (j .edges .count) (j .edges .rows)) (j .bundles) (j .members)))
     (ends : ends-as v (routes-of points counts) (drawn-in edges taps ds)
     ≡ sheet-of (tables.board-of (j .options) (j .nodes) (j .ports) (take (j .edges .count) (j .edges .rows)) (j .bundles) (j .members)) (j .flags .«permits_crossings»)
-    (turns-from (take (j .bundles .count) (j .bundles .rows)) (map x-of (take (j .bundles .count) (s .plan .rows))) offsets) (blank (tables.given-routes buffer (j .edges)) (j .grants .«geometry_visits»))) where
-  pub all-refused : (n : ℕ) (q : GeometryVisits) → v ≡ Refused n q → after-plan (job-in j buffer) (planned (job-in j buffer)) ≡ refused n
-  all-refused n q e = plan-going j buffer from sizes s is on-going ∙ sheet-refused j buffer from sizes (s .plan) offsets v (routes-of points counts) (drawn-in edges taps ds) as-offsets ends n q e
+    (turns-from (take (j .bundles .count) (j .bundles .rows)) (map x-of (take (j .bundles .count) (r .plan .rows))) offsets) (blank (tables.given-routes buffer (j .edges)) (j .grants .«geometry_visits»))) where
+  abbrev told-so : Told
+  told-so = after-taking (job-in j buffer) (plan-phase given (job-in j buffer) plan)
 
-  pub all-drawn : (q : GeometryVisits) → v ≡ Clean q → after-plan (job-in j buffer) (planned (job-in j buffer)) ≡ drawn (finished j buffer (s .plan) edges ds points counts taps (q .0))
-  all-drawn q e = plan-going j buffer from sizes s is on-going ∙ sheet-clean j buffer from sizes (s .plan) offsets v (routes-of points counts) (drawn-in edges taps ds) as-offsets ends q e
+  pub all-refused : (n : ℕ) (q : GeometryVisits) → v ≡ Refused n q → after-taking (job-in j buffer) (plan-phase given (job-in j buffer) plan) ≡ refused n
+  all-refused n q e = phase-going j buffer given plan r is on-going ∙ sheet-refused j buffer from sizes (r .plan) offsets v (routes-of points counts) (drawn-in edges taps ds) as-offsets ends n q e
+
+  pub all-drawn : (q : GeometryVisits) → v ≡ Clean q → after-taking (job-in j buffer) (plan-phase given (job-in j buffer) plan) ≡ drawn (finished j buffer (r .plan) edges ds points counts taps (q .0))
+  all-drawn q e = phase-going j buffer given plan r is on-going ∙ sheet-clean j buffer from sizes (r .plan) offsets v (routes-of points counts) (drawn-in edges taps ds) as-offsets ends q e
 
   -- the answer of the tables after the last shift
   pub all-told : (q : GeometryVisits) → OnSheet j edges ds points counts taps → (l : Laid) (after shifted : List Float) (t : DrawnTaps) → TapsOf (j .edges) (j .members) shifted t → page-in edges l after counts shifted ≡ page-of (sheet-in edges (j .nodes) ds points counts taps)
       → l .drawn .count ≡ ds .count → map heading (take (l .drawn .count) (l .drawn .rows)) ≡ map heading (take (ds .count) (ds .rows))
-      → answer.sheet-of (record { «tap_visits» = s .plan .left .0; «geometry_visits» = q .0; width = l .width; height = l .height }) (l .nodes) (j .edges) after counts (l .drawn) t ≡ answer-of (finished j buffer (s .plan) edges ds points counts taps (q .0))
-  all-told q on l after shifted t of page as-many kept = sheet-same j edges ds points counts taps on sizes buffer (s .plan) (q .0) l after shifted t of (omega (arith, on .fits .members, of .rows-long)) page as-many kept
+      → answer.sheet-of (record { «tap_visits» = r .plan .left .0; «geometry_visits» = q .0; width = l .width; height = l .height }) (l .nodes) (j .edges) after counts (l .drawn) t ≡ answer-of (finished j buffer (r .plan) edges ds points counts taps (q .0))
+  all-told q on l after shifted t of page as-many kept = sheet-same j edges ds points counts taps on sizes buffer (r .plan) (q .0) l after shifted t of (omega (arith, on .fits .members, of .rows-long)) page as-many kept
 
   -- 16 was looked at: each bundle of the table can be printed
   pub all-printable : j .flags .«on_grid» ≡ true → (q : GeometryVisits) → v ≡ Clean q → (a : Frame) (nodes : Nodes) (after : List Float) (b : DrawnBundles) (t : DrawnTaps)
-      → answer.sheet-of a nodes (j .edges) after counts b t ≡ answer-of (finished j buffer (s .plan) edges ds points counts taps (q .0)) → b .count ≤ length (b .rows) → Printables (b .count) (b .rows)
+      → answer.sheet-of a nodes (j .edges) after counts b t ≡ answer-of (finished j buffer (r .plan) edges ds points counts taps (q .0)) → b .count ≤ length (b .rows) → Printables (b .count) (b .rows)
   all-printable on q e a nodes after b t same h =
-      let near = own-plan-near (from .bytes) (job-in j buffer) (from .is) on (plan-in (j .bundles .count) (s .plan)) (planned-going j buffer from sizes s is on-going) in
-      let going = sheet-going j buffer from sizes (s .plan) offsets v (routes-of points counts) (drawn-in edges taps ds) as-offsets ends q e in
+      let whole = phase-whole given (from .bytes) plan (job-in j buffer) (from .is) on (plan-in (j .bundles .count) (r .plan)) (phase-taken j buffer given plan r is on-going) in
+      let going = sheet-going j buffer from sizes (r .plan) offsets v (routes-of points counts) (drawn-in edges taps ds) as-offsets ends q e in
       printables (b .count) (b .rows) (take (t .count) (t .rows)) h
-      (subst (λ (z : Sheet). PageFits (z .bundles)) (sym same) (page-fits (from .bytes) (job-in j buffer) (from .is) on (plan-in (j .bundles .count) (s .plan)) near (standing (routes-of points counts) (drawn-in edges taps ds) (q .0)) going))
+      (subst (λ (z : Sheet). PageFits (z .bundles)) (sym same) (page-fits (from .bytes) (job-in j buffer) (from .is) on (plan-in (j .bundles .count) (r .plan)) whole (standing (routes-of points counts) (drawn-in edges taps ds) (q .0)) going))

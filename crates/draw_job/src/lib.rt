@@ -1,14 +1,17 @@
-// A job that was read, drawn: the plan (13), the sheet (10, 11, 12, 14), the last refusal (16), the last
+// A job that was read, drawn: the plan (13, or 17 and 18), the sheet (10, 11, 12, 14), the last refusal (16), the last
 // shift, the answer and what else is wanted.
 //
 // Ported from cachanova/schemweave, commit c4a1a2c60a, crates/schemweave/src/boundary_bundles.rs
 // (Apache-2.0, see NOTICE).
 ghost use mathlib.Core.Path.{_≡_};
 ghost use mathlib.Core.Bool.{false};
-ghost use Prim.Native.Nat.{_*_, _≤_};
+ghost use Prim.Native.Nat.{ℕ, _*_, _≤_};
 ghost use lib.ListN.{length};
 ghost use Rattle.limits.specs.Limits.{max-edges, max-members, page-room, candidate-room, search-work};
-ghost use Rattle.promise.specs.Stage.{planned, after-plan, told-bytes};
+ghost use Rattle.components.specs.Settled.{step-in};
+ghost use Rattle.promise.specs.Stage.{told-bytes};
+ghost use Rattle.plan_stage.specs.Entries.{after-search, plan-phase, after-taking};
+ghost use Rattle.plan_reader.specs.Reading.{told-plan};
 ghost use Rattle.outputs.specs.Outputs.{lacks, after-all, outputs-told};
 ghost use Rattle.job_tables.specs.Came.{job-in, Came};
 ghost use Rattle.draw_job.specs.JobTables.{Writes, TapsOf, MembersOn, Lent};
@@ -17,6 +20,7 @@ use board::DrawnTap;
 use board::DrawnTaps;
 use board::Edges;
 use board::Members;
+use components::Step;
 use drawing::GeometryVisits;
 use drawing::Verdict;
 use geometry::Point;
@@ -24,6 +28,7 @@ use job::Job;
 use limits::MAX_MEMBERS;
 use limits::SEARCH_WORK;
 use outputs::Wants;
+use plan_reader::PlanRead;
 use search::TapVisits;
 
 // ---- the sheet (10, 11, 12, 14) and the answer
@@ -55,12 +60,30 @@ pub fn tap_rows(table: Edges, members: Members, taps: &[f64]) -> DrawnTaps
     }
 }
 
-// The plan (13), the sheet of it and the last shift, in lent slices; the answer and the page, or the
+// Our own plan (13), as one that was read.
+fn own_plan(s: Step) -> PlanRead
+    ensures { λ r. ⌜ ((n : ℕ) → told-plan n r ≡ after-search (step-in n s)) ⌝ }
+{
+    let plan = s.plan;
+    if s.refused {
+        return PlanRead {
+            number: 13,
+            plan: plan,
+        };
+    }
+    PlanRead {
+        number: 0,
+        plan: plan,
+    }
+}
+
+// The plan, one that is given (17, 18) or our own (13), the sheet of it and the last shift, in lent slices; the answer and the page, or the
 // notice of a refusal. One function for all of it: a table that is handed on is copied. The search keeps its
 // stretches and sorts in the slots of the present routes: nothing is in them before the sheet.
 pub fn draw_in(
     wants: Wants,
     j: Job,
+    plan: &[u8],
     given: &[f64],
     sorted: &mut [f64],
     edges: &mut [usize],
@@ -74,10 +97,10 @@ pub fn draw_in(
     page: &mut [u8],
 ) -> usize
     requires { ⌜ Came j (now given) × (6 ≤ length (now answer)) × (lacks (wants .page) (length (now page)) page-room ≡ false) ⌝ }
-    requires { ⌜ length (told-bytes (after-plan (job-in j (now given)) (planned (job-in j (now given))))) ≤ length (now answer) ⌝ }
+    requires { ⌜ length (told-bytes (after-taking (job-in j (now given)) (plan-phase (wants .plan) (job-in j (now given)) (now plan)))) ≤ length (now answer) ⌝ }
     requires { ⌜ (search-work ≤ length (now points)) × (length (now sorted) ≡ candidate-room) ⌝ }
     requires { ⌜ Lent j (now edges) (now lanes) (now taps) (now points) (now counts) (now mask) (now scratch) ⌝ }
-    ensures { λ r. ⌜ Writes (record { answer = now (answer .entry); page = now (page .entry) }) (record { answer = now (answer .exit); page = now (page .exit) }) r (outputs-told wants (after-all wants (after-plan (job-in j (now (given .entry))) (planned (job-in j (now (given .entry))))))) ⌝ }
+    ensures { λ r. ⌜ Writes (record { answer = now (answer .entry); page = now (page .entry) }) (record { answer = now (answer .exit); page = now (page .exit) }) r (outputs-told wants (after-all wants (after-taking (job-in j (now (given .entry))) (plan-phase (wants .plan) (job-in j (now (given .entry))) (now (plan .entry)))))) ⌝ }
 {
     let offsets = plan_depths::corridor_depth_offsets(
         j.options,
@@ -86,26 +109,30 @@ pub fn draw_in(
         j.bundles,
         j.members,
     );
-    let s = planner::plan_interior_collectors(
-        j.options,
-        j.nodes,
-        j.ports,
-        j.edges,
-        j.bundles,
-        j.members,
-        offsets,
-        given,
-        j.flags.separates_collectors,
-        TapVisits(j.grants.tap_visits),
-        &mut sorted[..],
-        &mut points[..SEARCH_WORK],
-    );
-    if s.refused {
-        return answer::write_notice(&mut answer[..], 13);
+    let p = if wants.plan {
+        plan_reader::read_plan(plan, j.bundles.count, j.grants.tap_visits, j.flags.on_grid)
+    } else {
+        own_plan(planner::plan_interior_collectors(
+            j.options,
+            j.nodes,
+            j.ports,
+            j.edges,
+            j.bundles,
+            j.members,
+            offsets,
+            given,
+            j.flags.separates_collectors,
+            TapVisits(j.grants.tap_visits),
+            &mut sorted[..],
+            &mut points[..SEARCH_WORK],
+        ))
+    };
+    if p.number != 0 {
+        return answer::write_notice(&mut answer[..], p.number);
     }
-    let plan = s.plan;
-    let left = plan.left;
-    let rows = plan.rows;
+    let drawn_from = p.plan;
+    let left = drawn_from.left;
+    let rows = drawn_from.rows;
     let d = turns::draw_sheet(
         j.options,
         j.flags.permits_crossings,

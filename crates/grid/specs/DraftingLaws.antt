@@ -1,8 +1,8 @@
--- Which numbers are on the drafting grid of document 02, F-2: multiples of 1/64 with magnitude at most 2 ^ 20 (`on-drafting-grid`; any other gets 15), and the even whole number over 128 that such a number is.
+-- The whole number of parts that a number of a grid is (`multiple-within`), and for the drafting grid of document 02, F-2 (`on-drafting-grid`; any other number gets 15) the even whole number over 128.
 -- Assumes nothing.
 use mathlib.Core.Path.{_≡_, refl, sym, subst}
 use Prim.Native.Nat.{ℕ, suc, _+_, _*_, _/_, _%_, _^_, _≤_, _<_}
-use native.Mathlib.Nat.{le-trans, le-of-eq, mul-le-mul-right, le-of-mul-le-mul-right, div-add-mod'}
+use native.Mathlib.Nat.{le-trans, le-of-eq, mul-le-mul-right, mul-right-comm, le-of-mul-le-mul-right, div-add-mod'}
 use native.Mathlib.Omega.{arith}
 use mathlib.Core.Bool.{Bool, true, false, cond}
 use lib.IntN.{ℤ, pos, negsuc, natAbs, negℤ}
@@ -18,7 +18,7 @@ use Rattle.grid.specs.On.{on, at-most, Even}
 use Rattle.grid.specs.OnLaws.{on-zero}
 use Rattle.grid.specs.Operations.{le-on, is-on}
 use Rattle.binary64.specs.ExactOnGrid.{neg-size}
-use Rattle.grid.specs.DraftingGrid.{on-drafting-grid, sixty-fourths, units}
+use Rattle.grid.specs.DraftingGrid.{multiple-within, on-drafting-grid, parts-of, sixty-fourths, units}
 use Rattle.grid.specs.Lanes.{double-size, finer}
 
 pub units-even : (x : Float) → Even (units x)
@@ -27,46 +27,43 @@ units-even x = record { half = sixty-fourths x; is = refl }
 whole-part : (n d : ℕ) → T (eqb (n % d) 0) → n / d * d ≡ n
 whole-part n d t = let e = div-add-mod' n d in let z = eqb→eq (n % d) 0 t in omega arith
 
-pub at-sixty-fourths : (x : Float) → T (on-drafting-grid x) → At 6 x (sixty-fourths x)
-unfolding on-drafting-grid sixty-fourths
-at-sixty-fourths nan t = absurd t
-at-sixty-fourths (inf s) t = absurd t
-at-sixty-fourths (fin false m e) t =
-    let w = whole-part (m * up e * 64) (down e) (and-l (eqb (m * up e * 64 % down e) 0) (leb (m * up e) (2 ^ 20 * down e)) t) in
+pub at-parts : (g : ℕ) (x : Float) → T (multiple-within g x) → At g x (parts-of g x)
+unfolding multiple-within parts-of
+at-parts g nan t = absurd t
+at-parts g (inf s) t = absurd t
+at-parts g (fin false m e) t =
+    let w = whole-part (m * up e * 2 ^ g) (down e) (and-l (eqb (m * up e * 2 ^ g % down e) 0) (leb (m * up e) (2 ^ 20 * down e)) t) in
     record { is-finite = tt; is = omega (arith, w) }
-at-sixty-fourths (fin true m e) t =
-    let q = m * up e * 64 / down e in
-    let w = whole-part (m * up e * 64) (down e) (and-l (eqb (m * up e * 64 % down e) 0) (leb (m * up e) (2 ^ 20 * down e)) t) in
+at-parts g (fin true m e) t =
+    let q = m * up e * 2 ^ g / down e in
+    let w = whole-part (m * up e * 2 ^ g) (down e) (and-l (eqb (m * up e * 2 ^ g % down e) 0) (leb (m * up e) (2 ^ 20 * down e)) t) in
     record { is-finite = tt; is = rw (neg-plus (pos q), neg-less (pos q)) (omega (arith, w)) }
 
-small-part : (a q d : ℕ) → 0 < d → q * d ≡ a * 64 → a ≤ 2 ^ 20 * d → q ≤ 2 ^ 26
-small-part a q d D e h = le-of-mul-le-mul-right {k = d} (let k : a * 64 ≤ 2 ^ 20 * d * 64 = mul-le-mul-right 64 h in omega arith) D
+small-part : (a q d G : ℕ) → 0 < d → q * d ≡ a * G → a ≤ 2 ^ 20 * d → q ≤ 2 ^ 20 * G
+small-part a q d G D e h = le-of-mul-le-mul-right {k = d} (le-trans (le-of-eq e) (le-trans (mul-le-mul-right G h) (le-of-eq (mul-right-comm (2 ^ 20) d G)))) D
 
-pub sixty-fourths-small : (x : Float) → T (on-drafting-grid x) → natAbs (sixty-fourths x) ≤ 2 ^ 26
-unfolding on-drafting-grid sixty-fourths
-sixty-fourths-small nan t = absurd t
-sixty-fourths-small (inf s) t = absurd t
-sixty-fourths-small (fin s m e) t = go s
+pub parts-small : (g : ℕ) (x : Float) → T (multiple-within g x) → natAbs (parts-of g x) ≤ 2 ^ 20 * 2 ^ g
+unfolding multiple-within parts-of
+parts-small g nan t = absurd t
+parts-small g (inf s) t = absurd t
+parts-small g (fin s m e) t = go s
   where
-    q : ℕ
-    q = m * up e * 64 / down e
-
-    small : m * up e * 64 / down e ≤ 2 ^ 26
+    small : m * up e * 2 ^ g / down e ≤ 2 ^ 20 * 2 ^ g
     small =
-        let a = eqb (m * up e * 64 % down e) 0 in
+        let a = eqb (m * up e * 2 ^ g % down e) 0 in
         let b = leb (m * up e) (2 ^ 20 * down e) in
-        small-part (m * up e) (m * up e * 64 / down e) (down e) (down-pos e) (whole-part (m * up e * 64) (down e) (and-l a b t)) (leb→le (m * up e) (2 ^ 20 * down e) (and-r a b t))
+        small-part (m * up e) (m * up e * 2 ^ g / down e) (down e) (2 ^ g) (down-pos e) (whole-part (m * up e * 2 ^ g) (down e) (and-l a b t)) (leb→le (m * up e) (2 ^ 20 * down e) (and-r a b t))
 
-    go : (s : Bool) → natAbs (cond s (negℤ (pos (m * up e * 64 / down e))) (pos (m * up e * 64 / down e))) ≤ 2 ^ 26
-    go true = le-trans (le-of-eq (neg-size (pos (m * up e * 64 / down e)))) small
+    go : (s : Bool) → natAbs (cond s (negℤ (pos (m * up e * 2 ^ g / down e))) (pos (m * up e * 2 ^ g / down e))) ≤ 2 ^ 20 * 2 ^ g
+    go true = le-trans (le-of-eq (neg-size (pos (m * up e * 2 ^ g / down e)))) small
     go false = small
 
 pub units-small : (x : Float) → T (on-drafting-grid x) → natAbs (units x) ≤ 2 ^ 27
-units-small x t = let h = sixty-fourths-small x t in omega (arith, double-size (sixty-fourths x))
+units-small x t = let h = parts-small 6 x t in omega (arith, double-size (sixty-fourths x))
 
 -- the number is that whole number over 128
 pub units-back : (x : Float) → T (on-drafting-grid x) → Plain x → on (units x) ≡ x
-units-back x t p = sym (is-on x (units x) (let h = units-small x t in omega arith) p (finer 6 x (sixty-fourths x) (at-sixty-fourths x t)))
+units-back x t p = sym (is-on x (units x) (let h = units-small x t in omega arith) p (finer 6 x (sixty-fourths x) (at-parts 6 x t)))
 
 -- a number that is not below zero
 pub units-length : (x : Float) → T (on-drafting-grid x) → Plain x → T (le zero64 x) → less (units x) ≡ 0

@@ -2,11 +2,12 @@
 -- Assumes nothing.
 use mathlib.Core.Path.{_≡_, ap, _∙_, subst}
 use Prim.Native.Nat.{ℕ, _+_, _*_, _%_, _^_, _≤_}
-use native.Mathlib.Nat.{mul-mod-left, mul-le-mul-right}
+use native.Mathlib.Nat.{le-trans, le-of-eq, mul-mod-left, mul-le-mul-right, mul-right-comm, le-of-mul-le-mul-right}
 use native.Mathlib.Omega.{arith}
 use mathlib.Core.Bool.{true}
 use lib.IntN.{ℤ, natAbs}
 use lib.Dec.{T, eqb, leb, le→leb}
+use lib.Pow.{pow-pos}
 use lib.Ieee.{Float, nan, inf, fin, up, down}
 use lib.Ieee.Fits.{and-i, eq→eqb}
 use lib.Ieee.Positive.{den}
@@ -20,7 +21,7 @@ use Rattle.binary64.specs.ExactOnGrid.{at-size}
 use Rattle.grid.specs.On.{on, over-128, Even}
 use Rattle.grid.specs.OnLaws.{on-at}
 use Rattle.grid.specs.Lanes.{double-size, coarser}
-use Rattle.grid.specs.DraftingGrid.{on-drafting-grid}
+use Rattle.grid.specs.DraftingGrid.{multiple-within, on-drafting-grid, on-plan-grid}
 
 pub on-value : (z : ℤ) → Sameℚ (value (on z)) (over-128 z)
 on-value z =
@@ -35,18 +36,22 @@ on-value z =
     same a b c d o u e p l A B C D h = omega arith
 
 -- ---- back from the whole number to the test
-tested : (x : Float) (h : ℤ) → At 6 x h → natAbs h ≤ 2 ^ 26 → T (on-drafting-grid x)
-unfolding on-drafting-grid
-tested nan h a s = absurd (a .is-finite)
-tested (inf t) h a s = absurd (a .is-finite)
-tested (fin t m e) h a s =
-    let z : m * up e * 64 ≡ natAbs h * down e = at-size 6 (fin t m e) h a in
-    let r : m * up e * 64 % down e ≡ 0 = ap (λ (k : ℕ). k % down e) z ∙ mul-mod-left (natAbs h) (down e) in
-    let l : natAbs h * down e ≤ 2 ^ 26 * down e = mul-le-mul-right (down e) s in
-    and-i (eqb (m * up e * 64 % down e) 0) (leb (m * up e) (2 ^ 20 * down e)) (eq→eqb r) (le→leb (m * up e) (2 ^ 20 * down e) (omega arith))
+pub tested : (g : ℕ) (x : Float) (h : ℤ) → At g x h → natAbs h ≤ 2 ^ 20 * 2 ^ g → T (multiple-within g x)
+unfolding multiple-within
+tested g nan h a s = absurd (a .is-finite)
+tested g (inf t) h a s = absurd (a .is-finite)
+tested g (fin t m e) h a s =
+    let z : m * up e * 2 ^ g ≡ natAbs h * down e = at-size g (fin t m e) h a in
+    let r : m * up e * 2 ^ g % down e ≡ 0 = ap (λ (k : ℕ). k % down e) z ∙ mul-mod-left (natAbs h) (down e) in
+    let l : m * up e * 2 ^ g ≤ 2 ^ 20 * down e * 2 ^ g = le-trans (le-of-eq z) (le-trans (mul-le-mul-right (down e) s) (le-of-eq (mul-right-comm (2 ^ 20) (2 ^ g) (down e)))) in
+    and-i (eqb (m * up e * 2 ^ g % down e) 0) (leb (m * up e) (2 ^ 20 * down e)) (eq→eqb r) (le→leb (m * up e) (2 ^ 20 * down e) (le-of-mul-le-mul-right {k = 2 ^ g} l (pow-pos g)))
 
 pub even-is-drafting : (z : ℤ) → Even z → natAbs z ≤ 2 ^ 27 → on-drafting-grid (on z) ≡ true
 even-is-drafting z e s =
     let h = e .half in
     let k : natAbs h + natAbs h ≤ 2 ^ 27 = subst (λ (n : ℕ). n ≤ 2 ^ 27) (ap natAbs (e .is) ∙ double-size h) s in
-    is-true (on-drafting-grid (on z)) (tested (on z) h (coarser 6 (on z) h (subst (λ (w : ℤ). At 7 (on z) w) (e .is) (on-at z))) (omega arith))
+    is-true (on-drafting-grid (on z)) (tested 6 (on z) h (coarser 6 (on z) h (subst (λ (w : ℤ). At 7 (on z) w) (e .is) (on-at z))) (omega arith))
+
+-- a number of the grid of 1/128 that is at most 2 ^ 20
+pub near-is-planned : (z : ℤ) → natAbs z ≤ 2 ^ 27 → on-plan-grid (on z) ≡ true
+near-is-planned z s = is-true (on-plan-grid (on z)) (tested 7 (on z) z (on-at z) (omega arith))

@@ -1,14 +1,14 @@
--- How the drafting grid is tested: x raised by 1.5 * 2 ^ 46 is rounded to a 64th, so x is a multiple of 1/64 exactly if it comes back equal. And sums that are exact wherever their result has at most 53 digits.
+-- How a grid is tested: x raised by 1.5 * 2 ^ (52 - g) is rounded to a multiple of 1 / 2 ^ g, so x is one exactly if it comes back equal. And sums that are exact wherever their result has at most 53 digits.
 -- Assumes nothing.
 use mathlib.Core.Path.{_≡_, refl, sym, ap, _∙_, subst}
 use mathlib.Core.Logic.{inl, inr}
 use Prim.Native.Nat.{ℕ, zero, suc, _+_, _-_, _*_, _%_, _^_, _≤_, _<_}
-use native.Mathlib.Nat.{mul-le-mul-left, lt-irrefl, zero-mul, mul-comm, mul-assoc, mul-left-comm, add-mul, mul-pos, mul-mod-left, le-of-mul-le-mul-right, eq-of-mul-eq-mul-right, zero-lt-suc}
+use native.Mathlib.Nat.{mul-le-mul-left, mul-le-mul-right, mul-right-comm, lt-irrefl, one-mul, mul-one, zero-mul, pow-suc, mul-comm, mul-assoc, mul-left-comm, add-mul, mul-pos, mul-mod-left, le-of-mul-le-mul-right, eq-of-mul-eq-mul-right, zero-lt-suc}
 use native.Mathlib.Omega.{arith}
 use mathlib.Core.Bool.{Bool, true, false, not, _&&_, cond}
 use lib.IntN.{ℤ, pos, negsuc, natAbs, negℤ, _+ℤ_, _-ℤ_}
 use lib.Dec.{T, nleb→lt, ltb, leb, eqb, ltb→lt, leb→le, le→leb, lit≤}
-use lib.Pow.{pow-add, pow-mono}
+use lib.Pow.{pow-add, pow-pos, pow-mono}
 use lib.Ieee.{Float, nan, inf, fin, binary64, up, down, round, add, sub, neg, le, eq, fits}
 use lib.Ieee.Fits.{and-i, and-l, and-r, eq→eqb, down-pos, add-fits}
 use lib.Ieee.Positive.{num, den, den-pos}
@@ -25,8 +25,8 @@ use Rattle.binary64.specs.Integers.{by-parts, add-parts, neg-plus, neg-less}
 use Rattle.binary64.specs.ExactOnGrid.{at-size, round-on-grid, value-parts, neg-exact}
 use Rattle.grid.specs.GridArithmetic.{lt→Belowℤ}
 use Rattle.grid.specs.Operations.{add-size}
-use Rattle.grid.specs.DraftingLaws.{at-sixty-fourths, sixty-fourths-small}
-use Rattle.grid.specs.DraftingGrid.{on-drafting-grid, sixty-fourths}
+use Rattle.grid.specs.DraftingLaws.{at-parts, parts-small}
+use Rattle.grid.specs.DraftingGrid.{multiple-within, parts-of}
 
 -- ---- sums whose result has at most 53 digits
 balanced : (s t ox ux dx oy uy dy G pa la pb lb P L : ℕ)
@@ -86,135 +86,139 @@ at-of-equal g x y z t e a =
         let k' = simp (add-mul, mul-assoc, mul-comm, mul-left-comm) at (ap (λ (z : ℕ). z * dy) k) in
         eq-of-mul-eq-mul-right dx X (oy * G + l * dy) (p * dy + uy * G) (simp (add-mul, mul-assoc, mul-comm, mul-left-comm) (omega arith))
 
--- ---- 1.5 * 2 ^ 46
-abbrev pub raise : Float
-raise = fin false 3 (pos 45)
+-- ---- 1.5 * 2 ^ (52 - g)
+abbrev pub raise : ℕ → Float
+raise g = fin false 3 (pos (51 - g))
 
-raise-at : At 6 raise (pos (3 * 2 ^ 51))
-raise-at = record { is-finite = tt; is = refl }
+-- what is closed for each g: a number within 2 ^ 20 is raised to one between 2 ^ (52 - g) and 2 ^ (53 - g)
+pub record Raises (g : ℕ) : Type 0 where
+  pub small : g ≤ 1074
+  pub near : 2 ^ 20 * 2 ^ g ≤ 2 ^ 27
+  pub is-bottom : 2 ^ (52 - g) * 2 ^ g ≡ 2 ^ 52
+  pub is-top : 2 ^ (53 - g) * 2 ^ g ≡ 2 ^ 53
+  pub at : At g (raise g) (pos (3 * 2 ^ 51))
+  pub as-large : T (le (raise g) (raise g))
+  pub bottom-finite : T (finite (add binary64 (fin true 1 (pos 20)) (raise g)))
+  pub top-finite : T (finite (add binary64 (two-to 20) (raise g)))
+  pub bottom-raised : T (le (two-to (52 - g)) (add binary64 (fin true 1 (pos 20)) (raise g)))
+  pub top-raised : T (le (add binary64 (two-to 20) (raise g)) (two-to (53 - g)))
 
--- a number of the format from 2 ^ 46 on is a multiple of 1/64
-coarse-positive : (k i : ℕ) → k < 2 ^ 53 → 2 ^ 46 * 2 ^ suc i ≤ k → suc i ≤ 6
-coarse-positive k i h l = go (leb (suc i) 6) (leb→le (suc i) 6) (nleb→lt (suc i) 6)
+pub to-a-64th : Raises 6
+unfolding add le
+to-a-64th = record { small = lit≤ tt; near = lit≤ tt; is-bottom = refl; is-top = refl; at = record { is-finite = tt; is = refl }; as-large = tt; bottom-finite = tt; top-finite = tt; bottom-raised = tt; top-raised = tt }
+
+pub to-a-128th : Raises 7
+unfolding add le
+to-a-128th = record { small = lit≤ tt; near = lit≤ tt; is-bottom = refl; is-top = refl; at = record { is-finite = tt; is = refl }; as-large = tt; bottom-finite = tt; top-finite = tt; bottom-raised = tt; top-raised = tt }
+
+-- a number of the format from 2 ^ (52 - g) on is a multiple of 1 / 2 ^ g
+coarse-positive : (g P k i : ℕ) → P * 2 ^ g ≡ 2 ^ 52 → k < 2 ^ 53 → P * 2 ^ suc i ≤ k → suc i ≤ g
+coarse-positive g P k i e h l = go (leb (suc i) g) (leb→le (suc i) g) (nleb→lt (suc i) g)
   where
-    go : (t : Bool) → (T t → suc i ≤ 6) → (T (not t) → 6 < suc i) → suc i ≤ 6
-    go true f g = f tt
-    go false f g =
-        let p : 2 ^ 7 ≤ 2 ^ suc i = pow-mono (g tt) in
-        let q : 2 ^ 46 * 2 ^ 7 ≤ 2 ^ 46 * 2 ^ suc i = mul-le-mul-left (2 ^ 46) p in
+    go : (t : Bool) → (T t → suc i ≤ g) → (T (not t) → g < suc i) → suc i ≤ g
+    go true f u = f tt
+    go false f u =
+        let p : 2 ^ suc g ≤ 2 ^ suc i = pow-mono (u tt) in
+        let q : P * 2 ^ suc g ≤ P * 2 ^ suc i = mul-le-mul-left P p in
+        let r : P * 2 ^ suc g ≡ P * 2 ^ g * 2 = ap (λ (z : ℕ). P * z) (pow-suc 2 g) ∙ sym (mul-assoc P (2 ^ g) 2) in
         absurd (omega arith)
 
-coarse : (y : Float) → T (fits binary64 y) → T (finite y) → T (le (two-to 46) y) → (w : ℕ) × At 6 y (pos w)
+coarse : (g : ℕ) → Raises g → (y : Float) → T (fits binary64 y) → T (finite y) → T (le (two-to (52 - g)) y) → (w : ℕ) × At g y (pos w)
 unfolding fits
-coarse nan f p h = absurd p
-coarse (inf s) f p h = absurd p
-coarse (fin true m e) f p h = absurd (let a = le→at-most (two-to 46) (fin true m e) tt tt h in let d = down-pos e in low (m * up e) (down e) d a)
+coarse g R nan f p h = absurd p
+coarse g R (inf s) f p h = absurd p
+coarse g R (fin true m e) f p h = absurd (low (2 ^ (52 - g)) (m * up e) (down e) (pow-pos (52 - g)) (down-pos e) (le→at-most (two-to (52 - g)) (fin true m e) tt tt h))
   where
-    low : (a d : ℕ) → 0 < d → 2 ^ 46 * d + a * 1 ≤ 0 * 1 + 0 * d → ⊥
-    low a d D h = omega arith
-coarse (fin false zero e) f p h = absurd (let a = le→at-most (two-to 46) (fin false zero e) tt tt h in let d = down-pos e in low (up e) (down e) d a)
+    low : (P a d : ℕ) → 0 < P → 0 < d → 1 * P * d + a * 1 ≤ 0 * 1 + 0 * d → ⊥
+    low P a d p D h = let k = mul-pos p D in let q = simp (one-mul, mul-one, zero-mul) at h in omega arith
+coarse g R (fin false zero e) f p h = absurd (low (2 ^ (52 - g)) (up e) (down e) (pow-pos (52 - g)) (down-pos e) (le→at-most (two-to (52 - g)) (fin false zero e) tt tt h))
   where
-    low : (u d : ℕ) → 0 < d → 2 ^ 46 * d + 0 * 1 ≤ 0 * u * 1 + 0 * d → ⊥
-    low u d D h = omega (arith, zero-mul u)
-coarse (fin false (suc m) (pos i)) f p h = (suc m * 2 ^ i * 64, record { is-finite = tt; is = plain (suc m * 2 ^ i) })
+    low : (P u d : ℕ) → 0 < P → 0 < d → 1 * P * d + 0 * 1 ≤ 0 * u * 1 + 0 * d → ⊥
+    low P u d p D h = let k = mul-pos p D in let q = simp (one-mul, mul-one, zero-mul) at h in omega arith
+coarse g R (fin false (suc m) (pos i)) f p h = (suc m * 2 ^ i * 2 ^ g, record { is-finite = tt; is = plain (suc m * 2 ^ i) (2 ^ g) })
   where
-    plain : (a : ℕ) → a * 2 ^ 6 + 0 * 1 ≡ a * 64 * 1 + 0 * 2 ^ 6
-    plain a = omega arith
-coarse (fin false (suc m) (negsuc i)) f p h =
+    plain : (a G : ℕ) → a * G + 0 * 1 ≡ a * G * 1 + 0 * G
+    plain a G = omega arith
+coarse g R (fin false (suc m) (negsuc i)) f p h =
     let a = eqb (suc m % 2) 1 in
     let b = ltb (suc m) (2 ^ 53) in
     let c = leb (2 ^ suc i) (2 ^ 1074) in
     let d = ltb (suc m * 1) (2 ^ 1024 * 2 ^ suc i) in
     let k : suc m < 2 ^ 53 = ltb→lt (suc m) (2 ^ 53) (and-r a b (and-l (a && b) c (and-l (a && b && c) d f))) in
-    let l = le→at-most (two-to 46) (fin false (suc m) (negsuc i)) tt tt h in
-    let s : suc i ≤ 6 = coarse-positive (suc m) i k (large (suc m) (2 ^ suc i) l) in
-    let q : 2 ^ (6 - suc i) * 2 ^ suc i ≡ 2 ^ 6 = sym (pow-add 2 (6 - suc i) (suc i)) ∙ ap (λ (z : ℕ). 2 ^ z) (back (suc i) s) in
-    (suc m * 2 ^ (6 - suc i), record { is-finite = tt; is = plain (suc m) (2 ^ (6 - suc i)) (2 ^ suc i) q })
+    let l = le→at-most (two-to (52 - g)) (fin false (suc m) (negsuc i)) tt tt h in
+    let s : suc i ≤ g = coarse-positive g (2 ^ (52 - g)) (suc m) i (R .is-bottom) k (large (2 ^ (52 - g)) (suc m) (2 ^ suc i) l) in
+    let q : 2 ^ (g - suc i) * 2 ^ suc i ≡ 2 ^ g = sym (pow-add 2 (g - suc i) (suc i)) ∙ ap (λ (z : ℕ). 2 ^ z) (back (suc i) s) in
+    (suc m * 2 ^ (g - suc i), record { is-finite = tt; is = plain (suc m) (2 ^ (g - suc i)) (2 ^ suc i) (2 ^ g) q })
   where
-    large : (m d : ℕ) → 1 * 2 ^ 46 * d + 0 * 1 ≤ m * 1 * 1 + 0 * d → 2 ^ 46 * d ≤ m
-    large m d h = omega arith
+    large : (P m d : ℕ) → 1 * P * d + 0 * 1 ≤ m * 1 * 1 + 0 * d → P * d ≤ m
+    large P m d h = let q = simp (one-mul, mul-one, zero-mul) at h in omega arith
 
-    back : (j : ℕ) → j ≤ 6 → 6 - j + j ≡ 6
+    back : (j : ℕ) → j ≤ g → g - j + j ≡ g
     back j h = omega arith
 
-    plain : (m a d : ℕ) → a * d ≡ 2 ^ 6 → m * 1 * 2 ^ 6 + 0 * d ≡ m * a * d + 0 * 2 ^ 6
-    plain m a d e = let r : m * a * d ≡ m * 2 ^ 6 = mul-assoc m a d ∙ ap (λ (z : ℕ). m * z) e in omega arith
+    plain : (m a d G : ℕ) → a * d ≡ G → m * 1 * G + 0 * d ≡ m * a * d + 0 * G
+    plain m a d G e = let r : m * a * d ≡ m * G = mul-assoc m a d ∙ ap (λ (z : ℕ). m * z) e in simp (mul-one, zero-mul) (omega (arith, r))
 
 -- ---- the test
-bottom-raised : T (le (two-to 46) (add binary64 (fin true 1 (pos 20)) raise))
-unfolding add le
-bottom-raised = tt
-
-top-raised : T (le (add binary64 (two-to 20) raise) (two-to 47))
-unfolding add le
-top-raised = tt
-
 cancel : (h c : ℤ) → (h +ℤ c) -ℤ c ≡ h
 cancel h c = by-parts ((h +ℤ c) -ℤ c) h (omega (arith, add-parts h c, add-parts (h +ℤ c) (negℤ c), neg-plus c, neg-less c))
 
-module _ (x : Float) (f : T (fits binary64 x)) (p : T (finite x)) (low : T (le (fin true 1 (pos 20)) x)) (high : T (le x (two-to 20))) where
+module _ (g : ℕ) (R : Raises g) (x : Float) (f : T (fits binary64 x)) (p : T (finite x)) (low : T (le (fin true 1 (pos 20)) x)) (high : T (le x (two-to 20))) where
   abbrev raised : Float
-  raised = add binary64 x raise
+  raised = add binary64 x (raise g)
 
-  -- a multiple of 1/64 comes back
-  forth : (h : ℤ) → natAbs h ≤ 2 ^ 26 → At 6 x h → T (eq (sub binary64 (add binary64 x raise) raise) x)
+  abbrev bottom : Float
+  bottom = add binary64 (fin true 1 (pos 20)) (raise g)
+
+  abbrev top : Float
+  top = add binary64 (two-to 20) (raise g)
+
+  -- a multiple comes back
+  forth : (h : ℤ) → natAbs h ≤ 2 ^ 20 * 2 ^ g → At g x h → T (eq (sub binary64 (add binary64 x (raise g)) (raise g)) x)
   forth h s a =
       let c = pos (3 * 2 ^ 51) in
-      let y = sum-on-grid 6 x raise h c (lit≤ tt) (let k = add-size h c in omega arith) a raise-at in
-      let z = difference-on-grid 6 raised raise (h +ℤ c) c (lit≤ tt) (subst (λ (w : ℤ). natAbs w < 2 ^ 53) (sym (cancel h c)) (omega arith)) y raise-at in
-      at-equal 6 (sub binary64 raised raise) x h (subst (λ (w : ℤ). At 6 (sub binary64 raised raise) w) (cancel h c) z) a
+      let n = R .near in
+      let y = sum-on-grid g x (raise g) h c (R .small) (let k = add-size h c in omega arith) a (R .at) in
+      let z = difference-on-grid g raised (raise g) (h +ℤ c) c (R .small) (subst (λ (w : ℤ). natAbs w < 2 ^ 53) (sym (cancel h c)) (omega arith)) y (R .at) in
+      at-equal g (sub binary64 raised (raise g)) x h (subst (λ (w : ℤ). At g (sub binary64 raised (raise g)) w) (cancel h c) z) a
 
-  from : T (le (two-to 46) (add binary64 x raise))
-  from = le-trans-finite (two-to 46) (add binary64 (fin true 1 (pos 20)) raise) raised tt finite-low done bottom-raised step
-    where
-      finite-low : T (finite (add binary64 (fin true 1 (pos 20)) raise))
-      finite-low = unfold add in tt
+  from-bottom : T (le (add binary64 (fin true 1 (pos 20)) (raise g)) (add binary64 x (raise g)))
+  from-bottom = add-mono (fin true 1 (pos 20)) x (raise g) (raise g) tt p tt tt low (R .as-large)
 
-      step : T (le (add binary64 (fin true 1 (pos 20)) raise) (add binary64 x raise))
-      step = add-mono (fin true 1 (pos 20)) x raise raise tt p tt tt low (unfold le in tt)
+  up-to-top : T (le (add binary64 x (raise g)) (add binary64 (two-to 20) (raise g)))
+  up-to-top = add-mono x (two-to 20) (raise g) (raise g) p tt tt tt high (R .as-large)
 
-      up-to : T (le (add binary64 x raise) (add binary64 (two-to 20) raise))
-      up-to = add-mono x (two-to 20) raise raise p tt tt tt high (unfold le in tt)
+  raised-finite : T (finite (add binary64 x (raise g)))
+  raised-finite = subst T (sym (finite-between bottom top raised (R .bottom-finite) (R .top-finite) (is-true (le bottom raised) from-bottom) (is-true (le raised top) up-to-top))) tt
 
-      finite-high : T (finite (add binary64 (two-to 20) raise))
-      finite-high = unfold add in tt
+  from : T (le (two-to (52 - g)) (add binary64 x (raise g)))
+  from = le-trans-finite (two-to (52 - g)) bottom raised tt (R .bottom-finite) raised-finite (R .bottom-raised) from-bottom
 
-      done : T (finite (add binary64 x raise))
-      done = subst T (sym (finite-between (add binary64 (fin true 1 (pos 20)) raise) (add binary64 (two-to 20) raise) (add binary64 x raise) finite-low finite-high (is-true (le (add binary64 (fin true 1 (pos 20)) raise) (add binary64 x raise)) step) (is-true (le (add binary64 x raise) (add binary64 (two-to 20) raise)) up-to))) tt
+  to : T (le (add binary64 x (raise g)) (two-to (53 - g)))
+  to = le-trans-finite raised top (two-to (53 - g)) raised-finite (R .top-finite) tt up-to-top (R .top-raised)
 
-  raised-finite : T (finite (add binary64 x raise))
-  raised-finite = add-finite
-    where
-      step : T (le (add binary64 (fin true 1 (pos 20)) raise) (add binary64 x raise))
-      step = add-mono (fin true 1 (pos 20)) x raise raise tt p tt tt low (unfold le in tt)
-
-      up-to : T (le (add binary64 x raise) (add binary64 (two-to 20) raise))
-      up-to = add-mono x (two-to 20) raise raise p tt tt tt high (unfold le in tt)
-
-      add-finite : T (finite (add binary64 x raise))
-      add-finite = subst T (sym (finite-between (add binary64 (fin true 1 (pos 20)) raise) (add binary64 (two-to 20) raise) (add binary64 x raise) (unfold add in tt) (unfold add in tt) (is-true (le (add binary64 (fin true 1 (pos 20)) raise) (add binary64 x raise)) step) (is-true (le (add binary64 x raise) (add binary64 (two-to 20) raise)) up-to))) tt
-
-  to : T (le (add binary64 x raise) (two-to 47))
-  to = le-trans-finite (add binary64 x raise) (add binary64 (two-to 20) raise) (two-to 47) raised-finite (unfold add in tt) tt (add-mono x (two-to 20) raise raise p tt tt tt high (unfold le in tt)) top-raised
-
-  -- what comes back equal is a multiple of 1/64
-  back : T (eq (sub binary64 (add binary64 x raise) raise) x) → (h : ℤ) × At 6 x h
+  -- what comes back equal is a multiple
+  back : T (eq (sub binary64 (add binary64 x (raise g)) (raise g)) x) → (h : ℤ) × At g x h
   back e =
-      let r = coarse raised (add-fits binary64 x raise) raised-finite from in
+      let r = coarse g R raised (add-fits binary64 x (raise g)) raised-finite from in
       let w = r .0 in
-      let c = 3 * 2 ^ 51 in
+      let c = pos (3 * 2 ^ 51) in
       let k : w ≤ 2 ^ 53 = small w raised (r .1) raised-finite to in
-      let z = difference-on-grid 6 raised raise (pos w) (pos (3 * 2 ^ 51)) (lit≤ tt) (within-both w k) (r .1) raise-at in
-      (pos w -ℤ pos (3 * 2 ^ 51), at-of-equal 6 (sub binary64 raised raise) x (pos w -ℤ pos (3 * 2 ^ 51)) p e z)
+      let z = difference-on-grid g raised (raise g) (pos w) (pos (3 * 2 ^ 51)) (R .small) (within-both w k) (r .1) (R .at) in
+      (pos w -ℤ pos (3 * 2 ^ 51), at-of-equal g (sub binary64 raised (raise g)) x (pos w -ℤ pos (3 * 2 ^ 51)) p e z)
     where
-      small : (w : ℕ) (y : Float) → At 6 y (pos w) → T (finite y) → T (le y (two-to 47)) → w ≤ 2 ^ 53
+      small : (w : ℕ) (y : Float) → At g y (pos w) → T (finite y) → T (le y (two-to (53 - g))) → w ≤ 2 ^ 53
       small w y a t l =
-          let q = le→at-most y (two-to 47) t tt l in
-          let s = at-size 6 y (pos w) a in
-          le-of-mul-le-mul-right {k = den y} (bound w (num y) (over y) (under y) (den y) s (num-parts y) q (a .is)) (den-pos y)
+          let q = le→at-most y (two-to (53 - g)) t tt l in
+          le-of-mul-le-mul-right {k = den y} (bound w (over y) (under y) (den y) (2 ^ (53 - g)) (2 ^ g) (R .is-top) q (a .is)) (den-pos y)
         where
-          bound : (w n o u d : ℕ) → n * 2 ^ 6 ≡ w * d → n ≡ o + u → o * 1 + 0 * d ≤ 1 * 2 ^ 47 * d + u * 1 → o * 2 ^ 6 + 0 * d ≡ w * d + u * 2 ^ 6 → w * d ≤ 2 ^ 53 * d
-          bound w n o u d s p q i = omega arith
+          bound : (w o u d C G : ℕ) → C * G ≡ 2 ^ 53 → o * 1 + 0 * d ≤ 1 * C * d + u * 1 → o * G + 0 * d ≡ w * d + u * G → w * d ≤ 2 ^ 53 * d
+          bound w o u d C G e q i =
+              let p : o + 0 ≤ C * d + u = simp (one-mul, mul-one, zero-mul) at q in
+              let q' : o ≤ C * d + u = omega (arith, p) in
+              let r : o * G ≤ (C * d + u) * G = mul-le-mul-right G q' in
+              let s : (C * d + u) * G ≡ 2 ^ 53 * d + u * G = add-mul (C * d) u G ∙ ap (λ (z : ℕ). z + u * G) (mul-right-comm C d G ∙ ap (λ (z : ℕ). z * d) e) in
+              omega (arith, zero-mul d)
 
       within-both : (w : ℕ) → w ≤ 2 ^ 53 → natAbs (pos w -ℤ pos (3 * 2 ^ 51)) < 2 ^ 53
       within-both w h = go (ltb w (3 * 2 ^ 51)) (ltb→lt w (3 * 2 ^ 51))
@@ -235,36 +239,34 @@ in-size s m e = as-one (leb (m * up e) (2 ^ 20 * down e)) (le (fin true 1 (pos 2
     back true t = let a = le→at-most (fin true 1 (pos 20)) (fin true m e) tt tt (and-l (le (fin true 1 (pos 20)) (fin true m e)) (le (fin true m e) (two-to 20)) t) in le→leb (m * up e) (2 ^ 20 * down e) (omega arith)
     back false t = let a = le→at-most (fin false m e) (two-to 20) tt tt (and-r (le (fin true 1 (pos 20)) (fin false m e)) (le (fin false m e) (two-to 20)) t) in le→leb (m * up e) (2 ^ 20 * down e) (omega arith)
 
-multiple : (s : Bool) (m : ℕ) (e : ℤ) → T (fits binary64 (fin s m e)) → T (le (fin true 1 (pos 20)) (fin s m e)) → T (le (fin s m e) (two-to 20)) → eqb (m * up e * 64 % down e) 0 ≡ eq (sub binary64 (add binary64 (fin s m e) raise) raise) (fin s m e)
-unfolding on-drafting-grid
-multiple s m e f low high = as-one (eqb (m * up e * 64 % down e) 0) (eq (sub binary64 (add binary64 (fin s m e) raise) raise) (fin s m e)) to-it from-it
+multiple : (g : ℕ) → Raises g → (s : Bool) (m : ℕ) (e : ℤ) → T (fits binary64 (fin s m e)) → T (le (fin true 1 (pos 20)) (fin s m e)) → T (le (fin s m e) (two-to 20))
+    → eqb (m * up e * 2 ^ g % down e) 0 ≡ eq (sub binary64 (add binary64 (fin s m e) (raise g)) (raise g)) (fin s m e)
+unfolding multiple-within
+multiple g R s m e f low high = as-one (eqb (m * up e * 2 ^ g % down e) 0) (eq (sub binary64 (add binary64 (fin s m e) (raise g)) (raise g)) (fin s m e)) to-it from-it
   where
-    x : Float
-    x = fin s m e
-
     size : T (leb (m * up e) (2 ^ 20 * down e))
     size = subst T (sym (in-size s m e)) (and-i (le (fin true 1 (pos 20)) (fin s m e)) (le (fin s m e) (two-to 20)) low high)
 
-    to-it : T (eqb (m * up e * 64 % down e) 0) → T (eq (sub binary64 (add binary64 (fin s m e) raise) raise) (fin s m e))
+    to-it : T (eqb (m * up e * 2 ^ g % down e) 0) → T (eq (sub binary64 (add binary64 (fin s m e) (raise g)) (raise g)) (fin s m e))
     to-it t =
-        let g : T (eqb (m * up e * 64 % down e) 0 && leb (m * up e) (2 ^ 20 * down e)) = and-i (eqb (m * up e * 64 % down e) 0) (leb (m * up e) (2 ^ 20 * down e)) t size in
-        forth (fin s m e) f tt low high (sixty-fourths (fin s m e)) (sixty-fourths-small (fin s m e) g) (at-sixty-fourths (fin s m e) g)
+        let k : T (eqb (m * up e * 2 ^ g % down e) 0 && leb (m * up e) (2 ^ 20 * down e)) = and-i (eqb (m * up e * 2 ^ g % down e) 0) (leb (m * up e) (2 ^ 20 * down e)) t size in
+        forth g R (fin s m e) f tt low high (parts-of g (fin s m e)) (parts-small g (fin s m e) k) (at-parts g (fin s m e) k)
 
-    from-it : T (eq (sub binary64 (add binary64 (fin s m e) raise) raise) (fin s m e)) → T (eqb (m * up e * 64 % down e) 0)
+    from-it : T (eq (sub binary64 (add binary64 (fin s m e) (raise g)) (raise g)) (fin s m e)) → T (eqb (m * up e * 2 ^ g % down e) 0)
     from-it t =
-        let r = back (fin s m e) f tt low high t in
-        let z : m * up e * 64 ≡ natAbs (r .0) * down e = at-size 6 (fin s m e) (r .0) (r .1) in
-        let q : m * up e * 64 % down e ≡ 0 = ap (λ (k : ℕ). k % down e) z ∙ mul-mod-left (natAbs (r .0)) (down e) in
+        let r = back g R (fin s m e) f tt low high t in
+        let z : m * up e * 2 ^ g ≡ natAbs (r .0) * down e = at-size g (fin s m e) (r .0) (r .1) in
+        let q : m * up e * 2 ^ g % down e ≡ 0 = ap (λ (k : ℕ). k % down e) z ∙ mul-mod-left (natAbs (r .0)) (down e) in
         eq→eqb q
 
 -- THE TEST: within 2 ^ 20, and equal after it is raised and lowered again
-pub by-raising : (x : Float) → T (fits binary64 x) → on-drafting-grid x ≡ cond (le (fin true 1 (pos 20)) x && le x (two-to 20)) (eq (sub binary64 (add binary64 x raise) raise) x) false
-unfolding on-drafting-grid
-by-raising nan f = unfold le in refl
-by-raising (inf true) f = unfold le in refl
-by-raising (inf false) f = unfold le in refl
-by-raising (fin s m e) f =
-    ap (λ (t : Bool). eqb (m * up e * 64 % down e) 0 && t) (in-size s m e)
+pub by-raising : (g : ℕ) → Raises g → (x : Float) → T (fits binary64 x) → multiple-within g x ≡ cond (le (fin true 1 (pos 20)) x && le x (two-to 20)) (eq (sub binary64 (add binary64 x (raise g)) (raise g)) x) false
+unfolding multiple-within
+by-raising g R nan f = unfold le in refl
+by-raising g R (inf true) f = unfold le in refl
+by-raising g R (inf false) f = unfold le in refl
+by-raising g R (fin s m e) f =
+    ap (λ (t : Bool). eqb (m * up e * 2 ^ g % down e) 0 && t) (in-size s m e)
     ∙ go (le (fin true 1 (pos 20)) (fin s m e)) (le (fin s m e) (two-to 20)) refl refl
   where
     false-right : (t : Bool) → (t && false) ≡ false
@@ -275,7 +277,7 @@ by-raising (fin s m e) f =
     true-right true = refl
     true-right false = refl
 
-    go : (p q : Bool) → le (fin true 1 (pos 20)) (fin s m e) ≡ p → le (fin s m e) (two-to 20) ≡ q → (eqb (m * up e * 64 % down e) 0 && (p && q)) ≡ cond (p && q) (eq (sub binary64 (add binary64 (fin s m e) raise) raise) (fin s m e)) false
-    go true true a b = true-right (eqb (m * up e * 64 % down e) 0) ∙ multiple s m e f (subst T (sym a) tt) (subst T (sym b) tt)
-    go true false a b = false-right (eqb (m * up e * 64 % down e) 0)
-    go false q a b = false-right (eqb (m * up e * 64 % down e) 0)
+    go : (p q : Bool) → le (fin true 1 (pos 20)) (fin s m e) ≡ p → le (fin s m e) (two-to 20) ≡ q → (eqb (m * up e * 2 ^ g % down e) 0 && (p && q)) ≡ cond (p && q) (eq (sub binary64 (add binary64 (fin s m e) (raise g)) (raise g)) (fin s m e)) false
+    go true true a b = true-right (eqb (m * up e * 2 ^ g % down e) 0) ∙ multiple g R s m e f (subst T (sym a) tt) (subst T (sym b) tt)
+    go true false a b = false-right (eqb (m * up e * 2 ^ g % down e) 0)
+    go false q a b = false-right (eqb (m * up e * 2 ^ g % down e) 0)

@@ -11,7 +11,8 @@ use Rattle.geometry.specs.declared.Point.{Point}
 use Rattle.geometry.specs.Points.{Route}
 use Rattle.board.specs.declared.PlacedNode.{PlacedNode}
 use Rattle.board.specs.Board.{Board}
-use Rattle.job.specs.Job.{given-routes}
+use Rattle.job.specs.Job.{Job, given-routes, read-job}
+use Rattle.job.specs.Job as job
 use Rattle.job.specs.Sound.{accepted-sound}
 use Rattle.plan.specs.declared.Bound.{Bound}
 use Rattle.plan.specs.Plan as K
@@ -21,6 +22,7 @@ use Rattle.drawing.specs.Normal.{sheet-after}
 use Rattle.sorting.specs.Lists.{Every}
 use Rattle.ranges.specs.Coordinates.{OfPoint, OfTap, OfDrawn, OfPlaced}
 use Rattle.answer.specs.Answer.{Sheet}
+use Rattle.promise.specs.Stage as stage
 use Rattle.promise.specs.Stage.{Comes}
 use Rattle.promise.specs.Order.{drawn-of}
 use Rattle.last_shift.specs.Shift.{ShiftExact, NodesExact}
@@ -35,7 +37,6 @@ use Rattle.grid_plan.specs.Image as I
 use Rattle.grid_plan.specs.Sizes.{Placed, Length}
 use Rattle.grid_plan.specs.Sizes as sizes
 use Rattle.grid_plan.specs.OnGrid.{OnDraftingGrid}
-use Rattle.grid_plan.specs.Planning.{plan-near}
 use Rattle.grid_sheet.specs.Draw as W
 use Rattle.grid_sheet.specs.Image as M
 use Rattle.grid_sheet.specs.Sizes.{Kept, Tapped, KeptDrawn, Standing}
@@ -45,7 +46,7 @@ use Rattle.grid_sheet.specs.Whole.{sheet-drawn}
 use Rattle.grid_sheet.specs.WholeSheet.{drawing-on, drawing-of}
 use Rattle.grid_promise.specs.Grid.{whole-board, given, whole-plan}
 use Rattle.grid_promise.specs.Back.{board-back, routes-back, on-grid}
-use Rattle.grid_promise.specs.Whole.{plan-is}
+use Rattle.grid_promise.specs.Whole.{plan-is, own-near}
 
 -- ---- numbers: z / 128 with |z| up to 2 ^ 46
 abbrev G : Float → Type 0
@@ -121,16 +122,12 @@ module _ (b : Z.Board) (routes : List Z.Route) (good : OnDraftingGrid b routes) 
       (grid-shift 7 39 (omega arith) s (placed-on (h .whole) (h .stands)), grid-nodes 7 39 (omega arith) s (placed-on (h .whole) (h .stands)) sizes-on))
 
 -- ---- a job
-the-plan : K.Plan → K.Step → K.Plan
-the-plan d (K.going p) = p
-the-plan d (K.refused v) = d
 
-pub shift-exact : (bytes : List ℕ) (a : Sheet) (c : Comes bytes a) → c .said .flags .«on_grid» ≡ true
-    → ShiftExact (sheet-after (c .said .board) (c .sheet-made)) × NodesExact (sheet-after (c .said .board) (c .sheet-made))
-unfolding the-plan
-shift-exact bytes a c g =
-    let j = c .said in
-    let sound = accepted-sound bytes j (c .is-read) .0 in
+-- from every plan in whole numbers
+pub shift-exact : (bytes : List ℕ) (j : Job) → read-job bytes ≡ job.accepted j → j .flags .«on_grid» ≡ true → (q : P.Plan) → Every Placed (q .xs) → (u : S.Progress) → stage.sheet-drawn j (I.plan q) ≡ S.going u
+    → ShiftExact (sheet-after (j .board) u) × NodesExact (sheet-after (j .board) u)
+shift-exact bytes j is-read g q near u e =
+    let sound = accepted-sound bytes j is-read .0 in
     let B = whole-board j in
     let rs = given j in
     let good = on-grid j sound g in
@@ -138,11 +135,22 @@ shift-exact bytes a c g =
     let geometry = j .grants .«geometry_visits» in
     let board-is = board-back j sound g in
     let routes-are = routes-back j sound g in
-    let p = whole-plan j in
-    let same-plan : K.going (c .plan-made) ≡ K.going (I.plan p) = sym (c .is-planned) ∙ plan-is j sound g in
-    let xs-are : c .plan-made .xs ≡ map I.bound (p .xs) = ap (λ (s : K.Step). the-plan (c .plan-made) s .xs) same-plan in
-    let drawn : drawn-of (I.board B) allow (map I.route rs) (map I.bound (p .xs)) geometry ≡ S.going (c .sheet-made) =
-    ap (λ (b : Board). drawn-of b allow (map I.route rs) (map I.bound (p .xs)) geometry) board-is ∙ ap (λ (r : List Route). drawn-of (j .board) allow r (map I.bound (p .xs)) geometry) routes-are
-    ∙ ap (λ (xs : List Bound). drawn-of (j .board) allow (given-routes j) xs geometry) (sym xs-are) ∙ c .is-drawn in
-    subst (λ (b : Board). ShiftExact (sheet-after b (c .sheet-made)) × NodesExact (sheet-after b (c .sheet-made))) board-is
-    (exact-on B rs good (c .sheet-made) (wholly B rs good allow (p .xs) geometry (c .sheet-made) (plan-near B rs good (j .flags .«separates_collectors») (j .grants .«tap_visits»)) drawn))
+    let drawn : drawn-of (I.board B) allow (map I.route rs) (map I.bound (q .xs)) geometry ≡ S.going u =
+    ap (λ (b : Board). drawn-of b allow (map I.route rs) (map I.bound (q .xs)) geometry) board-is ∙ ap (λ (r : List Route). drawn-of (j .board) allow r (map I.bound (q .xs)) geometry) routes-are ∙ e in
+    subst (λ (b : Board). ShiftExact (sheet-after b u) × NodesExact (sheet-after b u)) board-is
+    (exact-on B rs good u (wholly B rs good allow (q .xs) geometry u near drawn))
+
+the-plan : K.Plan → K.Step → K.Plan
+the-plan d (K.going p) = p
+the-plan d (K.refused v) = d
+
+-- from our own
+pub own-shift-exact : (bytes : List ℕ) (a : Sheet) (c : Comes bytes a) → c .said .flags .«on_grid» ≡ true
+    → ShiftExact (sheet-after (c .said .board) (c .sheet-made)) × NodesExact (sheet-after (c .said .board) (c .sheet-made))
+unfolding the-plan
+own-shift-exact bytes a c g =
+    let j = c .said in
+    let sound = accepted-sound bytes j (c .is-read) .0 in
+    let same : K.going (c .plan-made) ≡ K.going (I.plan (whole-plan j)) = sym (c .is-planned) ∙ plan-is j sound g in
+    let is : c .plan-made ≡ I.plan (whole-plan j) = ap (the-plan (c .plan-made)) same in
+    shift-exact bytes j (c .is-read) g (whole-plan j) (own-near j sound g) (c .sheet-made) (ap (stage.sheet-drawn j) (sym is) ∙ c .is-drawn)

@@ -34,20 +34,29 @@ given j = whole-routes (given-routes j)
 abbrev pub whole-plan : Job → P.Plan
 whole-plan j = P.plan-of (whole-board j) (given j) (j .flags .«separates_collectors») (j .grants .«tap_visits»)
 
--- planned once on the given routes, then drawn
-abbrev pub whole-sheet : Job → W.Outcome
-whole-sheet j = sheet-drawn (whole-board j) (given j) (j .flags .«permits_crossings») (whole-plan j .xs) (j .grants .«geometry_visits»)
+-- drawn from a plan in whole numbers, then normalized
+abbrev pub whole-sheet-from : Job → P.Plan → W.Outcome
+whole-sheet-from j q = sheet-drawn (whole-board j) (given j) (j .flags .«permits_crossings») (q .xs) (j .grants .«geometry_visits»)
 
--- then normalized
+abbrev pub whole-job-from : Job → P.Plan → Told
+whole-job-from j q = after-sheet (whole-board j) (q .left) (whole-sheet-from j q)
+
+-- planned once on the given routes, then drawn, then normalized
+abbrev pub whole-sheet : Job → W.Outcome
+whole-sheet j = whole-sheet-from j (whole-plan j)
+
 abbrev pub whole-job : Job → Told
-whole-job j = after-sheet (whole-board j) (whole-plan j .left) (whole-sheet j)
+whole-job j = whole-job-from j (whole-plan j)
 
 -- ---- the same with each whole number over 128 as binary64
 
 -- the sheet before the last shift
+abbrev pub as-told-from : Job → P.Plan → W.Outcome → stage.Told
+as-told-from j q (W.refused e n) = stage.refused e
+as-told-from j q (W.going u) = stage.drawn (record { said = j; plan-used = I.plan q; sheet-made = progress u })
+
 abbrev pub as-told : Job → W.Outcome → stage.Told
-as-told j (W.refused e n) = stage.refused e
-as-told j (W.going u) = stage.drawn (record { said = j; plan-used = I.plan (whole-plan j); sheet-made = progress u })
+as-told j o = as-told-from j (whole-plan j) o
 
 -- the answer's bytes
 abbrev pub as-bytes : Job → Told → List ℕ
@@ -55,7 +64,9 @@ as-bytes j (refused e) = notice-bytes e
 as-bytes j (drawn taps geometry p) = answer-bytes (page-told (j .board) taps geometry (page p))
 
 -- ---- the statement
-pub record Grid (bytes answer : List ℕ) (j : Job) : Type 0 where
+
+-- a job in whole numbers
+pub record WholeJob (j : Job) : Type 0 where
   -- the board and the given routes in whole numbers over 128 are the job's
   pub board-is : I.board (whole-board j) ≡ j .board
   pub routes-are : map I.route (given j) ≡ given-routes j
@@ -63,6 +74,9 @@ pub record Grid (bytes answer : List ℕ) (j : Job) : Type 0 where
   pub on-grid : OnDraftingGrid (whole-board j) (given j)
   -- every number worked out, definition by definition; same place is equality, separation a distance of at least the pitch
   pub numbers-are : Numbers (whole-board j) (given j)
+
+pub record Grid (bytes answer : List ℕ) (j : Job) : Type 0 where
+  pub in-wholes : WholeJob j
   -- the plan is that in whole numbers, which has no refusal
   pub plan-is : planned j ≡ plan.going (I.plan (whole-plan j))
   -- the sheet before the last shift with the visits left, or the number of a refusal

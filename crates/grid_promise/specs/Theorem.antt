@@ -13,7 +13,8 @@ use Rattle.job.specs.Job as job
 use Rattle.job.specs.Sound.{accepted-sound}
 use Rattle.plan.specs.Plan as plan
 use Rattle.drawing.specs.Sheet.{Turn, Progress}
-use Rattle.answer.specs.Answer.{notice-bytes}
+use Rattle.drawing.specs.Normal as drawing
+use Rattle.answer.specs.Answer.{Sheet, notice-bytes}
 use Rattle.answer.specs.Stores.{answer-length, notice-length}
 use Rattle.ranges.specs.Thirteen.{is-refused}
 use Rattle.promise.specs.Stage.{answer-of, Told, planned, told, told-bytes, written, stage-of}
@@ -21,13 +22,12 @@ use Rattle.promise.specs.Due.{Stops, ten, eleven, twelve, Due, two, in-reading,
 use Rattle.promise.specs.Refusals.{ReaderNumber, reader-numbers, due-read}
 use Rattle.promise.specs.Flags.{on-grid-bit}
 use Rattle.promise.specs.Size.{Cause, a-refusal, a-sheet, cause, clamp-is, Room, too-short, enough, room-of, short, roomy, notice-byte, written-over}
-use Rattle.last_shift.specs.InAnswer.{Demand3InAnswer}
-use Rattle.grid_sheet.specs.AllNumbers.{numbers}
-use Rattle.grid_promise.specs.Grid.{whole-board, given, whole-sheet, as-told, OnGrid}
-use Rattle.grid_promise.specs.GridAnswer.{Demand3OnGrid}
-use Rattle.grid_promise.specs.Back.{board-back, routes-back, on-grid}
-use Rattle.grid_promise.specs.Whole.{plan-is, told-is, answer-is, read-so}
-use Rattle.grid_promise.specs.ExactShift.{shift-exact}
+use Rattle.last_shift.specs.InAnswer.{Carried, Demand3InAnswer}
+use Rattle.last_shift.specs.Shift.{ShiftExact, NodesExact}
+use Rattle.grid_promise.specs.Grid.{whole-sheet, as-told, OnGrid}
+use Rattle.grid_promise.specs.GridAnswer.{CarriedOnGrid, Demand3OnGrid}
+use Rattle.grid_promise.specs.Whole.{in-wholes, plan-is, told-is, answer-is, read-so}
+use Rattle.grid_promise.specs.ExactShift.{own-shift-exact}
 
 -- ---- number 13
 stops-13 : (b : Board) (allow : Bool) (t : Turn) (s : Progress) (n : ℕ) → Stops b allow t s n → n ≡ 13 → ⊥
@@ -74,10 +74,7 @@ grid bytes room any j e bit =
     let t : told bytes ≡ as-told j (whole-sheet j) = read-so bytes j e ∙ told-is j s g in
     let w = long-enough bytes room any in
     record {
-      board-is = board-back j s g;
-      routes-are = routes-back j s g;
-      on-grid = on-grid j s g;
-      numbers-are = numbers (whole-board j) (given j) (on-grid j s g);
+      in-wholes = in-wholes j s g;
       plan-is = plan-is j s g;
       told-is = t;
       answer-is = w ∙ ap told-bytes t ∙ answer-is j s g;
@@ -91,10 +88,14 @@ grid-in bytes buffer after n e h =
     (sym (ap (take n) e ∙ ap (λ (k : ℕ). take k (stage-of bytes buffer)) h ∙ written-over bytes buffer .at-front))
     (grid bytes (length buffer))
 
+-- where the last shift is exact, of the nodes too
+pub carried-on-grid : (b : Board) (s : drawing.Sheet) (a : Sheet) → Carried b s a → ShiftExact s × NodesExact s → CarriedOnGrid b s a
+carried-on-grid b s a k e = record { joints = k .joints (e .0); members-out = k .members-out (e .0) (e .1); stands = k .stands (e .0) }
+
 -- DEMAND 3 OF THE SHEET IN THE ANSWER, with no condition
 pub kept-on-grid : (bytes answer : List ℕ) → Demand3InAnswer bytes answer → Demand3OnGrid bytes answer
 kept-on-grid bytes answer h long forbidden bit =
     let k = h long forbidden in
     let c = k .kept .comes in
-    let e = shift-exact bytes (k .kept .sheet) c (on-grid-bit bytes (c .said) (c .is-read) bit) in
-    record { kept = k; joints = k .carried .joints (e .0); members-out = k .carried .members-out (e .0) (e .1); stands = k .carried .stands (e .0) }
+    let e = own-shift-exact bytes (k .kept .sheet) c (on-grid-bit bytes (c .said) (c .is-read) bit) in
+    record { kept = k; on-grid = carried-on-grid _ _ _ (k .carried) e }

@@ -7,7 +7,7 @@ ghost use mathlib.Core.Bool.{false};
 ghost use Prim.Native.Nat.{_≤_};
 ghost use lib.ListN.{length};
 ghost use Rattle.limits.specs.Limits.{max-edges, max-members, answer-room, page-room, point-numbers, tap-numbers, slot-numbers, candidate-room};
-ghost use Rattle.promise.specs.Stage.{told};
+ghost use Rattle.plan_stage.specs.Entries.{told-with};
 ghost use Rattle.outputs.specs.Outputs.{lacks, after-all, outputs-told};
 ghost use Rattle.draw_job.specs.JobTables.{Writes};
 use limits::ALL_SLOT_NUMBERS;
@@ -22,6 +22,7 @@ use outputs::Wants;
 pub fn read_and_draw(
     wants: Wants,
     job: &[u8],
+    plan: &[u8],
     given: &mut [f64],
     sorted: &mut [f64],
     edges: &mut [usize],
@@ -36,7 +37,7 @@ pub fn read_and_draw(
     requires { ⌜ (length (now given) ≡ point-numbers) × (answer-room ≤ length (now answer)) × (lacks (wants .page) (length (now page)) page-room ≡ false) ⌝ }
     requires { ⌜ length (now sorted) ≡ candidate-room ⌝ }
     requires { ⌜ (length (now edges) ≡ max-members) × (length (now lanes) ≡ max-members) × (length (now taps) ≡ tap-numbers) × (length (now counts) ≡ max-edges) × (length (now mask) ≡ max-edges) × (length (now scratch) ≡ slot-numbers) ⌝ }
-    ensures { λ r. ⌜ Writes (record { answer = now (answer .entry); page = now (page .entry) }) (record { answer = now (answer .exit); page = now (page .exit) }) r (outputs-told wants (after-all wants (told (now (job .entry))))) ⌝ }
+    ensures { λ r. ⌜ Writes (record { answer = now (answer .entry); page = now (page .entry) }) (record { answer = now (answer .exit); page = now (page .exit) }) r (outputs-told wants (after-all wants (told-with (wants .plan) (now (job .entry)) (now (plan .entry))))) ⌝ }
 {
     let r = job_reader::read_job(job, &mut given[..]);
     if !r.ok {
@@ -49,6 +50,7 @@ pub fn read_and_draw(
         return draw_job::draw_in(
             wants,
             r.job,
+            plan,
             &given[..],
             &mut sorted[..],
             &mut edges[..m],
@@ -66,6 +68,7 @@ pub fn read_and_draw(
     draw_job::draw_in(
         wants,
         r.job,
+        plan,
         &given[..],
         &mut sorted[..],
         &mut edges[..m],

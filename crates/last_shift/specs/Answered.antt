@@ -14,7 +14,19 @@ use Rattle.board.specs.declared.Edge.{Edge}
 use Rattle.board.specs.declared.Bundle.{Bundle}
 use Rattle.board.specs.declared.PlacedNode.{PlacedNode}
 use Rattle.board.specs.Board.{no-edge}
+use Rattle.binary64.specs.Plain.{Plain}
+use Rattle.sorting.specs.Lists.{Every}
+use Rattle.sorting.specs.Sorted.{every-map}
+use Rattle.job.specs.Job.{Job, read-job}
+use Rattle.job.specs.Job as job
+use Rattle.plan.specs.declared.Bound.{Bound}
+use Rattle.plan.specs.declared.Bound.the-variants.{None, At}
+use Rattle.plan.specs.Plan.{Plan}
+use Rattle.plan.specs.CarriedNumbers.{OfBound}
 use Rattle.plan.specs.SmallNumbers.{Small}
+use Rattle.drawing.specs.Sheet.{Progress}
+use Rattle.drawing.specs.Sheet as sheet
+use Rattle.ranges.specs.Extent.{OfFormat}
 use Rattle.drawing.specs.Build.{Drawn, route-at, no-drawn}
 use Rattle.drawing.specs.CleanChecks.{every-both}
 use Rattle.drawing.specs.Normal as drawing
@@ -22,17 +34,17 @@ use Rattle.drawing.specs.Normal.{sheet-after, moved, page-of, shifted-sheet}
 use Rattle.ranges.specs.Corridors.{Below}
 use Rattle.ranges.specs.Coordinates.{OfPoint, OfPlaced}
 use Rattle.answer.specs.Answer.{Line, Trunk, Sheet, lines-of}
-use Rattle.promise.specs.Stage.{Comes, page-told, tap-told, bundle-told, bundles-told}
+use Rattle.promise.specs.Stage.{Finished, answer-of, sheet-drawn, page-told, tap-told, bundle-told, bundles-told}
 use Rattle.promise.specs.Demand3 as before
-use Rattle.promise.specs.Demand3.{SegmentOf, OnBoth, OnlyAtTap, Kept, Demand3}
+use Rattle.promise.specs.Demand3.{SegmentOf, OnBoth, OnlyAtTap, KeptOnSheet, Kept, Demand3}
 use Rattle.promise.specs.Joints.{finite-of, every-point}
 use Rattle.promise.specs.Read.{readable}
-use Rattle.promise.specs.Ranges.{before-in, after-in}
+use Rattle.promise.specs.Ranges.{planned-in, before-range, after-range, before-format}
 use Rattle.last_shift.specs.Carry.{JointsOnly, mem-map}
 use Rattle.last_shift.specs.Moved.{joints-carry, all-carry, stands-carry}
 use Rattle.last_shift.specs.Close.{sheet-close}
 use Rattle.last_shift.specs.Axes.{by-axes}
-use Rattle.last_shift.specs.InAnswer.{PartOf, its-collector, its-spine, TapOnly, no-trunk, NoFalseJointIn, KeptInAnswer, Demand3InAnswer}
+use Rattle.last_shift.specs.InAnswer.{PartOf, its-collector, its-spine, TapOnly, no-trunk, NoFalseJointIn, Carried, KeptInAnswer, Demand3InAnswer}
 use Rattle.last_shift.specs.Shift.{corner-of, moves}
 
 -- ---- an answer's routes and bundles are those of the page
@@ -116,12 +128,6 @@ module _ (es : List Edge) (us : List Bundle) (rs : List Route) (ds : List Drawn)
       (part-out es (c .bundle) (getD ds k no-drawn) t (subst (λ (w : Trunk). PartOf w t) (c .is) g))
 
 -- ---- the whole
-told-joints : (bytes : List ℕ) (a : Sheet) (c : Comes bytes a) → JointsOnly (moved (sheet-after (c .said .board) (c .sheet-made)) .routes) (moved (sheet-after (c .said .board) (c .sheet-made)) .drawn) → NoFalseJointIn a
-unfolding page-told page-of
-told-joints bytes a c h =
-    let b = c .said .board in
-    let m = moved (sheet-after b (c .sheet-made)) in
-    subst NoFalseJointIn (sym (c .is-answer)) (record { with-routes = routes-told (b .edges) (b .bundles) (m .routes) (m .drawn) h; with-bundles = together-told (b .edges) (b .bundles) (m .routes) (m .drawn) h })
 
 -- the two cases of `moved`
 shifted-by : (s : drawing.Sheet) → moves s ≡ true → moved s ≡ shifted-sheet (corner-of s) s
@@ -132,34 +138,55 @@ still-as : (s : drawing.Sheet) → moves s ≡ false → moved s ≡ s
 unfolding moved
 still-as s e = rw e
 
--- how large the answer's numbers are
-placed-in : (bytes : List ℕ) (a : Sheet) (c : Comes bytes a) → OfPlaced (Below 33) (Below 33) (moved (sheet-after (c .said .board) (c .sheet-made)))
-unfolding page-of
-placed-in bytes a c = after-in bytes a c .0 .placed
+told-joints : (f : Finished) → JointsOnly (moved (sheet-after (f .said .board) (f .sheet-made)) .routes) (moved (sheet-after (f .said .board) (f .sheet-made)) .drawn) → NoFalseJointIn (answer-of f)
+unfolding page-told page-of
+told-joints f h =
+    let b = f .said .board in
+    let m = moved (sheet-after b (f .sheet-made)) in
+    record { with-routes = routes-told (b .edges) (b .bundles) (m .routes) (m .drawn) h; with-bundles = together-told (b .edges) (b .bundles) (m .routes) (m .drawn) h }
 
-of-kept : (bytes answer : List ℕ) → Kept bytes answer → KeptInAnswer bytes answer
-of-kept bytes answer k =
-    let c = k .comes in
-    let b = c .said .board in
-    let s = sheet-after b (c .sheet-made) in
-    let fit = readable bytes (c .said) (c .is-read) in
-    let old = before-in bytes (k .sheet) c .0 in
-    let new = placed-in bytes (k .sheet) c in
-    let sized = every-both (λ (n : PlacedNode). Small 30 (n .body .corner .x) × Small 30 (n .body .width)) (λ (n : PlacedNode). Small 30 (n .body .corner .y) × Small 30 (n .body .height)) (λ (n : PlacedNode). Within 30 (n .body .width) × Within 30 (n .body .height))
-    (λ n x y. (x .1 .0, y .1 .0)) (b .nodes) (fit .limits .numbers .nodes) (fit .limits .node-ys) in
-    record {
-      kept = k;
-      carried = record {
+-- of a job that is read and a sheet that is drawn, whatever the plan
+module _ (bytes : List ℕ) (j : Job) (is-read : read-job bytes ≡ job.accepted j) (p : Plan) (u : Progress) (is-drawn : sheet-drawn j p ≡ sheet.going u) (in-range : Every (OfBound (Within 30)) (p .xs)) (of-format : Every (OfBound OfFormat) (p .xs)) where
+  -- how large the answer's numbers are
+  placed-in : OfPlaced (Below 33) (Below 33) (moved (sheet-after (j .board) u))
+  unfolding page-of
+  placed-in = after-range bytes j is-read p u is-drawn in-range .placed
+
+  pub carried-of : KeptOnSheet j u → Carried (j .board) (sheet-after (j .board) u) (answer-of (record { said = j; plan-used = p; sheet-made = u }))
+  unfolding placed-in
+  carried-of k =
+      let b = j .board in
+      let s = sheet-after b u in
+      let fit = readable bytes j is-read in
+      let old = before-range bytes j is-read p u is-drawn in-range in
+      let new = placed-in in
+      let sized = every-both (λ (n : PlacedNode). Small 30 (n .body .corner .x) × Small 30 (n .body .width)) (λ (n : PlacedNode). Small 30 (n .body .corner .y) × Small 30 (n .body .height)) (λ (n : PlacedNode). Within 30 (n .body .width) × Within 30 (n .body .height))
+      (λ n x y. (x .1 .0, y .1 .0)) (b .nodes) (fit .limits .numbers .nodes) (fit .limits .node-ys) in
+      record {
         all-finite = finite-of (Below 33) (Below 33) (λ x k. k .is-finite) (λ y k. k .is-finite) (moved s .routes) (moved s .drawn) (every-point (OfPoint (Below 33) (Below 33)) (moved s .routes) (new .routes)) (new .drawn);
         is-shifted = λ z. shifted-by s z;
         is-still = λ z. still-as s z;
         close = λ z. sheet-close s old;
-        axes = λ x y. by-axes s old (before-in bytes (k .sheet) c .1) x y;
-        joints = λ e. told-joints bytes (k .sheet) c (joints-carry s e (record { with-routes = k .joints .with-routes; with-bundles = k .joints .with-bundles }));
-        members-out = λ e f. all-carry b (c .sheet-made) sized old new e f (k .joints);
+        axes = λ x y. by-axes s old (before-format bytes j is-read p u is-drawn of-format) x y;
+        joints = λ e. told-joints (record { said = j; plan-used = p; sheet-made = u }) (joints-carry s e (record { with-routes = k .joints .with-routes; with-bundles = k .joints .with-bundles }));
+        members-out = λ e f. all-carry b u sized old new e f (k .joints);
         stands = λ e i l q h. stands-carry s e i l q h;
-      };
+      }
+
+of-kept : (bytes answer : List ℕ) → Kept bytes answer → KeptInAnswer bytes answer
+of-kept bytes answer k =
+    let c = k .comes in
+    let j = c .said in
+    let h = planned-in bytes (k .sheet) c in
+    record {
+      kept = k;
+      carried = subst (Carried (j .board) (sheet-after (j .board) (c .sheet-made))) (sym (c .is-answer))
+          (carried-of bytes j (c .is-read) (c .plan-made) (c .sheet-made) (c .is-drawn) (h .0) (every-map (OfBound Plain) (OfBound OfFormat) (c .plan-made .xs) plain-format (h .1)) (k .on-sheet));
     }
+  where
+    plain-format : (x : Bound) → OfBound Plain x → OfBound OfFormat x
+    plain-format None e = tt
+    plain-format (At x) e = e .1
 
 -- THE THEOREM: whatever holds by demand 3 before the last shift, this holds of the sheet in the answer
 pub kept-in-answer : (bytes answer : List ℕ) → Demand3 bytes answer → Demand3InAnswer bytes answer

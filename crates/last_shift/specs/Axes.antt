@@ -14,9 +14,8 @@ use Rattle.drawing.specs.Normal.{Sheet, min-x, min-y}
 use Rattle.drawing.specs.CleanChecks.{every-both}
 use Rattle.ranges.specs.Corridors.{zero-bounded}
 use Rattle.ranges.specs.Coordinates.{OfPoint, OfTap, OfDrawn, OfPlaced}
-use Rattle.ranges.specs.Extent.{InX, InY}
+use Rattle.ranges.specs.Extent.{OfFormat, InX, InY}
 use Rattle.ranges.specs.Page.{corner-fine, placed-weaker}
-use Rattle.binary64.specs.Plain.{Plain}
 use Rattle.last_shift.specs.Still.{zero-less}
 use Rattle.last_shift.specs.Shift.{ExactLess, ShiftExact, without-nodes, Any}
 
@@ -48,12 +47,12 @@ not-false true e = tt
 not-false false e = subst T e tt
 
 -- o is 0
-still : (o x : Float) → Bounded 2414870528 o → ne o zero64 ≡ false → Bounded 2414870528 x → Plain x → ExactLess o x
+still : (o x : Float) → Bounded 2414870528 o → ne o zero64 ≡ false → Bounded 2414870528 x → OfFormat x → ExactLess o x
 unfolding ne
-still o x a e b p = zero-less o x (a .is-finite) (b .is-finite) (p .1) (eq→Sameℚ o zero64 (a .is-finite) tt (not-false (eq o zero64) e))
+still o x a e b p = zero-less o x (a .is-finite) (b .is-finite) p (eq→Sameℚ o zero64 (a .is-finite) tt (not-false (eq o zero64) e))
 
--- THE CONDITION by axes: of numbers as `before-in` of crate promise has them
-pub by-axes : (s : Sheet) → OfPlaced InX InY s → OfPlaced Plain Plain s
+-- THE CONDITION by axes: of numbers as `before-range` and `before-format` of crate promise have them
+pub by-axes : (s : Sheet) → OfPlaced InX InY s → OfPlaced OfFormat OfFormat s
     → (ne (min-x s) zero64 ≡ true → OfPlaced (ExactLess (min-x s)) Any (without-nodes s)) → (ne (min-y s) zero64 ≡ true → OfPlaced Any (ExactLess (min-y s)) (without-nodes s)) → ShiftExact s
 by-axes s h p ex ey moved =
     let B : Float → Type 0 = λ x. Bounded 2414870528 x in
@@ -62,14 +61,14 @@ by-axes s h p ex ey moved =
     let EX = ExactLess (min-x s) in
     let EY = ExactLess (min-y s) in
     let hs = lines-of InX InY s h in
-    let ps = lines-of Plain Plain s p in
+    let ps = lines-of OfFormat OfFormat s p in
     let k = lines-both EX Any Any EY EX EY (λ x a b. a) (λ y a b. b) s (on-x (o .0) wide (ne (min-x s) zero64) refl hs ps) (on-y (o .1) (ne (min-y s) zero64) refl hs ps) in
     record { on-routes = k .routes; of-bundles = k .drawn }
   where
-    on-x : Bounded 2414870528 (min-x s) → ((x : Float) → InX x → Bounded 2414870528 x) → (t : Bool) → ne (min-x s) zero64 ≡ t → OfPlaced InX InY (without-nodes s) → OfPlaced Plain Plain (without-nodes s) → OfPlaced (ExactLess (min-x s)) Any (without-nodes s)
+    on-x : Bounded 2414870528 (min-x s) → ((x : Float) → InX x → Bounded 2414870528 x) → (t : Bool) → ne (min-x s) zero64 ≡ t → OfPlaced InX InY (without-nodes s) → OfPlaced OfFormat OfFormat (without-nodes s) → OfPlaced (ExactLess (min-x s)) Any (without-nodes s)
     on-x a wide true z hs ps = ex z
-    on-x a wide false z hs ps = lines-both InX InY Plain Plain (ExactLess (min-x s)) Any (λ x u v. still (min-x s) x a z (wide x u) v) (λ y u v. tt) s hs ps
+    on-x a wide false z hs ps = lines-both InX InY OfFormat OfFormat (ExactLess (min-x s)) Any (λ x u v. still (min-x s) x a z (wide x u) v) (λ y u v. tt) s hs ps
 
-    on-y : Bounded 2414870528 (min-y s) → (t : Bool) → ne (min-y s) zero64 ≡ t → OfPlaced InX InY (without-nodes s) → OfPlaced Plain Plain (without-nodes s) → OfPlaced Any (ExactLess (min-y s)) (without-nodes s)
+    on-y : Bounded 2414870528 (min-y s) → (t : Bool) → ne (min-y s) zero64 ≡ t → OfPlaced InX InY (without-nodes s) → OfPlaced OfFormat OfFormat (without-nodes s) → OfPlaced Any (ExactLess (min-y s)) (without-nodes s)
     on-y a true z hs ps = ey z
-    on-y a false z hs ps = lines-both InX InY Plain Plain Any (ExactLess (min-y s)) (λ x u v. tt) (λ y u v. still (min-y s) y a z u v) s hs ps
+    on-y a false z hs ps = lines-both InX InY OfFormat OfFormat Any (ExactLess (min-y s)) (λ x u v. tt) (λ y u v. still (min-y s) y a z u v) s hs ps

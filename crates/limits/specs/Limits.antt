@@ -47,6 +47,10 @@ job-room = 65536
 abbrev pub answer-room : ℕ
 answer-room = 65536
 
+-- F-5, "number 2": the plan's buffer has room for the largest plan: length, version, visits left, and for each bundle a mark and a number
+abbrev pub plan-room : ℕ
+plan-room = 4 + 1 + 4 + 9 * max-bundles
+
 -- ---- tables
 
 -- the keys of a table: as many as the longest has rows

@@ -33,6 +33,10 @@ pub const JOB_ROOM: usize = 65536;
 // The bytes that the answer's buffer has at least.
 pub const ANSWER_ROOM: usize = 65536;
 
+// The bytes that a plan's buffer has at least: length, version, visits left, and for each bundle a
+// mark and a number.
+pub const PLAN_ROOM: usize = 4 + 1 + 4 + 9 * MAX_BUNDLES;
+
 // ---- tables
 
 // The keys of a table: as many as the longest has rows.

@@ -1,4 +1,4 @@
--- What stage_sheet writes at the front of the answer's buffer: nothing, what `stage` writes, or the notice of 16. With it go the promises about the answer's bytes.
+-- What stage_sheet writes at the front of the answer's buffer: nothing, what the job comes to with the plan that is given or with our own, or the notice of 16. With it go the promises about the answer's bytes.
 -- Assumes nothing.
 use Prim.Native.Nat.{ℕ, _≤_, _<_}
 use mathlib.Core.Path.{_≡_, refl, sym, ap, _∙_, subst}
@@ -15,24 +15,29 @@ use Rattle.answer.specs.Stores.{notice-length, answer-length}
 use Rattle.job.specs.Job.{Job, read-job}
 use Rattle.job.specs.Job as job
 use Rattle.promise.specs.Stage.{answer-of, Told, refused, drawn, told, told-bytes, written}
-use Rattle.promise.specs.Size.{Cause, a-refusal, a-sheet, cause, roomy, written-size, over}
+use Rattle.promise.specs.Size.{roomy, over}
 use Rattle.promise.specs.Flags.{on-grid-bit}
 use Rattle.promise.specs.Demand3.{Demand3}
 use Rattle.promise.specs.Demand.{demand-3}
 use Rattle.last_shift.specs.InAnswer.{Demand3InAnswer}
 use Rattle.last_shift.specs.Answered.{kept-in-answer}
-use Rattle.grid_promise.specs.Grid.{OnGrid}
+use Rattle.grid_promise.specs.Grid.{grid-bit, OnGrid}
 use Rattle.grid_promise.specs.GridAnswer.{Demand3OnGrid}
 use Rattle.grid_promise.specs.Theorem.{grid, kept-on-grid}
 use Rattle.bundle_page.specs.AnswerPage.{answer-page}
+use Rattle.plan_stage.specs.Entries.{told-with, draw-written}
+use Rattle.plan_stage.specs.PlanDemand3.{Demand3From, OnGridFrom, PromisedFrom}
+use Rattle.plan_stage.specs.InTurn.{own-told}
+use Rattle.plan_stage.specs.EitherPlan.{CauseWith, a-refusal, a-sheet, cause-with, told-size}
+use Rattle.plan_stage.specs.EveryPlan.{draw-roomy, kept-in-answer-from, kept-on-grid-from, promised-from}
 use Rattle.outputs.specs.declared.Wants.{Wants}
 use Rattle.outputs.specs.Outputs.{nothing, wants-of, lacks, too-short, after-all, outputs-told, outputs-of}
 
 -- what the front of the answer's buffer is
-pub data Front (bytes : List ℕ) (room : ℕ) (front : List ℕ) : Type 0 where
-  untouched : front ≡ [] → Front bytes room front
-  as-stage : front ≡ written bytes room → Front bytes room front
-  off-grid : answer-room ≤ room → front ≡ notice-bytes 16 → (j : Job) → read-job bytes ≡ job.accepted j → j .flags .«on_grid» ≡ false → Front bytes room front
+pub data Front (given : Bool) (bytes plan : List ℕ) (room : ℕ) (front : List ℕ) : Type 0 where
+  untouched : front ≡ [] → Front given bytes plan room front
+  as-told : answer-room ≤ room → front ≡ told-bytes (told-with given bytes plan) → Front given bytes plan room front
+  off-grid : answer-room ≤ room → front ≡ notice-bytes 16 → (j : Job) → read-job bytes ≡ job.accepted j → j .flags .«on_grid» ≡ false → Front given bytes plan room front
 
 not-off : (a b : Bool) → (a && not b) ≡ true → b ≡ false
 not-off true true e = absurd (true≢false (sym e))
@@ -69,56 +74,58 @@ long-page w answer page e = go (ltb answer answer-room) e
     go true e = absurd (true≢false e)
     go false e = e
 
-told-front : (w : Wants) (bytes : List ℕ) (room : ℕ) → answer-room ≤ room → (t : Told) → Cause bytes t → told-bytes t ≡ written bytes room → Front bytes room (outputs-told w (after-all w t) .answer)
+told-front : (w : Wants) (given : Bool) (bytes plan : List ℕ) (room : ℕ) → answer-room ≤ room → (t : Told) → CauseWith given bytes plan t → t ≡ told-with given bytes plan → Front given bytes plan room (outputs-told w (after-all w t) .answer)
 unfolding after-all outputs-told told-bytes
-told-front w bytes room h t (a-refusal n l d) e = as-stage e
-told-front w bytes room h t (a-sheet f c) e = go (w .page && not (f .said .flags .«on_grid»)) refl
+told-front w given bytes plan room h t (a-refusal n) e = as-told h (ap told-bytes e)
+told-front w given bytes plan room h t (a-sheet f c) e = go (w .page && not (f .said .flags .«on_grid»)) refl
   where
-    go : (b : Bool) → (w .page && not (f .said .flags .«on_grid»)) ≡ b → Front bytes room (outputs-told w (cond b (refused 16) (drawn f)) .answer)
+    go : (b : Bool) → (w .page && not (f .said .flags .«on_grid»)) ≡ b → Front given bytes plan room (outputs-told w (cond b (refused 16) (drawn f)) .answer)
     go true g = off-grid h refl (f .said) (c .is-read) (not-off (w .page) (f .said .flags .«on_grid») g)
-    go false g = as-stage e
+    go false g = as-told h (ap told-bytes e)
 
-pub front-of : (mask : ℕ) (bytes : List ℕ) (answer page : ℕ) → Front bytes answer (outputs-of mask bytes answer page .answer)
+pub front-of : (mask : ℕ) (bytes plan : List ℕ) (answer page : ℕ) → Front (wants-of mask .plan) bytes plan answer (outputs-of mask bytes plan answer page .answer)
 unfolding outputs-of
-front-of mask bytes answer page = go (too-short (wants-of mask) answer page) refl
+front-of mask bytes plan answer page = go (too-short (wants-of mask) answer page) refl
   where
-    go : (b : Bool) → too-short (wants-of mask) answer page ≡ b → Front bytes answer (cond b nothing (outputs-told (wants-of mask) (after-all (wants-of mask) (told bytes))) .answer)
+    given : Bool
+    given = wants-of mask .plan
+
+    go : (b : Bool) → too-short (wants-of mask) answer page ≡ b → Front (wants-of mask .plan) bytes plan answer (cond b nothing (outputs-told (wants-of mask) (after-all (wants-of mask) (told-with (wants-of mask .plan) bytes plan))) .answer)
     go true e = untouched refl
-    go false e =
-        let h = long-answer (wants-of mask) answer page e in
-        told-front (wants-of mask) bytes answer h (told bytes) (cause bytes) (sym (roomy bytes answer h))
+    go false e = told-front (wants-of mask) (wants-of mask .plan) bytes plan answer (long-answer (wants-of mask) answer page e) (told-with (wants-of mask .plan) bytes plan) (cause-with (wants-of mask .plan) bytes plan) refl
 
 -- ---- what is left untouched
 
 -- a refusal writes no other output
-pub refusal-untouched : (mask : ℕ) (bytes : List ℕ) (answer page : ℕ) → length (outputs-of mask bytes answer page .answer) ≤ 6 → outputs-of mask bytes answer page .page ≡ []
+pub refusal-untouched : (mask : ℕ) (bytes plan : List ℕ) (answer page : ℕ) → length (outputs-of mask bytes plan answer page .answer) ≤ 6 → outputs-of mask bytes plan answer page .page ≡ []
 unfolding outputs-of outputs-told
-refusal-untouched mask bytes answer page h = go (too-short (wants-of mask) answer page) h
+refusal-untouched mask bytes plan answer page h = go (too-short (wants-of mask) answer page) h
   where
     of-told : (t : Told) → length (outputs-told (wants-of mask) t .answer) ≤ 6 → outputs-told (wants-of mask) t .page ≡ []
     of-told (refused n) h = refl
     of-told (drawn f) h = absurd (omega (arith, h, answer-length (answer-of f)))
 
-    go : (b : Bool) → length (cond b nothing (outputs-told (wants-of mask) (after-all (wants-of mask) (told bytes))) .answer) ≤ 6
-        → cond b nothing (outputs-told (wants-of mask) (after-all (wants-of mask) (told bytes))) .page ≡ []
+    go : (b : Bool) → length (cond b nothing (outputs-told (wants-of mask) (after-all (wants-of mask) (told-with (wants-of mask .plan) bytes plan))) .answer) ≤ 6
+        → cond b nothing (outputs-told (wants-of mask) (after-all (wants-of mask) (told-with (wants-of mask .plan) bytes plan))) .page ≡ []
     go true h = refl
-    go false h = of-told (after-all (wants-of mask) (told bytes)) h
+    go false h = of-told (after-all (wants-of mask) (told-with (wants-of mask .plan) bytes plan)) h
 
 -- nor is one written that is not wanted
-pub unwanted-untouched : (mask : ℕ) (bytes : List ℕ) (answer page : ℕ) → wants-of mask .page ≡ false → outputs-of mask bytes answer page .page ≡ []
+pub unwanted-untouched : (mask : ℕ) (bytes plan : List ℕ) (answer page : ℕ) → wants-of mask .page ≡ false → outputs-of mask bytes plan answer page .page ≡ []
 unfolding outputs-of outputs-told
-unwanted-untouched mask bytes answer page h = go (too-short (wants-of mask) answer page)
+unwanted-untouched mask bytes plan answer page h = go (too-short (wants-of mask) answer page)
   where
     of-told : (t : Told) → outputs-told (wants-of mask) t .page ≡ []
     of-told (refused n) = refl
     of-told (drawn f) = ap (λ (b : Bool). cond b (answer-page id-columns (answer-of f)) []) h
 
-    go : (b : Bool) → cond b nothing (outputs-told (wants-of mask) (after-all (wants-of mask) (told bytes))) .page ≡ []
+    go : (b : Bool) → cond b nothing (outputs-told (wants-of mask) (after-all (wants-of mask) (told-with (wants-of mask .plan) bytes plan))) .page ≡ []
     go true = refl
-    go false = of-told (after-all (wants-of mask) (told bytes))
+    go false = of-told (after-all (wants-of mask) (told-with (wants-of mask .plan) bytes plan))
 
 -- ---- the promises about the answer's bytes
 
+-- of our own plan
 pub record Promised (bytes front : List ℕ) : Type 0 where
   pub demand : Demand3 bytes front
   pub in-answer : Demand3InAnswer bytes front
@@ -130,40 +137,72 @@ with-all bytes front d g =
     let i = kept-in-answer bytes front d in
     record { demand = d; in-answer = i; on-grid = g; in-answer-on-grid = kept-on-grid bytes front i }
 
+with-all-from : (bytes plan front : List ℕ) → Demand3From bytes plan front → OnGridFrom bytes plan front → PromisedFrom bytes plan front
+with-all-from bytes plan front d g =
+    let i = kept-in-answer-from bytes plan front d in
+    record { demand = d; in-answer = i; on-grid = g; in-answer-on-grid = kept-on-grid-from bytes plan front i }
+
 same-job : (i j : Job) → _≡_ {A = job.Outcome} (job.accepted i) (job.accepted j) → i ≡ j
 same-job i j e = cc
 
-pub promised : (bytes : List ℕ) (room : ℕ) (front : List ℕ) → Front bytes room front → Promised bytes front
-promised bytes room front (untouched e) = subst (Promised bytes) (sym e) (with-all bytes [] (λ h. absurd (omega arith)) (λ h. absurd (omega arith)))
-promised bytes room front (as-stage e) = subst (Promised bytes) (sym e) (with-all bytes (written bytes room) (demand-3 bytes room) (grid bytes room))
-promised bytes room front (off-grid h e j r f) =
+-- bit 2 is clear
+clear : (bytes : List ℕ) (j : Job) → read-job bytes ≡ job.accepted j → j .flags .«on_grid» ≡ false → (i : Job) → read-job bytes ≡ job.accepted i → grid-bit bytes ≡ 1 → ⊥
+clear bytes j r f i q bit = true≢false (sym (on-grid-bit bytes i q bit) ∙ ap (λ (k : Job). k .flags .«on_grid») (same-job i j (sym q ∙ r)) ∙ f)
+
+pub promised : (bytes plan : List ℕ) (room : ℕ) (front : List ℕ) → Front false bytes plan room front → Promised bytes front
+promised bytes plan room front (untouched e) = subst (Promised bytes) (sym e) (with-all bytes [] (λ h. absurd (omega arith)) (λ h. absurd (omega arith)))
+promised bytes plan room front (as-told h e) = subst (Promised bytes) (sym (e ∙ ap told-bytes (own-told bytes plan) ∙ sym (roomy bytes room h))) (with-all bytes (written bytes room) (demand-3 bytes room) (grid bytes room))
+promised bytes plan room front (off-grid h e j r f) =
     subst (Promised bytes) (sym e)
-    (with-all bytes (notice-bytes 16) (λ long. absurd (omega (arith, long, notice-length 16)))
-    (λ any i q bit. absurd (true≢false (sym (on-grid-bit bytes i q bit) ∙ ap (λ (k : Job). k .flags .«on_grid») (same-job i j (sym q ∙ r)) ∙ f))))
+    (with-all bytes (notice-bytes 16) (λ long. absurd (omega (arith, long, notice-length 16))) (λ any i q bit. absurd (clear bytes j r f i q bit)))
+
+pub promised-with : (bytes plan : List ℕ) (room : ℕ) (front : List ℕ) → Front true bytes plan room front → PromisedFrom bytes plan front
+promised-with bytes plan room front (untouched e) = subst (PromisedFrom bytes plan) (sym e) (with-all-from bytes plan [] (λ h. absurd (omega arith)) (λ h. absurd (omega arith)))
+promised-with bytes plan room front (as-told h e) = subst (PromisedFrom bytes plan) (sym (e ∙ sym (draw-roomy bytes plan room h))) (promised-from bytes plan room)
+promised-with bytes plan room front (off-grid h e j r f) =
+    subst (PromisedFrom bytes plan) (sym e)
+    (with-all-from bytes plan (notice-bytes 16) (λ long. absurd (omega (arith, long, notice-length 16))) (λ any i q bit. absurd (clear bytes j r f i q bit)))
 
 -- it fits into the buffer
-pub fits : (bytes : List ℕ) (room : ℕ) (front : List ℕ) → Front bytes room front → length front ≤ room
-fits bytes room front (untouched e) = rw e (omega arith)
-fits bytes room front (as-stage e) = rw e (written-size bytes room .1)
-fits bytes room front (off-grid h e j r f) = rw e (omega (arith, notice-length 16))
+pub fits : (given : Bool) (bytes plan : List ℕ) (room : ℕ) (front : List ℕ) → Front given bytes plan room front → length front ≤ room
+fits given bytes plan room front (untouched e) = rw e (omega arith)
+fits given bytes plan room front (as-told h e) = let s = told-size given bytes plan in rw e (omega arith)
+fits given bytes plan room front (off-grid h e j r f) = rw e (omega (arith, notice-length 16))
+
+pub at-front : (given : Bool) (bytes plan buffer front after : List ℕ) (n : ℕ) → Front given bytes plan (length buffer) front → after ≡ sets buffer 0 front → n ≡ length front → take n after ≡ front
+at-front given bytes plan buffer front after n f e h =
+    ap (take n) e ∙ ap (λ (k : ℕ). take k (sets buffer 0 front)) h ∙ over buffer front (fits given bytes plan (length buffer) front f) .at-front
 
 -- of what stands in the buffer
-pub promised-in : (bytes buffer front after : List ℕ) (n : ℕ) → Front bytes (length buffer) front → after ≡ sets buffer 0 front → n ≡ length front → Promised bytes (take n after)
-promised-in bytes buffer front after n f e h =
-    subst (Promised bytes)
-    (sym (ap (take n) e ∙ ap (λ (k : ℕ). take k (sets buffer 0 front)) h ∙ over buffer front (fits bytes (length buffer) front f) .at-front))
-    (promised bytes (length buffer) front f)
+pub promised-in : (mask : ℕ) (bytes plan buffer after : List ℕ) (page n : ℕ) → after ≡ sets buffer 0 (outputs-of mask bytes plan (length buffer) page .answer) → n ≡ length (outputs-of mask bytes plan (length buffer) page .answer)
+    → (wants-of mask .plan ≡ false → Promised bytes (take n after)) × (wants-of mask .plan ≡ true → PromisedFrom bytes plan (take n after))
+promised-in mask bytes plan buffer after page n e h =
+    let front = outputs-of mask bytes plan (length buffer) page .answer in
+    let f = front-of mask bytes plan (length buffer) page in
+    let s = at-front (wants-of mask .plan) bytes plan buffer front after n f e h in (
+      (λ g. subst (Promised bytes) (sym s) (promised bytes plan (length buffer) front (subst (λ (b : Bool). Front b bytes plan (length buffer) front) g f))),
+      (λ g. subst (PromisedFrom bytes plan) (sym s) (promised-with bytes plan (length buffer) front (subst (λ (b : Bool). Front b bytes plan (length buffer) front) g f))),
+    )
 
--- ---- `stage` is stage_sheet that wants nothing else
+-- ---- `stage` is stage_sheet with 0, `stage_draw` with 1
 
-pub nothing-wanted : (bytes : List ℕ) (answer page : ℕ) → outputs-of 0 bytes answer page .answer ≡ written bytes answer
-unfolding outputs-of wants-of too-short lacks written after-all outputs-told told-bytes
-nothing-wanted bytes answer page = go (ltb answer answer-room)
+nothing-else : (given : Bool) (bytes plan : List ℕ) (answer : ℕ) (w : Wants) → w .page ≡ false → (t : Told) → outputs-told w (after-all w t) .answer ≡ told-bytes t
+unfolding after-all outputs-told told-bytes
+nothing-else given bytes plan answer w e (refused n) = refl
+nothing-else given bytes plan answer w e (drawn f) = ap (λ (b : Bool). outputs-told w (cond (b && not (f .said .flags .«on_grid»)) (refused 16) (drawn f)) .answer) e
+
+pub nothing-wanted : (bytes plan : List ℕ) (answer page : ℕ) → outputs-of 0 bytes plan answer page .answer ≡ written bytes answer
+unfolding outputs-of wants-of too-short lacks written
+nothing-wanted bytes plan answer page = go (ltb answer answer-room)
   where
-    as-told : (t : Told) → outputs-told (wants-of 0) (after-all (wants-of 0) t) .answer ≡ told-bytes t
-    as-told (refused n) = refl
-    as-told (drawn f) = refl
-
-    go : (b : Bool) → cond (b || false) nothing (outputs-told (wants-of 0) (after-all (wants-of 0) (told bytes))) .answer ≡ cond b [] (told-bytes (told bytes))
+    go : (b : Bool) → cond (b || false) nothing (outputs-told (wants-of 0) (after-all (wants-of 0) (told-with false bytes plan))) .answer ≡ cond b [] (told-bytes (told bytes))
     go true = refl
-    go false = as-told (told bytes)
+    go false = nothing-else false bytes plan answer (wants-of 0) refl (told-with false bytes plan) ∙ ap told-bytes (own-told bytes plan)
+
+pub plan-given : (bytes plan : List ℕ) (answer page : ℕ) → outputs-of 1 bytes plan answer page .answer ≡ draw-written bytes plan answer
+unfolding outputs-of wants-of too-short lacks draw-written
+plan-given bytes plan answer page = go (ltb answer answer-room)
+  where
+    go : (b : Bool) → cond (b || false) nothing (outputs-told (wants-of 1) (after-all (wants-of 1) (told-with true bytes plan))) .answer ≡ cond b [] (told-bytes (told-with true bytes plan))
+    go true = refl
+    go false = nothing-else true bytes plan answer (wants-of 1) refl (told-with true bytes plan)

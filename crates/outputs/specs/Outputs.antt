@@ -6,15 +6,16 @@ use mathlib.Core.List.{List, []}
 use lib.Dec.{eqb, ltb}
 use Rattle.limits.specs.Limits.{answer-room, page-room, id-columns}
 use Rattle.answer.specs.Answer.{answer-bytes, notice-bytes}
-use Rattle.promise.specs.Stage.{answer-of, Told, refused, drawn, told}
+use Rattle.promise.specs.Stage.{answer-of, Told, refused, drawn}
+use Rattle.plan_stage.specs.Entries.{told-with}
 use Rattle.bundle_page.specs.AnswerPage.{answer-page}
 use Rattle.outputs.specs.declared.Wants.{Wants}
 
 -- ---- what is wanted
 
--- bit 1 of the mask: the page is wanted; a bit that is not listed says nothing
+-- bit 0 of the mask: a plan is given; bit 1: the page is wanted; a bit that is not listed says nothing
 unfoldable pub wants-of : ℕ → Wants
-wants-of mask = record { page = eqb (mask / 2 % 2) 1 }
+wants-of mask = record { plan = eqb (mask % 2) 1; page = eqb (mask / 2 % 2) 1 }
 
 -- ---- the outputs
 
@@ -51,6 +52,6 @@ unfoldable pub outputs-told : Wants → Told → Outputs
 outputs-told w (refused n) = notice n
 outputs-told w (drawn f) = record { answer = answer-bytes (answer-of f); page = cond (w .page) (answer-page id-columns (answer-of f)) [] }
 
--- THE WHOLE: a mask, a job's bytes, and how many bytes the answer's and the page's buffers have
-unfoldable pub outputs-of : ℕ → List ℕ → ℕ → ℕ → Outputs
-outputs-of mask bytes answer page = cond (too-short (wants-of mask) answer page) nothing (outputs-told (wants-of mask) (after-all (wants-of mask) (told bytes)))
+-- THE WHOLE: a mask, the bytes of a job and of a plan, and how many bytes the answer's and the page's buffers have
+unfoldable pub outputs-of : ℕ → List ℕ → List ℕ → ℕ → ℕ → Outputs
+outputs-of mask bytes plan answer page = cond (too-short (wants-of mask) answer page) nothing (outputs-told (wants-of mask) (after-all (wants-of mask) (told-with (wants-of mask .plan) bytes plan)))

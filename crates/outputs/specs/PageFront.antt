@@ -10,30 +10,32 @@ use lib.Seq.{sets}
 use Rattle.limits.specs.Limits.{page-room, id-columns}
 use Rattle.answer.specs.Answer.{answer-bytes, notice-bytes}
 use Rattle.answer.specs.Stores.{notice-length}
-use Rattle.promise.specs.Stage.{Finished, answer-of, Told, refused, drawn, told}
-use Rattle.promise.specs.Size.{ComesTo, comes-of, Cause, a-refusal, a-sheet, cause, over}
+use Rattle.promise.specs.Stage.{Finished, answer-of, Told, refused, drawn}
+use Rattle.plan_stage.specs.Entries.{told-with}
+use Rattle.plan_stage.specs.EitherPlan.{ComesWith, CauseWith, a-refusal, a-sheet, cause-with, phase-shaped, phase-whole}
 use Rattle.bundle_page.specs.AnswerPage.{answer-page}
 use Rattle.page_promise.specs.PageReadsBack.{PageReadsBack, PageIsRead}
 use Rattle.page_promise.specs.Theorem.{page-in}
 use Rattle.outputs.specs.declared.Wants.{Wants}
 use Rattle.outputs.specs.Outputs.{Outputs, nothing, wants-of, lacks, too-short, after-all, outputs-told, outputs-of}
-use Rattle.outputs.specs.Front.{on-the-grid, wanted-room, long-page, front-of, fits}
+use Rattle.outputs.specs.Front.{on-the-grid, wanted-room, long-page, front-of, at-front}
 
 -- an answer and its page
-record Printed (bytes : List ℕ) (page : ℕ) (o : Outputs) : Type 0 where
+record Printed (given : Bool) (bytes plan : List ℕ) (page : ℕ) (o : Outputs) : Type 0 where
   made : Finished
-  comes : ComesTo bytes made
+  comes : ComesWith given bytes plan made
   on-grid : made .said .flags .«on_grid» ≡ true
   room : page-room ≤ page
   answer-is : o .answer ≡ answer-bytes (answer-of made)
   page-is : o .page ≡ answer-page id-columns (answer-of made)
 
-told-printed : (w : Wants) (bytes : List ℕ) (page : ℕ) → w .page ≡ true → page-room ≤ page → (t : Told) → Cause bytes t → 6 < length (outputs-told w (after-all w t) .answer) → Printed bytes page (outputs-told w (after-all w t))
+told-printed : (w : Wants) (given : Bool) (bytes plan : List ℕ) (page : ℕ) → w .page ≡ true → page-room ≤ page → (t : Told) → CauseWith given bytes plan t → 6 < length (outputs-told w (after-all w t) .answer)
+    → Printed given bytes plan page (outputs-told w (after-all w t))
 unfolding after-all outputs-told
-told-printed w bytes page wanted h t (a-refusal n l d) long = absurd (omega (arith, long, notice-length n))
-told-printed w bytes page wanted h t (a-sheet f c) long = go (w .page && not (f .said .flags .«on_grid»)) refl long
+told-printed w given bytes plan page wanted h t (a-refusal n) long = absurd (omega (arith, long, notice-length n))
+told-printed w given bytes plan page wanted h t (a-sheet f c) long = go (w .page && not (f .said .flags .«on_grid»)) refl long
   where
-    go : (b : Bool) → (w .page && not (f .said .flags .«on_grid»)) ≡ b → 6 < length (outputs-told w (cond b (refused 16) (drawn f)) .answer) → Printed bytes page (outputs-told w (cond b (refused 16) (drawn f)))
+    go : (b : Bool) → (w .page && not (f .said .flags .«on_grid»)) ≡ b → 6 < length (outputs-told w (cond b (refused 16) (drawn f)) .answer) → Printed given bytes plan page (outputs-told w (cond b (refused 16) (drawn f)))
     go true g long = absurd (omega (arith, long, notice-length 16))
     go false g long = record {
       made = f;
@@ -44,25 +46,28 @@ told-printed w bytes page wanted h t (a-sheet f c) long = go (w .page && not (f 
       page-is = ap (λ (b : Bool). cond b (answer-page id-columns (answer-of f)) []) wanted;
     }
 
-printed : (mask : ℕ) (bytes : List ℕ) (answer page : ℕ) → wants-of mask .page ≡ true → 6 < length (outputs-of mask bytes answer page .answer) → Printed bytes page (outputs-of mask bytes answer page)
+printed : (mask : ℕ) (bytes plan : List ℕ) (answer page : ℕ) → wants-of mask .page ≡ true → 6 < length (outputs-of mask bytes plan answer page .answer) → Printed (wants-of mask .plan) bytes plan page (outputs-of mask bytes plan answer page)
 unfolding outputs-of
-printed mask bytes answer page wanted long = go (too-short (wants-of mask) answer page) refl long
+printed mask bytes plan answer page wanted long = go (too-short (wants-of mask) answer page) refl long
   where
-    go : (b : Bool) → too-short (wants-of mask) answer page ≡ b → 6 < length (cond b nothing (outputs-told (wants-of mask) (after-all (wants-of mask) (told bytes))) .answer)
-        → Printed bytes page (cond b nothing (outputs-told (wants-of mask) (after-all (wants-of mask) (told bytes))))
+    go : (b : Bool) → too-short (wants-of mask) answer page ≡ b → 6 < length (cond b nothing (outputs-told (wants-of mask) (after-all (wants-of mask) (told-with (wants-of mask .plan) bytes plan))) .answer)
+        → Printed (wants-of mask .plan) bytes plan page (cond b nothing (outputs-told (wants-of mask) (after-all (wants-of mask) (told-with (wants-of mask .plan) bytes plan))))
     go true e long = absurd (omega arith)
     go false e long =
-        told-printed (wants-of mask) bytes page wanted (wanted-room (wants-of mask .page) page page-room wanted (long-page (wants-of mask) answer page e)) (told bytes) (cause bytes) long
+        told-printed (wants-of mask) (wants-of mask .plan) bytes plan page wanted (wanted-room (wants-of mask .page) page page-room wanted (long-page (wants-of mask) answer page e)) (told-with (wants-of mask .plan) bytes plan) (cause-with (wants-of mask .plan) bytes plan) long
 
 -- THE THEOREM, of what stands in the buffers
-pub page-promised : (mask : ℕ) (bytes answer page answer' page' : List ℕ) (n : ℕ) → ((i : ℕ) → i < length bytes → getD bytes i 0 < 256)
-    → answer' ≡ sets answer 0 (outputs-of mask bytes (length answer) (length page) .answer) → n ≡ length (outputs-of mask bytes (length answer) (length page) .answer)
-    → page' ≡ sets page 0 (outputs-of mask bytes (length answer) (length page) .page) → wants-of mask .page ≡ true → PageReadsBack bytes (take n answer') page'
-page-promised mask bytes answer page answer' page' n all a c p wanted =
-    let o = outputs-of mask bytes (length answer) (length page) in
-    let front : take n answer' ≡ o .answer =
-    ap (take n) a ∙ ap (λ (k : ℕ). take k (sets answer 0 (o .answer))) c ∙ over answer (o .answer) (fits bytes (length answer) (o .answer) (front-of mask bytes (length answer) (length page))) .at-front in
+pub page-promised : (mask : ℕ) (bytes plan answer page answer' page' : List ℕ) (n : ℕ) → ((i : ℕ) → i < length bytes → getD bytes i 0 < 256)
+    → answer' ≡ sets answer 0 (outputs-of mask bytes plan (length answer) (length page) .answer) → n ≡ length (outputs-of mask bytes plan (length answer) (length page) .answer)
+    → page' ≡ sets page 0 (outputs-of mask bytes plan (length answer) (length page) .page) → wants-of mask .page ≡ true → PageReadsBack bytes (take n answer') page'
+page-promised mask bytes plan answer page answer' page' n all a c p wanted =
+    let given = wants-of mask .plan in
+    let o = outputs-of mask bytes plan (length answer) (length page) in
+    let front : take n answer' ≡ o .answer = at-front given bytes plan answer (o .answer) answer' n (front-of mask bytes plan (length answer) (length page)) a c in
     subst (λ (l : List ℕ). PageReadsBack bytes l page') (sym front)
     (λ long.
-    let r = printed mask bytes (length answer) (length page) wanted long in
-    page-in bytes (answer-of (r .made)) (comes-of bytes (r .made) (r .comes)) all (r .on-grid) (o .answer) page page' (r .answer-is) (r .room) (p ∙ ap (sets page 0) (r .page-is)))
+    let r = printed mask bytes plan (length answer) (length page) wanted long in
+    let f = r .made in
+    let k = r .comes in
+    page-in bytes f (k .is-read) (k .is-drawn) (phase-shaped given bytes plan (f .said) (k .is-read) (f .plan-used) (k .is-taken)) all (r .on-grid)
+    (phase-whole given bytes plan (f .said) (k .is-read) (r .on-grid) (f .plan-used) (k .is-taken)) (o .answer) page page' (r .answer-is) (r .room) (p ∙ ap (sets page 0) (r .page-is)))

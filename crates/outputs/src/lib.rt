@@ -1,11 +1,12 @@
-// What a call of stage_sheet wants beside the answer. What is written is in specs/Outputs.antt.
+// What a call of stage_sheet is given and wants beside the job and the answer. What is written is in specs/Outputs.antt.
 ghost use mathlib.Core.Path.{_≡_};
 ghost use Rattle.outputs.specs.Outputs.{wants-of, lacks, too-short};
 use limits::ANSWER_ROOM;
 use limits::PAGE_ROOM;
 
-// The outputs that are wanted.
+// Whether a plan is given, and the outputs that are wanted.
 pub struct Wants {
+    pub plan: bool,
     pub page: bool,
 }
 
@@ -13,6 +14,7 @@ pub fn wants_of(mask: u32) -> Wants
     ensures { λ r. ⌜ r ≡ wants-of mask ⌝ }
 {
     Wants {
+        plan: mask % 2 == 1,
         page: mask / 2 % 2 == 1,
     }
 }

@@ -48,7 +48,6 @@ use Rattle.grid.specs.GridArithmetic.{at-bounded}
 use Rattle.grid_plan.specs.Board as Z
 use Rattle.grid_plan.specs.Image as I
 use Rattle.grid_plan.specs.Sizes.{Near, Placed}
-use Rattle.grid_plan.specs.Planning.{plan-near}
 use Rattle.grid_sheet.specs.Draw as W
 use Rattle.grid_sheet.specs.Page as X
 use Rattle.grid_sheet.specs.Image as M
@@ -57,34 +56,10 @@ use Rattle.grid_sheet.specs.Whole as Z2
 use Rattle.grid_sheet.specs.WholeSheet.{drawing-on, drawing-of, normalized-on}
 use Rattle.grid_promise.specs.Grid.{whole-board, given, whole-plan}
 use Rattle.grid_promise.specs.Back.{board-back, routes-back, on-grid}
-use Rattle.grid_promise.specs.Whole.{plan-is}
+use Rattle.grid_promise.specs.Whole.{WholePlan}
 use Rattle.bundle_page.specs.PageTables.{OnPage, Printable, Printables}
 use Rattle.bundle_page.specs.PartsLaws.{chosen}
 use Rattle.page_promise.specs.Forward.{Forward, Onward, moved-onward}
-
--- ---- a plan on the grid
-pub record NearPlan (p : Plan) : Type 0 where
-  pub wholes : List (Option ℤ)
-  pub is : map I.bound wholes ≡ p .xs
-  pub near : Every Placed wholes
-
--- a planned number that is a multiple of 1/128 of magnitude at most 2 ^ 20, and not minus zero
-pub record NearNumber (x : Float) : Type 0 where
-  pub whole : ℤ
-  pub is : on whole ≡ x
-  pub near : Near whole
-
-near-all : (xs : List Bound) → Every (OfBound NearNumber) xs → (zs : List (Option ℤ)) × (map I.bound zs ≡ xs) × Every Placed zs
-near-all [] h = ([], refl, tt)
-near-all (None ∷ xs) h = let r = near-all xs (h .1) in (none ∷ r .0, ap (λ (l : List Bound). None ∷ l) (r .1), (tt, r .2))
-near-all (At x ∷ xs) h =
-    let r = near-all xs (h .1) in
-    let n = h .0 in
-    (some (n .whole) ∷ r .0, ap (λ (y : Float). At y ∷ map I.bound (r .0)) (n .is) ∙ ap (λ (l : List Bound). At x ∷ l) (r .1), (n .near, r .2))
-
--- a plan that is given
-pub near-plan : (p : Plan) → Every (OfBound NearNumber) (p .xs) → NearPlan p
-near-plan p h = let r = near-all (p .xs) h in record { wholes = r .0; is = r .1; near = r .2 }
 
 -- ---- what can stand on the page
 fits-page : (z : ℤ) → Forward z → Below 33 (on z) → OnPage (on z)
@@ -161,27 +136,14 @@ module _ (bytes : List ℕ) (j : Job) (came : read-job bytes ≡ job.accepted j)
   fit : Readable (j .board) (given-routes j)
   fit = readable bytes j came
 
-  -- our own plan
-  pub own-plan-near : (p : Plan) → planned j ≡ plan.going p → NearPlan p
-  own-plan-near p e =
-      let q : I.plan (whole-plan j) ≡ p = one-plan _ p (sym (plan-is j sound g) ∙ e) in
-      record {
-        wholes = whole-plan j .xs;
-        is = ap (λ (k : Plan). k .xs) q;
-        near = plan-near B (given j) (on-grid j sound g) (j .flags .«separates_collectors») (j .grants .«tap_visits»);
-      }
-    where
-      one-plan : (a b : Plan) → plan.going a ≡ plan.going b → a ≡ b
-      one-plan a b e = cc
-
-  module _ (p : Plan) (n : NearPlan p) (u : Progress) (drawn : sheet-drawn j p ≡ drawing.going u) where
+  module _ (p : Plan) (n : WholePlan p) (u : Progress) (drawn : sheet-drawn j p ≡ drawing.going u) where
     abbrev wholes : W.Outcome
-    wholes = Z2.sheet-drawn B (given j) allow (n .wholes) visits
+    wholes = Z2.sheet-drawn B (given j) allow (n .whole .xs) visits
 
-    sheet-is : M.outcome (Z2.sheet-drawn (whole-board j) (given j) (j .flags .«permits_crossings») (n .wholes) (j .grants .«geometry_visits»)) ≡ drawing.going u
+    sheet-is : M.outcome (Z2.sheet-drawn (whole-board j) (given j) (j .flags .«permits_crossings») (n .whole .xs) (j .grants .«geometry_visits»)) ≡ drawing.going u
     sheet-is =
-        sym (drawing-on B (given j) (on-grid j sound g) allow (n .wholes) visits (n .near))
-        ∙ ap (λ (xs : List Bound). drawn-of (I.board B) allow (map I.route (given j)) xs visits) (n .is)
+        sym (drawing-on B (given j) (on-grid j sound g) allow (n .whole .xs) visits (n .near))
+        ∙ ap (λ (xs : List Bound). drawn-of (I.board B) allow (map I.route (given j)) xs visits) (sym (ap (λ (k : Plan). k .xs) (n .is)))
         ∙ ap (λ (b : Board). drawn-of b allow (map I.route (given j)) (p .xs) visits) (board-back j sound g)
         ∙ ap (λ (rs : List Route). drawn-of (j .board) allow rs (p .xs) visits) (routes-back j sound g)
         ∙ drawn
@@ -190,7 +152,7 @@ module _ (bytes : List ℕ) (j : Job) (came : read-job bytes ≡ job.accepted j)
     below =
         let b = j .board in
         after-shift b (given-routes j) (fit .limits) allow (turns-of b (p .xs)) visits u drawn
-        (turns-fine (Within 30) (b .bundles) (p .xs) (offsets-of b) (subst (λ (xs : List Bound). Every (OfBound (Within 30)) xs) (n .is) (within (n .wholes) (n .near))))
+        (turns-fine (Within 30) (b .bundles) (p .xs) (offsets-of b) (subst (λ (xs : List Bound). Every (OfBound (Within 30)) xs) (sym (ap (λ (k : Plan). k .xs) (n .is))) (within (n .whole .xs) (n .near))))
 
     page-is : (v : W.Progress) → OfOutcome (W.going v) → M.progress v ≡ u → normalized (j .board) u ≡ M.page (Z2.normalized B v)
     page-is v o e = ap (λ (k : Progress). normalized (j .board) k) (sym e) ∙ ap (λ (b : Board). normalized b (M.progress v)) (sym (board-back j sound g)) ∙ normalized-on B (given j) (on-grid j sound g) v o
@@ -212,7 +174,7 @@ module _ (bytes : List ℕ) (j : Job) (came : read-job bytes ≡ job.accepted j)
     unfolding page-told
     page-fits =
         every-told (Ends OnPage) (j .board .edges) (j .board .bundles) (normalized (j .board) u .sheet .drawn)
-        (ends (Z2.sheet-drawn B (given j) allow (n .wholes) visits) (drawing-of B (given j) (on-grid j sound g) allow (n .wholes) visits (n .near)) sheet-is)
+        (ends (Z2.sheet-drawn B (given j) allow (n .whole .xs) visits) (drawing-of B (given j) (on-grid j sound g) allow (n .whole .xs) visits (n .near)) sheet-is)
 
 -- ---- what `page_writer::put_page` requires, of the table that the answer is written from
 printable : (b : DrawnBundle) → Ends OnPage (b .collector) → Printable b

@@ -7,17 +7,19 @@ use lib.ListN.{length, take}
 use Rattle.limits.specs.Limits.{id-columns, line-bytes}
 use Rattle.board.specs.declared.Bundle.{Bundle}
 use Rattle.sorting.specs.Lists.{Every}
+use Rattle.job.specs.Job.{Job, read-job}
+use Rattle.job.specs.Job as job
 use Rattle.answer.specs.Answer.{Trunk, Sheet, answer-bytes}
 use Rattle.bundle_page.specs.PageReads.{PageReads}
-use Rattle.promise.specs.Stage.{Comes}
 
 -- the sheet in the answer, and the front of the page's buffer read as its bundles
 pub record PageIsRead (bytes answer page : List ℕ) : Type 0 where
   pub sheet : Sheet
   pub is-written : answer ≡ answer-bytes sheet
-  pub comes : Comes bytes sheet
+  pub said : Job
+  pub is-read : read-job bytes ≡ job.accepted said
   -- "one line per bundle in job order"
-  pub job-order : map (λ (t : Trunk). t .id) (sheet .bundles) ≡ map (λ (u : Bundle). u .id) (comes .said .board .bundles)
+  pub job-order : map (λ (t : Trunk). t .id) (sheet .bundles) ≡ map (λ (u : Bundle). u .id) (said .board .bundles)
   -- "collector x": both ends of a collector have the same
   pub one-x : Every (λ (t : Trunk). t .collector .start .x ≡ t .collector .end .x) (sheet .bundles)
   -- a line of 76 bytes for each bundle

@@ -17,16 +17,18 @@ use Rattle.job.specs.Job as job
 use Rattle.job.specs.Sound.{accepted-sound}
 use Rattle.drawing.specs.Build.{Drawn}
 use Rattle.drawing.specs.Sheet.{Progress}
+use Rattle.drawing.specs.Sheet as drawing
 use Rattle.answer.specs.Answer.{Trunk, Sheet, answer-bytes}
-use Rattle.promise.specs.Stage.{Comes, normalized, bundles-told, page-told}
-use Rattle.promise.specs.BoardDemand.{drawn-length}
+use Rattle.promise.specs.Stage.{Finished, answer-of, sheet-drawn, normalized, bundles-told, page-told}
+use Rattle.promise.specs.BoardDemand.{Shaped, drawn-length}
 use Rattle.promise.specs.Read.{readable}
+use Rattle.grid_promise.specs.Whole.{WholePlan}
 use Rattle.bundle_page.specs.AnswerPage.{answer-page}
 use Rattle.bundle_page.specs.PageReads.{PageReads}
 use Rattle.bundle_page.specs.PartsLaws.{chosen}
 use Rattle.bundle_page.specs.Exact.{answer-page-length, page-at-most}
 use Rattle.bundle_page.specs.Reads.{Prints, page-reads}
-use Rattle.page_promise.specs.PageFits.{PageFits, own-plan-near, page-fits}
+use Rattle.page_promise.specs.PageFits.{PageFits, page-fits}
 use Rattle.page_promise.specs.BundleIds.{bundle-ids}
 use Rattle.page_promise.specs.Upright.{answer-upright, answer-ids}
 use Rattle.page_promise.specs.PageReadsBack.{PageIsRead}
@@ -81,33 +83,32 @@ few-ids b ts e h =
     let n = length-map b (λ (u : Bundle). u .id) in
     omega arith
 
-module _ (bytes : List ℕ) (s : Sheet) (c : Comes bytes s) where
+-- of a job that is read and a sheet that is drawn, whatever the plan
+module _ (bytes : List ℕ) (f : Finished) (is-read : read-job bytes ≡ job.accepted (f .said)) (is-drawn : sheet-drawn (f .said) (f .plan-used) ≡ drawing.going (f .sheet-made)) (shape : Shaped (f .said .board) (f .plan-used .xs)) where
   abbrev j : Job
-  j = c .said
+  j = f .said
 
-  ids-are : map (λ (t : Trunk). t .id) (s .bundles) ≡ map (λ (u : Bundle). u .id) (c .said .board .bundles)
+  ids-are : map (λ (t : Trunk). t .id) (answer-of f .bundles) ≡ map (λ (u : Bundle). u .id) (f .said .board .bundles)
   unfolding page-told
-  ids-are =
-      ap (λ (z : Sheet). map (λ (t : Trunk). t .id) (z .bundles)) (c .is-answer)
-      ∙ answer-ids (j .board) (c .sheet-made) (drawn-length (j .board) (given-routes j) (readable bytes j (c .is-read)) (j .flags .«separates_collectors») (j .grants .«tap_visits») (j .grants .«geometry_visits») (c .plan-made) (c .is-planned) (j .flags .«permits_crossings») (c .sheet-made) (c .is-drawn))
+  ids-are = answer-ids (j .board) (f .sheet-made) (drawn-length (j .board) (given-routes j) (readable bytes j is-read) (f .plan-used .xs) shape (j .grants .«geometry_visits») (j .flags .«permits_crossings») (f .sheet-made) is-drawn)
 
-  upright : Every (λ (t : Trunk). t .collector .start .x ≡ t .collector .end .x) (s .bundles)
+  upright : Every (λ (t : Trunk). t .collector .start .x ≡ t .collector .end .x) (answer-of f .bundles)
   unfolding page-told
-  upright =
-      subst (λ (z : Sheet). Every (λ (t : Trunk). t .collector .start .x ≡ t .collector .end .x) (z .bundles)) (sym (c .is-answer))
-      (answer-upright (j .board) (given-routes j) (j .flags .«permits_crossings») (c .plan-made .xs) (j .grants .«geometry_visits») (c .sheet-made) (c .is-drawn))
+  upright = answer-upright (j .board) (given-routes j) (j .flags .«permits_crossings») (f .plan-used .xs) (j .grants .«geometry_visits») (f .sheet-made) is-drawn
 
   -- THE THEOREM, of what stands in the buffers
-  pub page-in : ((i : ℕ) → i < length bytes → getD bytes i 0 < 256) → c .said .flags .«on_grid» ≡ true → (answer buffer after : List ℕ) → answer ≡ answer-bytes s
-      → page-room ≤ length buffer → after ≡ sets buffer 0 (answer-page id-columns s) → PageIsRead bytes answer after
-  page-in all g answer buffer after w room e =
-      let fits : PageFits (s .bundles) = subst (λ (z : Sheet). PageFits (z .bundles)) (sym (c .is-answer)) (page-fits bytes j (c .is-read) g (c .plan-made) (own-plan-near bytes j (c .is-read) g (c .plan-made) (c .is-planned)) (c .sheet-made) (c .is-drawn)) in
-      let ids : Every (λ (t : Trunk). t .id < 2 ^ 32) (s .bundles) = subst (λ (z : Sheet). Every (λ (t : Trunk). t .id < 2 ^ 32) (z .bundles)) (sym (c .is-answer)) (answer-ids-small bytes j all (c .is-read) (c .plan-made .left) (c .sheet-made .left) (c .sheet-made)) in
-      let few = few-ids (j .board .bundles) (s .bundles) ids-are (accepted-sound bytes j (c .is-read) .0 .bundle-total) in
+  pub page-in : ((i : ℕ) → i < length bytes → getD bytes i 0 < 256) → f .said .flags .«on_grid» ≡ true → WholePlan (f .plan-used) → (answer buffer after : List ℕ) → answer ≡ answer-bytes (answer-of f)
+      → page-room ≤ length buffer → after ≡ sets buffer 0 (answer-page id-columns (answer-of f)) → PageIsRead bytes answer after
+  page-in all g near answer buffer after w room e =
+      let s = answer-of f in
+      let fits : PageFits (s .bundles) = page-fits bytes j is-read g (f .plan-used) near (f .sheet-made) is-drawn in
+      let ids : Every (λ (t : Trunk). t .id < 2 ^ 32) (s .bundles) = answer-ids-small bytes j all is-read (f .plan-used .left) (f .sheet-made .left) (f .sheet-made) in
+      let few = few-ids (j .board .bundles) (s .bundles) ids-are (accepted-sound bytes j is-read .0 .bundle-total) in
       record {
         sheet = s;
         is-written = w;
-        comes = c;
+        said = j;
+        is-read = is-read;
         job-order = ids-are;
         one-x = upright;
         reads = subst (λ (p : List ℕ). PageReads id-columns p (s .bundles)) (sym (page-at-front s buffer after few room e)) (reads-back s fits ids);

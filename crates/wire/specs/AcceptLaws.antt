@@ -14,7 +14,7 @@ use Rattle.binary64.specs.Kind.{finite-between, plus-zero-plain}
 use Rattle.wire.specs.Bytes.{number-on}
 use Rattle.wire.specs.Read.{refused, got, after, field, told-number}
 use Rattle.wire.specs.declared.Number.the-variants.{Bad, Good}
-use Rattle.grid.specs.DraftingGrid.{on-drafting-grid}
+use Rattle.grid.specs.DraftingGrid.{multiple-within}
 use Rattle.wire.specs.Accept.{gridded, number-in-bits, number-of, taken, coordinate, size, option}
 
 pub not-nan : (n : ℕ) → n % 2 ^ 63 ≤ 0x7ff0_0000_0000_0000 → T (not (nanBits binary64 n))
@@ -59,7 +59,7 @@ told-of low high n rest = told-cond (accepted low high (number-in-bits n)) (numb
 -- ---- closed cases
 -- the eight bytes of minus zero are plus zero in every kind of field
 pub minus-zero-read : (grid : Bool) → let bytes : List ℕ = 128 ∷ 0 ∷ 0 ∷ 0 ∷ 0 ∷ 0 ∷ 0 ∷ 0 ∷ [] in (coordinate grid bytes ≡ got zero64 []) × (size grid bytes ≡ got zero64 []) × (option grid bytes ≡ got zero64 [])
-unfolding after field number-on taken gridded on-drafting-grid accepted minus-zero plus-zero ofBits le lt eq
+unfolding after field number-on taken gridded multiple-within accepted minus-zero plus-zero ofBits le lt eq
 minus-zero-read true = (refl, refl, refl)
 minus-zero-read false = (refl, refl, refl)
 

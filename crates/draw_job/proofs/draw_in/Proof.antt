@@ -8,8 +8,11 @@ use lib.Seq.{sets, length-take-le, length-front}
 use lib.Ieee.{Float}
 use Rattle.limits.specs.Limits.{max-bundles, id-columns, search-work}
 use Rattle.board.specs.declared.DrawnBundles.{DrawnBundles}
-use Rattle.job_tables.specs.Came.{Sizes}
-use Rattle.job_tables.specs.Ready.{tables-sound, routes-in}
+use Rattle.job_tables.specs.Came.{Sizes, job-in}
+use Rattle.plan_reader.specs.declared.PlanRead.{PlanRead}
+use Rattle.plan_reader.specs.Reading.{told-plan}
+use Rattle.plan_stage.specs.Entries.{plan-phase}
+use Rattle.job_tables.specs.Ready.{bundles-in, tables-sound, routes-in}
 use Rattle.normalize.proofs.Shift.{windows-kept}
 use Rattle.normalize.specs.PageTables.{Windows}
 use Rattle.plan.specs.TableReads as rows
@@ -32,9 +35,32 @@ sizes s = record {
   members = let g = s .good .1 .0 .1 .1 .1 .1 .1 .1 .1 .1 .1 .0 in search (needs, rows.length-mapped, g);
 }
 
+-- the plan that was chosen, and the slices that our own was made in
+abbrev chosen-start : tie.Joined1 → tie.Start
+chosen-start c = c .before .before .before .before .before .before .before .before .before .before .before .before .before .before
+
+chosen : (c : tie.Joined1) → told-plan (chosen-start c .args .j .bundles .count) (c .if1 .p) ≡ plan-phase (chosen-start c .args .wants .plan) (job-in (chosen-start c .args .j) (chosen-start c .args .given .now)) (chosen-start c .args .plan .now)
+chosen c =
+    let s = chosen-start c in
+    let a = s .args in
+    let n = a .j .bundles .count in
+    let same : PlanRead → Type 0 = λ r. told-plan n r ≡ plan-phase (a .wants .plan) (job-in (a .j) (a .given .now)) (a .plan .now) in
+    laws.way (c .if1 .came)
+    (λ x. subst same (sym (x .4)) (laws.given-phase (a .j) (a .given .now) (a .wants .plan) (x .0 .taken) (bundles-in (a .j) (a .given .now) (s .pre .0 .0) (sizes s)) (a .plan .now) (x .1 .result) (x .1 .ensures)))
+    (λ x. subst same (sym (x .11)) (laws.own-phase (a .j) (a .given .now) (s .pre .0 .0) (sizes s) (x .3 .result) (x .3 .ensures) (a .wants .plan) (x .0 .left) (a .plan .now) (x .8 .result) (x .8 .ensures)))
+
+points-kept : (c : tie.Joined1) → length (c .if1 .points) ≡ length (chosen-start c .args .points .now)
+points-kept c =
+    let a = chosen-start c .args in
+    laws.way (c .if1 .came) (λ x. ap length (x .3))
+    (λ x. ap length (x .10) ∙ length-front (a .points .now) (x .3 .last .1 .1 .1 .1 .1 .1 .1 .1 .1 .1 .1 .0) search-work (x .3 .kept .1 .1 .1 .1 .1 .1 .1 .1 .1 .1 .1 .0))
+
+sorted-kept : (c : tie.Joined1) → length (c .if1 .sorted) ≡ length (chosen-start c .args .sorted .now)
+sorted-kept c = laws.way (c .if1 .came) (λ x. ap length (x .2)) (λ x. ap length (x .9) ∙ x .3 .kept .1 .1 .1 .1 .1 .1 .1 .1 .1 .1 .0)
+
 -- where every turn was clean: the slices after the last one
 abbrev start : tie.After-known-told2 → tie.Start
-start c = c .before .before .before .before .before .before .before .before .before .before .before .before .before .before .before .before .before .before .before .before .before .before .before .before .before .before .before .before .before .before .before .before .before .before .before .before .before .before .before .before .before .before .before .before .before .before .before .before
+start c = c .before .before .before .before .before .before .before .before .before .before .before .before .before .before .before .before .before .before .before .before .before .before .before .before .before .before .before .before .before .before .before .before .before .before .before .before .before .before .before .before .before .before .before .before
 
 abbrev drawn-by : tie.After-known-told2 → DrawnBundles
 drawn-by c = c .before .before .before .before .before .before .before .before .before .before .before .before .before .before .before .before .before .draw-sheet .result .drawn
@@ -55,9 +81,9 @@ on-sheet : (c : tie.After-known-told2) → OnSheet (start c .args .j) (edges-by 
 on-sheet c =
     let s = start c in
     let a = s .args in
-    let p = c .before .before .before .before .before .before .before .before .before .before .before .before .before .before .before .before .before .before .before .before .before .before .before .before .before .before .before .before .before .before .before .before .before .plan-interior-collectors in
+    let p = c .before .before .before .before .before .before .before .before .before .before .before .before .before .before .before .before .before .before .before .before .before .before .before .before .before .before .before .before .before .before in
     let d = c .before .before .before .before .before .before .before .before .before .before .before .before .before .before .before .before .before .draw-sheet in
-    let lent = laws.lent-as (a .j) _ _ _ _ (p .last .1 .1 .1 .1 .1 .1 .1 .1 .1 .1 .1 .0 ++ drop search-work (a .points .now)) _ _ _ (length-front (a .points .now) (p .last .1 .1 .1 .1 .1 .1 .1 .1 .1 .1 .1 .0) search-work (p .kept .1 .1 .1 .1 .1 .1 .1 .1 .1 .1 .1 .0)) (s .pre .1 .1 .1) in
+    let lent = laws.lent-as (a .j) _ _ _ _ (p .if1 .points) _ _ _ (points-kept p) (s .pre .1 .1 .1) in
     laws.on-sheet (a .j) (a .given .now) (s .pre .0 .0) (sizes s) _ _ _ _ _ _ _ lent (d .result .verdict) (drawn-by c) (edges-by c) (d .last .1 .1 .1 .1 .1 .1 .1 .1 .1 .1 .1 .0) (taps-by c) (points-by c) (counts-by c) (d .kept .1 .1 .1 .1 .1 .1 .1 .1 .1 .1 .1 .1 .0) (d .kept .1 .1 .1 .1 .1 .1 .1 .1 .1 .1 .1 .1 .1 .0) (d .kept .1 .1 .1 .1 .1 .1 .1 .1 .1 .1 .1 .1 .1 .1 .0) _ (c .before .v2 .given .1) (d .ensures .1 .0) (d .ensures .1 .1 .0) (d .ensures .1 .1 .1 .0) (d .ensures .1 .1 .1 .1)
 
 windows : (c : tie.After-known-told2) → Windows (drawn-by c .count) (drawn-by c .rows) (start c .args .j .members .count)
@@ -69,68 +95,74 @@ long-drawn c = search (needs, rows.length-mapped)
 
 corridor-depth-offsets-requires : tie.Need-corridor-depth-offsets-requires
 corridor-depth-offsets-requires c κs =
-    let s = c .before .before .before .before .before .before .before .before .before .before .before in
+    let s = c .before .before .before .before .before .before .before .before .before .before .before .before in
     let a = s .args in
     tables-sound (a .j) (a .given .now) (s .pre .0 .0) (sizes s)
+
+read-plan-requires : tie.Need-read-plan-requires
+read-plan-requires c κs = let s = c .before .before .before .before .before .before .before .before .before .before .before .before .before .before in s .pre .0 .0 .fits .bundles
 
 slice-relend-prefix-plan-interior-collectors : tie.Need-slice-relend-prefix-plan-interior-collectors
 slice-relend-prefix-plan-interior-collectors c = search needs
 
 slice-aggregate-plan-interior-collectors : tie.Need-slice-aggregate-plan-interior-collectors
 slice-aggregate-plan-interior-collectors c =
-    let s = c .before .before .before .before .before .before .before .before .before .before .before .before .before .before in
+    let s = c .before .before .before .before .before .before .before .before .before .before .before .before .before .before .before .before in
     let a = s .args in
     sym (length-take-le search-work (a .points .now) (s .pre .1 .1 .0 .0))
 
 plan-interior-collectors-requires : tie.Need-plan-interior-collectors-requires
 plan-interior-collectors-requires c κs =
-    let s = c .before .before .before .before .before .before .before .before .before .before .before .before .before .before in
+    let s = c .before .before .before .before .before .before .before .before .before .before .before .before .before .before .before .before in
     let a = s .args in
     let x = length-take-le search-work (a .points .now) (s .pre .1 .1 .0 .0) in
-    ((tables-sound (a .j) (a .given .now) (s .pre .0 .0) (sizes s), routes-in (a .j) (a .given .now) (s .pre .0 .0) (sizes s)), ((omega (arith, s .pre .1 .1 .0 .1), omega (arith, x, s .pre .1 .1 .0 .1)), c .before .before .corridor-depth-offsets .ensures))
+    ((tables-sound (a .j) (a .given .now) (s .pre .0 .0) (sizes s), routes-in (a .j) (a .given .now) (s .pre .0 .0) (sizes s)), ((omega (arith, s .pre .1 .1 .0 .1), omega (arith, x, s .pre .1 .1 .0 .1)), c .before .before .before .corridor-depth-offsets .ensures))
+
+own-plan-requires : tie.Need-own-plan-requires
+own-plan-requires c κs = search needs
 
 write-notice-requires : tie.Need-write-notice-requires
-write-notice-requires c κs = c .before .before .before .before .before .before .before .before .before .before .before .before .before .before .before .before .before .before .before .before .before .pre .0 .1
+write-notice-requires c κs = c .before .before .before .before .before .before .before .before .before .before .before .before .before .before .before .before .before .pre .0 .1
 
 same-length : tie.Need-same-length
-same-length c = search needs
+same-length c = let k = sorted-kept (c .before .before .before .before .before .before) in omega (arith, k)
 
 same-length-2 : tie.Need-same-length-2
-same-length-2 c = search needs
+same-length-2 c = let k = points-kept (c .before .before .before .before .before .before) in omega (arith, k)
 
 same-length-3 : tie.Need-same-length-3
 same-length-3 c = search needs
 
 returns : tie.Need-returns
 returns c =
-    let s = c .before .before .before .before .before .before .before .before .before .before .before .before .before .before .before .before .before .before .before .before .before .before .before .before in
+    let s = c .before .before .before .before .before .before .before .before .before .before .before .before .before .before .before .before .before .before .before .before in
     let a = s .args in
-    let p = c .before .before .before .before .before .before .before .before .before .plan-interior-collectors in
+    let p = c .before .before .before .before .before .before in
     let w = c .before .before .write-notice .ensures in
-    laws.notice-writes _ _ _ 13 _ (laws.refused-outputs (a .wants) _ 13 (laws.plan-refused (a .j) (a .given .now) (s .pre .0 .0) (sizes s) (p .result) (p .ensures) (c .before .before .before .before .if1 .taken))) (w .0) refl (w .1)
+    laws.notice-writes _ _ _ _ _ (laws.refused-outputs (a .wants) _ _ (laws.phase-refused (a .j) (a .given .now) (a .wants .plan) (a .plan .now) (p .if1 .p) (chosen p) (c .before .before .before .before .if2 .taken))) (w .0) refl (w .1)
 
 draw-sheet-requires : tie.Need-draw-sheet-requires
 draw-sheet-requires c κs =
-    let s = c .before .before .before .before .before .before .before .before .before .before .before .before .before .before .before .before .before .before .before .before .before .before .before .before .before .before .before .before .before .before in
+    let s = c .before .before .before .before .before .before .before .before .before .before .before .before .before .before .before .before .before .before .before .before .before .before .before .before .before .before in
     let a = s .args in
-    let p = c .before .before .before .before .before .before .before .before .before .before .before .before .before .before .before .plan-interior-collectors in
-    let lent = laws.lent-as (a .j) _ _ _ _ _ _ _ _ (length-front (a .points .now) (p .last .1 .1 .1 .1 .1 .1 .1 .1 .1 .1 .1 .0) search-work (p .kept .1 .1 .1 .1 .1 .1 .1 .1 .1 .1 .1 .0)) (s .pre .1 .1 .1) in
+    let p = c .before .before .before .before .before .before .before .before .before .before .before .before in
+    let lent = laws.lent-as (a .j) _ _ _ _ _ _ _ _ (points-kept p) (s .pre .1 .1 .1) in
     ((tables-sound (a .j) (a .given .now) (s .pre .0 .0) (sizes s), routes-in (a .j) (a .given .now) (s .pre .0 .0) (sizes s)), ((ready.follow (a .j) (a .given .now) (s .pre .0 .0) (sizes s), ready.once-a-role (a .j) (a .given .now) (s .pre .0 .0) (sizes s)), ((lent .edges-long, lent .lanes-long, lent .counts-long), lent .room)))
 
 enum-known-v : tie.Need-enum-known-v
 enum-known-v c = search needs
 
 write-notice-requires-2 : tie.Need-write-notice-requires-2
-write-notice-requires-2 c κs = c .before .before .before .before .before .before .before .before .before .before .before .before .before .before .before .before .before .before .before .before .before .before .before .before .before .before .before .before .before .before .before .before .before .before .before .before .before .before .before .before .before .before .before .before .before .before .before .before .before .pre .0 .1
+write-notice-requires-2 c κs = c .before .before .before .before .before .before .before .before .before .before .before .before .before .before .before .before .before .before .before .before .before .before .before .before .before .before .before .before .before .before .before .before .before .before .before .before .before .before .before .before .before .before .before .before .before .pre .0 .1
 
 enum-known-v-2 : tie.Need-enum-known-v-2
 enum-known-v-2 c = search needs
 
 write-notice-requires-3 : tie.Need-write-notice-requires-3
-write-notice-requires-3 c κs = c .before .before .before .before .before .before .before .before .before .before .before .before .before .before .before .before .before .before .before .before .before .before .before .before .before .before .before .before .before .before .before .before .before .before .before .before .before .before .before .before .before .before .before .before .before .before .before .before .before .before .before .before .pre .0 .1
+write-notice-requires-3 c κs = c .before .before .before .before .before .before .before .before .before .before .before .before .before .before .before .before .before .before .before .before .before .before .before .before .before .before .before .before .before .before .before .before .before .before .before .before .before .before .before .before .before .before .before .before .before .before .before .before .pre .0 .1
 
 same-length-4 : tie.Need-same-length-4
-same-length-4 c = let k = c .before .before .before .before .before .before .before .before .before .before .before .before .before .before .before .before .before .before .before .before .before .before .before .before .before .before .before .before .before .before .before .before .before .before .before .before .before .before .before .before .plan-interior-collectors .kept .1 .1 .1 .1 .1 .1 .1 .1 .1 .1 .0 in omega (arith, k)
+same-length-4 c = let k = sorted-kept (c .before .before .before .before .before .before .before .before .before .before .before .before .before .before .before .before .before .before .before .before .before .before .before .before .before .before .before .before .before .before .before .before .before .before .before .before .before) in omega (arith, k)
 
 same-length-5 : tie.Need-same-length-5
 same-length-5 c = search needs
@@ -143,8 +175,8 @@ same-length-7 c = search needs
 
 same-length-8 : tie.Need-same-length-8
 same-length-8 c =
-    let p = c .before .before .before .before .before .before .before .before .before .before .before .before .before .before .before .before .before .before .before .before .before .before .before .before .before .before .before .before .before .before .before .before .before .before .before .before .before .before .before .before .plan-interior-collectors in
-    let kept = length-front (c .before .before .before .before .before .before .before .before .before .before .before .before .before .before .before .before .before .before .before .before .before .before .before .before .before .before .before .before .before .before .before .before .before .before .before .before .before .before .before .before .before .before .before .before .before .before .before .before .before .before .before .before .before .before .before .args .points .now) (p .last .1 .1 .1 .1 .1 .1 .1 .1 .1 .1 .1 .0) search-work (p .kept .1 .1 .1 .1 .1 .1 .1 .1 .1 .1 .1 .0) in
+    let p = c .before .before .before .before .before .before .before .before .before .before .before .before .before .before .before .before .before .before .before .before .before .before .before .before .before .before .before .before .before .before .before .before .before .before .before .before .before in
+    let kept = points-kept p in
     omega (arith, kept, c .before .before .before .before .before .before .before .before .before .before .before .before .before .before .before .before .before .before .before .before .before .before .before .before .draw-sheet .kept .1 .1 .1 .1 .1 .1 .1 .1 .1 .1 .1 .1 .1 .0)
 
 same-length-9 : tie.Need-same-length-9
@@ -161,14 +193,14 @@ same-length-12 c = search needs
 
 returns-2 : tie.Need-returns-2
 returns-2 c =
-    let s = c .before .before .before .before .before .before .before .before .before .before .before .before .before .before .before .before .before .before .before .before .before .before .before .before .before .before .before .before .before .before .before .before .before .before .before .before .before .before .before .before .before .before .before .before .before .before .before .before .before .before .before .before .before .before .before in
+    let s = c .before .before .before .before .before .before .before .before .before .before .before .before .before .before .before .before .before .before .before .before .before .before .before .before .before .before .before .before .before .before .before .before .before .before .before .before .before .before .before .before .before .before .before .before .before .before .before .before .before .before .before in
     let a = s .args in
-    let p = c .before .before .before .before .before .before .before .before .before .before .before .before .before .before .before .before .before .before .before .before .before .before .before .before .before .before .before .before .before .before .before .before .before .before .before .before .before .before .before .before .plan-interior-collectors in
-    let o = c .before .before .before .before .before .before .before .before .before .before .before .before .before .before .before .before .before .before .before .before .before .before .before .before .before .before .before .before .before .before .before .before .before .before .before .before .before .before .before .before .before .before .before .corridor-depth-offsets in
+    let p = c .before .before .before .before .before .before .before .before .before .before .before .before .before .before .before .before .before .before .before .before .before .before .before .before .before .before .before .before .before .before .before .before .before .before .before .before .before in
+    let o = c .before .before .before .before .before .before .before .before .before .before .before .before .before .before .before .before .before .before .before .before .before .before .before .before .before .before .before .before .before .before .before .before .before .before .before .before .before .before .corridor-depth-offsets in
     let d = c .before .before .before .before .before .before .before .before .before .before .before .before .before .before .before .before .before .before .before .before .before .before .before .before .draw-sheet in
     let m = c .before .before .before .before .before .before .before in
     let w = c .before .before .write-notice3 .ensures in
-    laws.notice-writes _ _ _ 16 _ (laws.off-grid-outputs (a .wants) _ _ (laws.all-drawn (a .j) (a .given .now) (s .pre .0 .0) (sizes s) (p .result) (p .ensures) (c .before .before .before .before .before .before .before .before .before .before .before .before .before .before .before .before .before .before .before .before .before .before .before .before .before .before .before .before .before .before .before .before .before .before .before .if1 .left) (take (a .j .bundles .count) (o .result .rows)) (d .result .verdict) (edges-by m) (drawn-by m) (points-by m) (counts-by m) (taps-by m) (o .ensures (take (a .j .edges .count) (a .j .edges .rows))) (d .ensures .0) _ (c .before .before .before .before .before .before .before .before .v2 .given .1)) (c .before .before .before .before .if2 .taken)) (w .0) refl (w .1)
+    laws.notice-writes _ _ _ 16 _ (laws.off-grid-outputs (a .wants) _ _ (laws.all-drawn (a .j) (a .given .now) (s .pre .0 .0) (sizes s) (a .wants .plan) (a .plan .now) (p .if1 .p) (chosen p) (c .before .before .before .before .before .before .before .before .before .before .before .before .before .before .before .before .before .before .before .before .before .before .before .before .before .before .before .before .before .before .before .before .before .before .before .if2 .left) (take (a .j .bundles .count) (o .result .rows)) (d .result .verdict) (edges-by m) (drawn-by m) (points-by m) (counts-by m) (taps-by m) (o .ensures (take (a .j .edges .count) (a .j .edges .rows))) (d .ensures .0) _ (c .before .before .before .before .before .before .before .before .v2 .given .1)) (c .before .before .before .before .if3 .taken)) (w .0) refl (w .1)
 
 normalize-layout-requires : tie.Need-normalize-layout-requires
 normalize-layout-requires c κs =
@@ -184,10 +216,10 @@ tap-rows-requires c κs =
 
 put-page-requires : tie.Need-put-page-requires
 put-page-requires c κs =
-    let s = c .before .before .before .before .before .before .before .before .before .before .before .before .before .before .before .before .before .before .before .before .before .before .before .before .before .before .before .before .before .before .before .before .before .before .before .before .before .before .before .before .before .before .before .before .before .before .before .before .before .before .before .before .before .before .before .before .before .before .before .before .before .before .before in
+    let s = c .before .before .before .before .before .before .before .before .before .before .before .before .before .before .before .before .before .before .before .before .before .before .before .before .before .before .before .before .before .before .before .before .before .before .before .before .before .before .before .before .before .before .before .before .before .before .before .before .before .before .before .before .before .before .before .before .before .before .before in
     let a = s .args in
-    let p = c .before .before .before .before .before .before .before .before .before .before .before .before .before .before .before .before .before .before .before .before .before .before .before .before .before .before .before .before .before .before .before .before .before .before .before .before .before .before .before .before .before .before .before .before .before .before .before .before .plan-interior-collectors in
-    let o = c .before .before .before .before .before .before .before .before .before .before .before .before .before .before .before .before .before .before .before .before .before .before .before .before .before .before .before .before .before .before .before .before .before .before .before .before .before .before .before .before .before .before .before .before .before .before .before .before .before .before .before .corridor-depth-offsets in
+    let p = c .before .before .before .before .before .before .before .before .before .before .before .before .before .before .before .before .before .before .before .before .before .before .before .before .before .before .before .before .before .before .before .before .before .before .before .before .before .before .before .before .before .before .before .before .before in
+    let o = c .before .before .before .before .before .before .before .before .before .before .before .before .before .before .before .before .before .before .before .before .before .before .before .before .before .before .before .before .before .before .before .before .before .before .before .before .before .before .before .before .before .before .before .before .before .before .corridor-depth-offsets in
     let d = c .before .before .before .before .before .before .before .before .before .before .before .before .before .before .before .before .before .before .before .before .before .before .before .before .before .before .before .before .before .before .before .before .draw-sheet in
     let n = c .before .before .before .before .before .before .before .before .normalize-layout in
     let t = c .before .before .tap-rows in
@@ -196,14 +228,14 @@ put-page-requires c κs =
     let l = n .result .drawn in
     let long = long-drawn (c .before .before .before .before .before .before .before .before) in
     let many : l .count ≤ max-bundles = omega (arith, on .all-drawn, on .fits .bundles, n .ensures .1 .1 .0) in
-    (many, laws.all-printable (a .j) (a .given .now) (s .pre .0 .0) (sizes s) (p .result) (p .ensures) (c .before .before .before .before .before .before .before .before .before .before .before .before .before .before .before .before .before .before .before .before .before .before .before .before .before .before .before .before .before .before .before .before .before .before .before .before .before .before .before .before .before .before .before .if1 .left) (take (a .j .bundles .count) (o .result .rows)) (d .result .verdict) (edges-by m) (drawn-by m) (points-by m) (counts-by m) (taps-by m) (o .ensures (take (a .j .edges .count) (a .j .edges .rows))) (d .ensures .0) (on-the-grid (a .wants .page) _ (c .before .if3 .taken) (c .before .before .before .before .before .before .before .before .before .before .before .before .if2 .left)) _ (c .before .before .before .before .before .before .before .before .before .before .before .before .before .before .before .before .v2 .given .1) _ (n .result .nodes) (n .last .1 .1 .0) l (t .result) (laws.all-told (a .j) (a .given .now) (s .pre .0 .0) (sizes s) (p .result) (p .ensures) (c .before .before .before .before .before .before .before .before .before .before .before .before .before .before .before .before .before .before .before .before .before .before .before .before .before .before .before .before .before .before .before .before .before .before .before .before .before .before .before .before .before .before .before .if1 .left) (take (a .j .bundles .count) (o .result .rows)) (d .result .verdict) (edges-by m) (drawn-by m) (points-by m) (counts-by m) (taps-by m) (o .ensures (take (a .j .edges .count) (a .j .edges .rows))) (d .ensures .0) _ on (n .result) (n .last .1 .1 .0) (n .last .1 .1 .1 .1 .0) (t .result) (t .ensures) (n .ensures .0 (edges-by m)) (n .ensures .1 .1 .0) (n .ensures .1 .1 .1)) (omega (arith, many, long)), wanted-room (a .wants .page) _ _ (c .before .if3 .taken) (s .pre .0 .2))
+    (many, laws.all-printable (a .j) (a .given .now) (s .pre .0 .0) (sizes s) (a .wants .plan) (a .plan .now) (p .if1 .p) (chosen p) (c .before .before .before .before .before .before .before .before .before .before .before .before .before .before .before .before .before .before .before .before .before .before .before .before .before .before .before .before .before .before .before .before .before .before .before .before .before .before .before .before .before .before .before .if2 .left) (take (a .j .bundles .count) (o .result .rows)) (d .result .verdict) (edges-by m) (drawn-by m) (points-by m) (counts-by m) (taps-by m) (o .ensures (take (a .j .edges .count) (a .j .edges .rows))) (d .ensures .0) (on-the-grid (a .wants .page) _ (c .before .if4 .taken) (c .before .before .before .before .before .before .before .before .before .before .before .before .if3 .left)) _ (c .before .before .before .before .before .before .before .before .before .before .before .before .before .before .before .before .v2 .given .1) _ (n .result .nodes) (n .last .1 .1 .0) l (t .result) (laws.all-told (a .j) (a .given .now) (s .pre .0 .0) (sizes s) (a .wants .plan) (a .plan .now) (p .if1 .p) (chosen p) (c .before .before .before .before .before .before .before .before .before .before .before .before .before .before .before .before .before .before .before .before .before .before .before .before .before .before .before .before .before .before .before .before .before .before .before .before .before .before .before .before .before .before .before .if2 .left) (take (a .j .bundles .count) (o .result .rows)) (d .result .verdict) (edges-by m) (drawn-by m) (points-by m) (counts-by m) (taps-by m) (o .ensures (take (a .j .edges .count) (a .j .edges .rows))) (d .ensures .0) _ on (n .result) (n .last .1 .1 .0) (n .last .1 .1 .1 .1 .0) (t .result) (t .ensures) (n .ensures .0 (edges-by m)) (n .ensures .1 .1 .0) (n .ensures .1 .1 .1)) (omega (arith, many, long)), wanted-room (a .wants .page) _ _ (c .before .if4 .taken) (s .pre .0 .2))
 
 write-answer-requires : tie.Need-write-answer-requires
 write-answer-requires c κs =
-    let s = c .before .before .before .before .before .before .before .before .before .before .before .before .before .before .before .before .before .before .before .before .before .before .before .before .before .before .before .before .before .before .before .before .before .before .before .before .before .before .before .before .before .before .before .before .before .before .before .before .before .before .before .before .before .before .before .before .before .before .before .before .before .before .before .before .before in
+    let s = c .before .before .before .before .before .before .before .before .before .before .before .before .before .before .before .before .before .before .before .before .before .before .before .before .before .before .before .before .before .before .before .before .before .before .before .before .before .before .before .before .before .before .before .before .before .before .before .before .before .before .before .before .before .before .before .before .before .before .before .before .before in
     let a = s .args in
-    let p = c .before .before .before .before .before .before .before .before .before .before .before .before .before .before .before .before .before .before .before .before .before .before .before .before .before .before .before .before .before .before .before .before .before .before .before .before .before .before .before .before .before .before .before .before .before .before .before .before .before .before .plan-interior-collectors in
-    let o = c .before .before .before .before .before .before .before .before .before .before .before .before .before .before .before .before .before .before .before .before .before .before .before .before .before .before .before .before .before .before .before .before .before .before .before .before .before .before .before .before .before .before .before .before .before .before .before .before .before .before .before .before .before .corridor-depth-offsets in
+    let p = c .before .before .before .before .before .before .before .before .before .before .before .before .before .before .before .before .before .before .before .before .before .before .before .before .before .before .before .before .before .before .before .before .before .before .before .before .before .before .before .before .before .before .before .before .before .before .before in
+    let o = c .before .before .before .before .before .before .before .before .before .before .before .before .before .before .before .before .before .before .before .before .before .before .before .before .before .before .before .before .before .before .before .before .before .before .before .before .before .before .before .before .before .before .before .before .before .before .before .before .corridor-depth-offsets in
     let d = c .before .before .before .before .before .before .before .before .before .before .before .before .before .before .before .before .before .before .before .before .before .before .before .before .before .before .before .before .before .before .before .before .before .before .draw-sheet in
     let n = c .before .before .before .before .before .before .before .before .before .before .normalize-layout in
     let t = c .before .before .before .before .tap-rows in
@@ -218,11 +250,11 @@ write-answer-requires c κs =
       bundles = omega (arith, on .all-drawn, on .fits .bundles, n .ensures .1 .1 .0);
       taps = omega (arith, t .ensures .count-is, on .fits .members);
       windows = subst (Windows (n .result .drawn .count) (n .result .drawn .rows)) (sym (t .ensures .count-is)) (windows-kept (a .j .members .count) (drawn-by m) (n .result .drawn) (n .ensures .1 .1 .1) (n .ensures .1 .1 .0) (windows m));
-      room-for-it = laws.sheet-room _ _ _ _ (laws.all-drawn (a .j) (a .given .now) (s .pre .0 .0) (sizes s) (p .result) (p .ensures) (c .before .before .before .before .before .before .before .before .before .before .before .before .before .before .before .before .before .before .before .before .before .before .before .before .before .before .before .before .before .before .before .before .before .before .before .before .before .before .before .before .before .before .before .before .before .if1 .left) (take (a .j .bundles .count) (o .result .rows)) (d .result .verdict) (edges-by m) (drawn-by m) (points-by m) (counts-by m) (taps-by m) (o .ensures (take (a .j .edges .count) (a .j .edges .rows))) (d .ensures .0) _ (c .before .before .before .before .before .before .before .before .before .before .before .before .before .before .before .before .before .before .v2 .given .1)) (laws.all-told (a .j) (a .given .now) (s .pre .0 .0) (sizes s) (p .result) (p .ensures) (c .before .before .before .before .before .before .before .before .before .before .before .before .before .before .before .before .before .before .before .before .before .before .before .before .before .before .before .before .before .before .before .before .before .before .before .before .before .before .before .before .before .before .before .before .before .if1 .left) (take (a .j .bundles .count) (o .result .rows)) (d .result .verdict) (edges-by m) (drawn-by m) (points-by m) (counts-by m) (taps-by m) (o .ensures (take (a .j .edges .count) (a .j .edges .rows))) (d .ensures .0) _ on (n .result) (n .last .1 .1 .0) (n .last .1 .1 .1 .1 .0) (t .result) (t .ensures) (n .ensures .0 (edges-by m)) (n .ensures .1 .1 .0) (n .ensures .1 .1 .1)) (s .pre .1 .0);
+      room-for-it = laws.sheet-room _ _ _ _ (laws.all-drawn (a .j) (a .given .now) (s .pre .0 .0) (sizes s) (a .wants .plan) (a .plan .now) (p .if1 .p) (chosen p) (c .before .before .before .before .before .before .before .before .before .before .before .before .before .before .before .before .before .before .before .before .before .before .before .before .before .before .before .before .before .before .before .before .before .before .before .before .before .before .before .before .before .before .before .before .before .if2 .left) (take (a .j .bundles .count) (o .result .rows)) (d .result .verdict) (edges-by m) (drawn-by m) (points-by m) (counts-by m) (taps-by m) (o .ensures (take (a .j .edges .count) (a .j .edges .rows))) (d .ensures .0) _ (c .before .before .before .before .before .before .before .before .before .before .before .before .before .before .before .before .before .before .v2 .given .1)) (laws.all-told (a .j) (a .given .now) (s .pre .0 .0) (sizes s) (a .wants .plan) (a .plan .now) (p .if1 .p) (chosen p) (c .before .before .before .before .before .before .before .before .before .before .before .before .before .before .before .before .before .before .before .before .before .before .before .before .before .before .before .before .before .before .before .before .before .before .before .before .before .before .before .before .before .before .before .before .before .if2 .left) (take (a .j .bundles .count) (o .result .rows)) (d .result .verdict) (edges-by m) (drawn-by m) (points-by m) (counts-by m) (taps-by m) (o .ensures (take (a .j .edges .count) (a .j .edges .rows))) (d .ensures .0) _ on (n .result) (n .last .1 .1 .0) (n .last .1 .1 .1 .1 .0) (t .result) (t .ensures) (n .ensures .0 (edges-by m)) (n .ensures .1 .1 .0) (n .ensures .1 .1 .1)) (s .pre .1 .0);
     }
 
 same-length-13 : tie.Need-same-length-13
-same-length-13 c = let k = c .before .before .before .before .before .before .before .before .before .before .before .before .before .before .before .before .before .before .before .before .before .before .before .before .before .before .before .before .before .before .before .before .before .before .before .before .before .plan-interior-collectors .kept .1 .1 .1 .1 .1 .1 .1 .1 .1 .1 .0 in omega (arith, k)
+same-length-13 c = let k = sorted-kept (c .before .before .before .before .before .before .before .before .before .before .before .before .before .before .before .before .before .before .before .before .before .before .before .before .before .before .before .before .before .before .before .before .before .before) in omega (arith, k)
 
 same-length-14 : tie.Need-same-length-14
 same-length-14 c = search needs
@@ -235,8 +267,8 @@ same-length-16 c = search needs
 
 same-length-17 : tie.Need-same-length-17
 same-length-17 c =
-    let p = c .before .before .before .before .before .before .before .before .before .before .before .before .before .before .before .before .before .before .before .before .before .before .before .before .before .before .before .before .before .before .before .before .before .before .before .before .before .plan-interior-collectors in
-    let kept = length-front (c .before .before .before .before .before .before .before .before .before .before .before .before .before .before .before .before .before .before .before .before .before .before .before .before .before .before .before .before .before .before .before .before .before .before .before .before .before .before .before .before .before .before .before .before .before .before .before .before .before .before .before .before .args .points .now) (p .last .1 .1 .1 .1 .1 .1 .1 .1 .1 .1 .1 .0) search-work (p .kept .1 .1 .1 .1 .1 .1 .1 .1 .1 .1 .1 .0) in
+    let p = c .before .before .before .before .before .before .before .before .before .before .before .before .before .before .before .before .before .before .before .before .before .before .before .before .before .before .before .before .before .before .before .before .before .before in
+    let kept = points-kept p in
     omega (arith, kept, c .before .before .before .before .before .before .before .before .before .before .before .before .before .before .before .before .before .before .before .before .before .draw-sheet .kept .1 .1 .1 .1 .1 .1 .1 .1 .1 .1 .1 .1 .1 .0)
 
 same-length-18 : tie.Need-same-length-18
@@ -253,16 +285,16 @@ same-length-21 c = search needs
 
 returns-3 : tie.Need-returns-3
 returns-3 c =
-    let s = c .before .before .before .before .before .before .before .before .before .before .before .before .before .before .before .before .before .before .before .before .before .before .before .before .before .before .before .before .before .before .before .before .before .before .before .before .before .before .before .before .before .before .before .before .before .before .before .before .before .before .before .before in
+    let s = c .before .before .before .before .before .before .before .before .before .before .before .before .before .before .before .before .before .before .before .before .before .before .before .before .before .before .before .before .before .before .before .before .before .before .before .before .before .before .before .before .before .before .before .before .before .before .before .before in
     let a = s .args in
-    let p = c .before .before .before .before .before .before .before .before .before .before .before .before .before .before .before .before .before .before .before .before .before .before .before .before .before .before .before .before .before .before .before .before .before .before .before .before .before .plan-interior-collectors in
-    let o = c .before .before .before .before .before .before .before .before .before .before .before .before .before .before .before .before .before .before .before .before .before .before .before .before .before .before .before .before .before .before .before .before .before .before .before .before .before .before .before .before .corridor-depth-offsets in
+    let p = c .before .before .before .before .before .before .before .before .before .before .before .before .before .before .before .before .before .before .before .before .before .before .before .before .before .before .before .before .before .before .before .before .before .before in
+    let o = c .before .before .before .before .before .before .before .before .before .before .before .before .before .before .before .before .before .before .before .before .before .before .before .before .before .before .before .before .before .before .before .before .before .before .before .corridor-depth-offsets in
     let d = c .before .before .before .before .before .before .before .before .before .before .before .before .before .before .before .before .before .before .before .before .before .draw-sheet in
     let w = c .before .before .write-notice2 .ensures in
-    laws.notice-writes _ _ _ _ _ (laws.refused-outputs (a .wants) _ _ (laws.all-refused (a .j) (a .given .now) (s .pre .0 .0) (sizes s) (p .result) (p .ensures) (c .before .before .before .before .before .before .before .before .before .before .before .before .before .before .before .before .before .before .before .before .before .before .before .before .before .before .before .before .before .before .before .before .if1 .left) (take (a .j .bundles .count) (o .result .rows)) (d .result .verdict) (d .last .1 .1 .1 .1 .1 .1 .1 .1 .1 .1 .0) (d .result .drawn) (d .last .1 .1 .1 .1 .1 .1 .1 .1 .1 .1 .1 .1 .1 .0) (d .last .1 .1 .1 .1 .1 .1 .1 .1 .1 .1 .1 .1 .1 .1 .0) (d .last .1 .1 .1 .1 .1 .1 .1 .1 .1 .1 .1 .1 .0) (o .ensures (take (a .j .edges .count) (a .j .edges .rows))) (d .ensures .0) _ _ (c .before .before .before .before .before .v .given .1))) (w .0) refl (w .1)
+    laws.notice-writes _ _ _ _ _ (laws.refused-outputs (a .wants) _ _ (laws.all-refused (a .j) (a .given .now) (s .pre .0 .0) (sizes s) (a .wants .plan) (a .plan .now) (p .if1 .p) (chosen p) (c .before .before .before .before .before .before .before .before .before .before .before .before .before .before .before .before .before .before .before .before .before .before .before .before .before .before .before .before .before .before .before .before .if2 .left) (take (a .j .bundles .count) (o .result .rows)) (d .result .verdict) (d .last .1 .1 .1 .1 .1 .1 .1 .1 .1 .1 .0) (d .result .drawn) (d .last .1 .1 .1 .1 .1 .1 .1 .1 .1 .1 .1 .1 .1 .0) (d .last .1 .1 .1 .1 .1 .1 .1 .1 .1 .1 .1 .1 .1 .1 .0) (d .last .1 .1 .1 .1 .1 .1 .1 .1 .1 .1 .1 .1 .0) (o .ensures (take (a .j .edges .count) (a .j .edges .rows))) (d .ensures .0) _ _ (c .before .before .before .before .before .v .given .1))) (w .0) refl (w .1)
 
 same-length-22 : tie.Need-same-length-22
-same-length-22 c = let k = c .before .before .before .before .before .before .before .before .before .before .before .before .before .before .before .before .before .before .before .before .before .before .before .before .before .before .before .before .before .before .before .before .before .before .before .before .before .before .before .before .before .before .before .before .before .before .before .before .before .before .before .before .before .plan-interior-collectors .kept .1 .1 .1 .1 .1 .1 .1 .1 .1 .1 .0 in omega (arith, k)
+same-length-22 c = let k = sorted-kept (c .before .before .before .before .before .before .before .before .before .before .before .before .before .before .before .before .before .before .before .before .before .before .before .before .before .before .before .before .before .before .before .before .before .before .before .before .before .before .before .before .before .before .before .before .before .before .before .before .before .before) in omega (arith, k)
 
 same-length-23 : tie.Need-same-length-23
 same-length-23 c = omega (arith, c .before .before .before .before .before .before .before .before .before .before .before .before .before .before .before .before .before .before .before .before .before .before .before .before .before .before .before .before .before .before .before .before .before .before .before .before .before .draw-sheet .kept .1 .1 .1 .1 .1 .1 .1 .1 .1 .1 .0)
@@ -275,8 +307,8 @@ same-length-25 c = omega (arith, c .before .before .before .before .before .befo
 
 same-length-26 : tie.Need-same-length-26
 same-length-26 c =
-    let p = c .before .before .before .before .before .before .before .before .before .before .before .before .before .before .before .before .before .before .before .before .before .before .before .before .before .before .before .before .before .before .before .before .before .before .before .before .before .before .before .before .before .before .before .before .before .before .before .before .before .before .before .before .before .plan-interior-collectors in
-    let kept = length-front (c .before .before .before .before .before .before .before .before .before .before .before .before .before .before .before .before .before .before .before .before .before .before .before .before .before .before .before .before .before .before .before .before .before .before .before .before .before .before .before .before .before .before .before .before .before .before .before .before .before .before .before .before .before .before .before .before .before .before .before .before .before .before .before .before .before .before .before .before .args .points .now) (p .last .1 .1 .1 .1 .1 .1 .1 .1 .1 .1 .1 .0) search-work (p .kept .1 .1 .1 .1 .1 .1 .1 .1 .1 .1 .1 .0) in
+    let p = c .before .before .before .before .before .before .before .before .before .before .before .before .before .before .before .before .before .before .before .before .before .before .before .before .before .before .before .before .before .before .before .before .before .before .before .before .before .before .before .before .before .before .before .before .before .before .before .before .before .before in
+    let kept = points-kept p in
     omega (arith, kept, c .before .before .before .before .before .before .before .before .before .before .before .before .before .before .before .before .before .before .before .before .before .before .before .before .before .before .before .before .before .before .before .before .before .before .before .before .before .draw-sheet .kept .1 .1 .1 .1 .1 .1 .1 .1 .1 .1 .1 .1 .1 .0, c .before .before .before .before .before .before .before .before .before .before .before .before .before .normalize-layout .kept .1 .1 .0)
 
 same-length-27 : tie.Need-same-length-27
@@ -292,14 +324,14 @@ same-length-30 : tie.Need-same-length-30
 same-length-30 c = search needs
 
 same-length-31 : tie.Need-same-length-31
-same-length-31 c = laws.way (c .before .before .before .before .before .before .if3 .came) (λ x. ap length (x .5) ∙ x .2 .kept .0) (λ x. ap length (x .1))
+same-length-31 c = laws.way (c .before .before .before .before .before .before .if4 .came) (λ x. ap length (x .5) ∙ x .2 .kept .0) (λ x. ap length (x .1))
 
 returns-4 : tie.Need-returns-4
 returns-4 c =
-    let s = c .before .before .before .before .before .before .before .before .before .before .before .before .before .before .before .before .before .before .before .before .before .before .before .before .before .before .before .before .before .before .before .before .before .before .before .before .before .before .before .before .before .before .before .before .before .before .before .before .before .before .before .before .before .before .before .before .before .before .before .before .before .before .before .before .before .before .before .before in
+    let s = c .before .before .before .before .before .before .before .before .before .before .before .before .before .before .before .before .before .before .before .before .before .before .before .before .before .before .before .before .before .before .before .before .before .before .before .before .before .before .before .before .before .before .before .before .before .before .before .before .before .before .before .before .before .before .before .before .before .before .before .before .before .before .before .before in
     let a = s .args in
-    let p = c .before .before .before .before .before .before .before .before .before .before .before .before .before .before .before .before .before .before .before .before .before .before .before .before .before .before .before .before .before .before .before .before .before .before .before .before .before .before .before .before .before .before .before .before .before .before .before .before .before .before .before .before .before .plan-interior-collectors in
-    let o = c .before .before .before .before .before .before .before .before .before .before .before .before .before .before .before .before .before .before .before .before .before .before .before .before .before .before .before .before .before .before .before .before .before .before .before .before .before .before .before .before .before .before .before .before .before .before .before .before .before .before .before .before .before .before .before .before .corridor-depth-offsets in
+    let p = c .before .before .before .before .before .before .before .before .before .before .before .before .before .before .before .before .before .before .before .before .before .before .before .before .before .before .before .before .before .before .before .before .before .before .before .before .before .before .before .before .before .before .before .before .before .before .before .before .before .before in
+    let o = c .before .before .before .before .before .before .before .before .before .before .before .before .before .before .before .before .before .before .before .before .before .before .before .before .before .before .before .before .before .before .before .before .before .before .before .before .before .before .before .before .before .before .before .before .before .before .before .before .before .before .before .corridor-depth-offsets in
     let d = c .before .before .before .before .before .before .before .before .before .before .before .before .before .before .before .before .before .before .before .before .before .before .before .before .before .before .before .before .before .before .before .before .before .before .before .before .before .draw-sheet in
     let n = c .before .before .before .before .before .before .before .before .before .before .before .before .before .normalize-layout in
     let t = c .before .before .before .before .before .before .before .tap-rows in
@@ -308,8 +340,8 @@ returns-4 c =
     let w = c .before .before .write-answer .ensures in
     let l = n .result .drawn in
     let same = page-of-tables id-columns (record { «tap_visits» = 0; «geometry_visits» = 0; width = n .result .width; height = n .result .height }) (n .result .nodes) (a .j .edges) (n .last .1 .1 .0) (counts-by m) l (t .result) in
-    laws.drawn-writes (a .wants) _ _ (laws.all-drawn (a .j) (a .given .now) (s .pre .0 .0) (sizes s) (p .result) (p .ensures) (c .before .before .before .before .before .before .before .before .before .before .before .before .before .before .before .before .before .before .before .before .before .before .before .before .before .before .before .before .before .before .before .before .before .before .before .before .before .before .before .before .before .before .before .before .before .before .before .before .if1 .left) (take (a .j .bundles .count) (o .result .rows)) (d .result .verdict) (edges-by m) (drawn-by m) (points-by m) (counts-by m) (taps-by m) (o .ensures (take (a .j .edges .count) (a .j .edges .rows))) (d .ensures .0) _ (c .before .before .before .before .before .before .before .before .before .before .before .before .before .before .before .before .before .before .before .before .before .v2 .given .1)) (c .before .before .before .before .before .before .before .before .before .before .before .before .before .before .before .before .before .if2 .left) _ _ _ _ (laws.all-told (a .j) (a .given .now) (s .pre .0 .0) (sizes s) (p .result) (p .ensures) (c .before .before .before .before .before .before .before .before .before .before .before .before .before .before .before .before .before .before .before .before .before .before .before .before .before .before .before .before .before .before .before .before .before .before .before .before .before .before .before .before .before .before .before .before .before .before .before .before .if1 .left) (take (a .j .bundles .count) (o .result .rows)) (d .result .verdict) (edges-by m) (drawn-by m) (points-by m) (counts-by m) (taps-by m) (o .ensures (take (a .j .edges .count) (a .j .edges .rows))) (d .ensures .0) _ on (n .result) (n .last .1 .1 .0) (n .last .1 .1 .1 .1 .0) (t .result) (t .ensures) (n .ensures .0 (edges-by m)) (n .ensures .1 .1 .0) (n .ensures .1 .1 .1)) (w .0)
-    (laws.way (c .before .before .before .before .before .before .if3 .came)
+    laws.drawn-writes (a .wants) _ _ (laws.all-drawn (a .j) (a .given .now) (s .pre .0 .0) (sizes s) (a .wants .plan) (a .plan .now) (p .if1 .p) (chosen p) (c .before .before .before .before .before .before .before .before .before .before .before .before .before .before .before .before .before .before .before .before .before .before .before .before .before .before .before .before .before .before .before .before .before .before .before .before .before .before .before .before .before .before .before .before .before .before .before .before .if2 .left) (take (a .j .bundles .count) (o .result .rows)) (d .result .verdict) (edges-by m) (drawn-by m) (points-by m) (counts-by m) (taps-by m) (o .ensures (take (a .j .edges .count) (a .j .edges .rows))) (d .ensures .0) _ (c .before .before .before .before .before .before .before .before .before .before .before .before .before .before .before .before .before .before .before .before .before .v2 .given .1)) (c .before .before .before .before .before .before .before .before .before .before .before .before .before .before .before .before .before .if3 .left) _ _ _ _ (laws.all-told (a .j) (a .given .now) (s .pre .0 .0) (sizes s) (a .wants .plan) (a .plan .now) (p .if1 .p) (chosen p) (c .before .before .before .before .before .before .before .before .before .before .before .before .before .before .before .before .before .before .before .before .before .before .before .before .before .before .before .before .before .before .before .before .before .before .before .before .before .before .before .before .before .before .before .before .before .before .before .before .if2 .left) (take (a .j .bundles .count) (o .result .rows)) (d .result .verdict) (edges-by m) (drawn-by m) (points-by m) (counts-by m) (taps-by m) (o .ensures (take (a .j .edges .count) (a .j .edges .rows))) (d .ensures .0) _ on (n .result) (n .last .1 .1 .0) (n .last .1 .1 .1 .1 .0) (t .result) (t .ensures) (n .ensures .0 (edges-by m)) (n .ensures .1 .1 .0) (n .ensures .1 .1 .1)) (w .0)
+    (laws.way (c .before .before .before .before .before .before .if4 .came)
     (λ x. laws.page-put _ _ _ _ (x .0 .taken) (x .5 ∙ x .2 .ensures .0 ∙ ap (sets (a .page .now) 0) same))
     (λ x. laws.page-left _ _ _ _ (x .0 .left) (x .1)))
     (w .1)
@@ -319,9 +351,11 @@ draw-in-spec =
     tie.close
     (tie.spec
     corridor-depth-offsets-requires
+    read-plan-requires
     slice-relend-prefix-plan-interior-collectors
     slice-aggregate-plan-interior-collectors
     plan-interior-collectors-requires
+    own-plan-requires
     write-notice-requires
     same-length
     same-length-2

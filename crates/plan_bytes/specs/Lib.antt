@@ -1,0 +1,4 @@
+pub mod PlanBytes
+pub mod PlanCases
+pub mod PlanNumbers
+pub mod PlanBack

@@ -1,0 +1,41 @@
+-- `stage::stage_plan` meets its contract. Assumes nothing.
+use native.Mathlib.Omega.{arith}
+use Rattle.job_planning.proofs.PlanPhases as phases
+use borrow.Author.Needs.{needs}
+use Rattle.stage.proofs.stage_plan.Statement.{statement}
+use Rattle.stage.proofs.stage_plan.Tie as tie
+
+returns : tie.Need-returns
+returns c = let a = c .before .before .before .args in phases.short-plan (a .job .now) (a .plan .now) (c .if1 .taken)
+
+slice-aggregate-read-and-plan : tie.Need-slice-aggregate-read-and-plan
+slice-aggregate-read-and-plan c = search needs
+
+slice-aggregate-read-and-plan-2 : tie.Need-slice-aggregate-read-and-plan-2
+slice-aggregate-read-and-plan-2 c = search needs
+
+slice-aggregate-read-and-plan-3 : tie.Need-slice-aggregate-read-and-plan-3
+slice-aggregate-read-and-plan-3 c = search needs
+
+read-and-plan-requires : tie.Need-read-and-plan-requires
+read-and-plan-requires c κs = search needs
+
+same-length : tie.Need-same-length
+same-length c = search needs
+
+returns-2 : tie.Need-returns-2
+returns-2 c =
+    let a = c .before .before .before .before .before .before .before .before .before .before .before .before .before .args in
+    phases.whole-plan (a .job .now) (a .plan .now) _ _ (omega (arith, c .before .before .before .before .before .before .before .before .before .before .if1 .left)) (c .before .before .before .before .before .read-and-plan .ensures)
+
+pub stage-plan-spec : {M : Type 1} → statement M
+stage-plan-spec =
+    tie.close
+    (tie.spec
+    returns
+    slice-aggregate-read-and-plan
+    slice-aggregate-read-and-plan-2
+    slice-aggregate-read-and-plan-3
+    read-and-plan-requires
+    same-length
+    returns-2)
