@@ -20,13 +20,16 @@ extern "C" {
 #define STAGE_NUMBER_AT 5
 /* Where an answer has its count of bundles, in two bytes, the higher first. */
 #define STAGE_BUNDLES_AT 34
+/* A plan: the least size of its buffer. No plan is longer. */
+#define STAGE_PLAN_SIZE 297
 /* The bundle page: the least size of its buffer, and the bytes of a line, one line for each bundle. */
 #define STAGE_PAGE_SIZE 2432
 #define STAGE_PAGE_LINE_SIZE 76
-/* Bits of what stage_sheet is told is wanted; those that are not listed say nothing. */
+/* Bits of what stage_sheet is told is given and wanted; those that are not listed say nothing. */
+#define STAGE_PLAN_GIVEN 1u
 #define STAGE_WANT_PAGE 2u
 /* Stack that a call needs at most, as measured. */
-#define STAGE_STACK_SIZE 686760
+#define STAGE_STACK_SIZE 615608
 
 /*
  * Writes the answer to the job, or the notice of its refusal, to the front of the answer's buffer, and
@@ -38,16 +41,33 @@ extern "C" {
 size_t stage(const uint8_t *job, size_t job_length, uint8_t *answer, size_t answer_length);
 
 /*
- * The same, and the bundle page at the front of its buffer, if STAGE_WANT_PAGE says so: a line of
- * STAGE_PAGE_LINE_SIZE bytes for each bundle. Later bytes stay as they were, and so does the whole page
- * where the job is refused. A page's buffer under STAGE_PAGE_SIZE, where it is wanted, is as an answer's
- * buffer that is too short. 16 is the refusal of a page for a job that is not said to be on the drafting
- * grid (flag bit 2), after all others.
- *
- * No two of job, answer and page overlap. No pointer is null; a page that is not wanted may have length 0.
+ * Writes the plan of the job, or the notice of its refusal, to the front of the plan's buffer, and gives how
+ * many bytes that are: 6 for a notice, 9 or more for a plan. A buffer under STAGE_PLAN_SIZE is not written
+ * to, and the result is 0.
  */
-size_t stage_sheet(uint32_t wants, const uint8_t *job, size_t job_length, uint8_t *answer,
-                   size_t answer_length, uint8_t *page, size_t page_length);
+size_t stage_plan(const uint8_t *job, size_t job_length, uint8_t *plan, size_t plan_length);
+
+/*
+ * Writes the answer to the job, drawn from the plan, or the notice of its refusal, as stage does. With the
+ * plan that stage_plan gives for the job, this is stage. 17 is the refusal of a plan that does not fit the
+ * job's bundles, 18 that of a planned number.
+ */
+size_t stage_draw(const uint8_t *job, size_t job_length, const uint8_t *plan, size_t plan_length,
+                  uint8_t *answer, size_t answer_length);
+
+/*
+ * As stage, or as stage_draw if STAGE_PLAN_GIVEN says so; and the bundle page at the front of its buffer, if
+ * STAGE_WANT_PAGE says so: a line of STAGE_PAGE_LINE_SIZE bytes for each bundle. Later bytes stay as they
+ * were, and so does the whole page where the job is refused. A page's buffer under STAGE_PAGE_SIZE, where it
+ * is wanted, is as an answer's buffer that is too short. 16 is the refusal of a page for a job that is not
+ * said to be on the drafting grid (flag bit 2), after all others.
+ *
+ * No two of job, plan, answer and page overlap. No pointer is null; a plan that is not given and a page
+ * that is not wanted may have length 0.
+ */
+size_t stage_sheet(uint32_t wants, const uint8_t *job, size_t job_length, const uint8_t *plan,
+                   size_t plan_length, uint8_t *answer, size_t answer_length, uint8_t *page,
+                   size_t page_length);
 
 #ifdef __cplusplus
 }

@@ -1,4 +1,4 @@
-//! The outputs of the stage beside its answer.
+//! What the stage can be given beside the job, and its outputs beside the answer.
 
 use bundle_stage_sys::{BUFFER, PAGE};
 
@@ -13,9 +13,11 @@ pub const PAGE_LINE_SIZE: usize = 76;
 /// Where an answer has its count of bundles, in two bytes.
 const BUNDLES_AT: usize = 34;
 
-/// What is wanted beside the answer.
+/// What is given beside the job, and what is wanted beside the answer.
 #[derive(Clone, Copy, Debug, Default, Eq, PartialEq)]
-pub struct Wanted {
+pub struct Wanted<'a> {
+    /// The bytes of a plan to draw from; without one the stage plans itself.
+    pub plan: Option<&'a [u8]>,
     /// The bundle page. A board that is not said to be on the drafting grid (`flags.on_grid`) has none
     /// and is refused with [`Refusal::PageOffGrid`], if with nothing else.
     pub page: bool,
@@ -27,7 +29,7 @@ pub struct Wanted {
 /// use bundle_stage::*;
 ///
 /// let mut buffers = Box::new(Buffers::default());
-/// let wanted = Wanted { page: true };
+/// let wanted = Wanted { page: true, ..Wanted::default() };
 /// let job = Board::default().to_bytes()?;
 /// assert_eq!(buffers.write(&job, &wanted).answer, [0, 0, 0, 2, 1, 16]);
 /// let grid = Board { flags: Flags { on_grid: true, ..Flags::default() }, ..Board::default() };
@@ -61,9 +63,9 @@ pub struct Written<'a> {
 
 impl Buffers {
     /// The answer to a job's bytes, whatever they are, and what else is wanted.
-    pub fn write(&mut self, job: &[u8], wanted: &Wanted) -> Written<'_> {
+    pub fn write(&mut self, job: &[u8], wanted: &Wanted<'_>) -> Written<'_> {
         let page = wanted.page.then_some(&mut self.page);
-        let count = bundle_stage_sys::stage_sheet(job, &mut self.answer, page);
+        let count = bundle_stage_sys::stage_sheet(job, wanted.plan, &mut self.answer, page);
         let answer = &self.answer[..count];
         // A notice is shorter, and with it nothing else is written.
         let bundles = match answer.get(BUNDLES_AT..BUNDLES_AT + 2) {
@@ -87,11 +89,12 @@ pub struct Drawn {
 }
 
 impl Board {
-    /// Draws the bundles, as [`Board::draw`] does, and gives what else is wanted.
+    /// Draws the bundles, as [`Board::draw`] does, or [`Board::draw_from`] where a plan is given, and
+    /// gives what else is wanted.
     ///
     /// # Errors
     ///
-    /// The stage's refusal, as [`Board::draw`] gives it, or that of an output that is wanted.
+    /// The stage's refusal, as these give it, or that of an output that is wanted.
     ///
     /// # Panics
     ///
@@ -108,12 +111,12 @@ impl Board {
     ///     bundles: vec![Bundle { id: 7, endpoint: port, role: Role::Input, width: 0, members: vec![] }],
     ///     ..Board::default()
     /// };
-    /// let drawn = board.draw_with(&Wanted { page: true })?;
+    /// let drawn = board.draw_with(&Wanted { page: true, ..Wanted::default() })?;
     /// let due = "         7 I           40.0000000           20.5000000           20.5000000\n";
     /// assert_eq!(drawn.page.as_deref(), Some(due));
     /// # Ok::<(), Refusal>(())
     /// ```
-    pub fn draw_with(&self, wanted: &Wanted) -> Result<Drawn, Refusal> {
+    pub fn draw_with(&self, wanted: &Wanted<'_>) -> Result<Drawn, Refusal> {
         let job = self.to_bytes().map_err(|_| Refusal::LimitExceeded)?;
         let mut buffers = Box::new(Buffers::default());
         let written = buffers.write(&job, wanted);

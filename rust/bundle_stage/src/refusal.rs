@@ -3,8 +3,8 @@
 use std::error::Error;
 use std::fmt;
 
-/// Why there is no sheet: one case for each number of document 01, and of requests F-2 and
-/// F-4 of document 02.
+/// Why there is no sheet: one case for each number of document 01, and of requests F-2,
+/// F-4 and F-5 of document 02.
 ///
 /// [`Refused`](crate::Refused) adds what a refusal is about.
 #[derive(Clone, Copy, Debug, Eq, Hash, PartialEq)]
@@ -43,6 +43,11 @@ pub enum Refusal {
     OffGrid,
     /// 16: the bundle page is wanted, and the job is not said to be on the drafting grid.
     PageOffGrid,
+    /// 17: a plan's length, version, marks or count of entries do not fit the board's bundles, or its
+    /// visits left are more than the board grants.
+    PlanMismatch,
+    /// 18: a planned number is no coordinate, or is off the grid of a board that is said to be on it.
+    PlannedNumber,
 }
 
 /// Who can cause a refusal.
@@ -57,11 +62,13 @@ pub enum Cause {
     Drawing,
     /// The visits that the job grants.
     Grant,
+    /// Whoever made or kept the plan that is given.
+    Plan,
 }
 
 impl Refusal {
     /// All of them, by number.
-    pub const ALL: [Refusal; 16] = [
+    pub const ALL: [Refusal; 18] = [
         Refusal::LengthMismatch,
         Refusal::BufferTooShort,
         Refusal::UnknownVersion,
@@ -78,6 +85,8 @@ impl Refusal {
         Refusal::GeometryVisitsSpent,
         Refusal::OffGrid,
         Refusal::PageOffGrid,
+        Refusal::PlanMismatch,
+        Refusal::PlannedNumber,
     ];
 
     /// The number in the notice.
@@ -98,6 +107,7 @@ impl Refusal {
             1 | 2 | 16 => Cause::Caller,
             3..=9 | 15 => Cause::Writer,
             10..=13 => Cause::Drawing,
+            17 | 18 => Cause::Plan,
             _ => Cause::Grant,
         }
     }
@@ -149,6 +159,14 @@ impl Refusal {
             }
             Refusal::PageOffGrid => {
                 "the bundle page is wanted, and the job is not said to be on the drafting grid"
+            }
+            Refusal::PlanMismatch => {
+                "the plan's length, version, marks or count of entries do not fit the job's bundles, \
+                 or its tap visits left are more than the job grants"
+            }
+            Refusal::PlannedNumber => {
+                "a planned number is not finite or out of range, or, the job being said to be on the \
+                 drafting grid, off the grid"
             }
         }
     }
@@ -214,6 +232,13 @@ impl Refusal {
                 "A page has exact decimals, which only numbers on the grid have: say that the board \
                  is on it (flag bit 2; `grid yes` in a text), or do without the page."
             }
+            Refusal::PlanMismatch => {
+                "Look whether the plan is of this revision of the board, and whole; plan anew."
+            }
+            Refusal::PlannedNumber => {
+                "Planned numbers have magnitude at most 2^30; on the grid they are multiples of 1/128 \
+                 with magnitude at most 2^20, and not minus zero. Plan anew."
+            }
         }
     }
 }
@@ -225,6 +250,7 @@ impl fmt::Display for Cause {
             Cause::Writer => "the job's writer",
             Cause::Drawing => "the drawing",
             Cause::Grant => "the grant",
+            Cause::Plan => "the plan",
         })
     }
 }

@@ -123,6 +123,10 @@ impl<'a> Reader<'a> {
         })
     }
 
+    pub(crate) fn is_at_end(&self) -> bool {
+        self.at == self.bytes.len()
+    }
+
     pub(crate) fn end(self) -> Result<(), Malformed> {
         match self.bytes.len() - self.at {
             0 => Ok(()),

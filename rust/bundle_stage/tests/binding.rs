@@ -269,69 +269,16 @@ fn every_refusal_by_name() {
         board.nodes[0].x = 0.3;
     };
     assert_eq!(changed(off_grid), Err(Refusal::OffGrid));
-    let page = Wanted { page: true };
+    let page = Wanted {
+        page: true,
+        ..Wanted::default()
+    };
     assert_eq!(board().draw_with(&page), Err(Refusal::PageOffGrid));
-}
-
-/// Document 02, F-4: the page of a board on the grid, and 16 after everything else.
-#[test]
-fn the_bundle_page() {
-    let mut board = board();
-    board.flags.on_grid = true;
-    board.nodes[0].y -= 1.0 / 64.0;
-    board.ports[0].offset += 1.0 / 64.0;
-    let wanted = Wanted { page: true };
-    let drawn = board.draw_with(&wanted).expect("drawn");
-    assert_eq!(drawn.sheet, board.draw().expect("drawn"));
-    assert_eq!(
-        drawn.page.as_deref(),
-        Some("         1 I          180.0000000           40.0000000           60.0000000\n")
-    );
-    let nothing = board.draw_with(&Wanted::default()).expect("drawn");
-    assert_eq!((nothing.page, nothing.sheet), (None, drawn.sheet));
-    board.flags.on_grid = false;
-    assert_eq!(board.draw_with(&wanted), Err(Refusal::PageOffGrid));
-    assert!(board.draw_with(&Wanted::default()).is_ok());
-    let last = board.edges.len() - 1;
-    board.edges[last].points.truncate(1);
-    assert_eq!(board.draw_with(&wanted), Err(Refusal::TapUnreachable));
-    board.edges[last].points = vec![at(0.0, 0.0); 65_536];
-    assert_eq!(board.draw_with(&wanted), Err(Refusal::LimitExceeded));
-}
-
-/// The buffers hold what was written before; nothing of it is taken for what is written now.
-#[test]
-fn buffers_are_used_again() {
-    let mut buffers = Box::new(Buffers::default());
-    let wanted = Wanted { page: true };
-    let records = stored("jobs.bin");
-    let (mut pages, mut refused) = (0, 0);
-    for pair in records.chunks_exact(2) {
-        let (job, due) = (&pair[0], &pair[1]);
-        let on_grid = job.get(5).is_some_and(|flags| flags & 4 != 0);
-        let written = buffers.write(job, &wanted);
-        if due[5] != 0 {
-            assert_eq!((written.answer, written.page), (&due[..], None));
-        } else if on_grid {
-            assert_eq!(written.answer, due);
-            let page = written.page.expect("a page");
-            let bundles = usize::from(u16::from_be_bytes([due[34], due[35]]));
-            assert_eq!(page.len(), bundles * PAGE_LINE_SIZE);
-            let mut lines = page.chunks(PAGE_LINE_SIZE);
-            assert!(lines.all(|line| line[75] == b'\n' && !line[..75].contains(&b'\n')));
-            pages += 1;
-        } else {
-            assert_eq!(written.answer, [0, 0, 0, 2, 1, 16]);
-            assert_eq!(written.page, None);
-            refused += 1;
-        }
-        let written = buffers.write(job, &Wanted::default());
-        assert_eq!((written.answer, written.page), (&due[..], None));
-    }
-    assert!(
-        pages > 10 && refused > 10,
-        "{pages} pages, {refused} with 16"
-    );
+    let mut plan = board().plan().expect("planned");
+    plan.places.push(None);
+    assert_eq!(board().draw_from(&plan), Err(Refusal::PlanMismatch));
+    plan.places = vec![Some(f64::NAN)];
+    assert_eq!(board().draw_from(&plan), Err(Refusal::PlannedNumber));
 }
 
 /// Document 02, F-2: a multiple of 1/64 with magnitude at most 2^20, after 7 at the same number.
@@ -429,37 +376,6 @@ fn minus_zero_is_taken_as_plus_zero() {
     }
 }
 
-/// The reading of document 01 for 13: the largest input minimum is 2^-33, pitch and smallest output
-/// maximum are 2^20.
-fn split_board() -> Board {
-    let pitch = 2_f64.powi(20);
-    let mut board = board();
-    board.options = Options {
-        route_lane_gap: pitch,
-        edge_node_clearance: 2_f64.powi(-33),
-        ..Options::default()
-    };
-    board.nodes = vec![
-        node(1, -pitch, 0.0, 0.0, 0.0),
-        node(2, 2.0 * pitch, 0.0, 0.0, 0.0),
-    ];
-    board.ports.iter_mut().for_each(|port| port.offset = 0.0);
-    for (y, edge) in [0.0, 1.0].into_iter().zip(&mut board.edges) {
-        edge.points = vec![at(-pitch, y), at(2.0 * pitch, y)];
-    }
-    let lanes = board.bundles[0].members.iter_mut();
-    lanes.for_each(|member| member.lane = 0);
-    let members = board.bundles[0].members.clone();
-    board.bundles.push(Bundle {
-        id: 2,
-        endpoint: Endpoint { node: 2, port: 1 },
-        role: Role::Output,
-        width: 2,
-        members,
-    });
-    board
-}
-
 #[test]
 fn refusals_have_their_numbers_and_words() {
     for (refusal, number) in Refusal::ALL.into_iter().zip(1..) {
@@ -472,24 +388,10 @@ fn refusals_have_their_numbers_and_words() {
         let _: &dyn Error = &refusal;
     }
     assert_eq!(Refusal::of_number(0), None);
-    assert_eq!(Refusal::of_number(17), None);
+    assert_eq!(Refusal::of_number(19), None);
 }
 
 // ---- against the Rust
-
-/// The records of a file in `stored/`: jobs and answers by turns.
-fn stored(name: &str) -> Vec<Vec<u8>> {
-    let path = format!("{}/../../stored/{name}", env!("CARGO_MANIFEST_DIR"));
-    let bytes = std::fs::read(path).expect("a stored file");
-    let mut rest = &bytes[..];
-    let mut records = Vec::new();
-    while let Some((length, tail)) = rest.split_first_chunk() {
-        let (record, tail) = tail.split_at(u32::from_be_bytes(*length) as usize);
-        records.push(record.to_vec());
-        rest = tail;
-    }
-    records
-}
 
 #[test]
 fn stored_jobs_and_answers() {

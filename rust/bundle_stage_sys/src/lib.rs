@@ -3,9 +3,13 @@
 
 /// The bytes of an answer's buffer: the least that the stage accepts. No answer is longer.
 pub const BUFFER: usize = 65_536;
+/// The bytes of a plan's buffer: the least that the stage accepts, and the largest plan.
+pub const PLAN: usize = 297;
 /// The bytes of a bundle page's buffer: the least that the stage accepts, and the largest page.
 pub const PAGE: usize = 2_432;
 
+/// The bit of `wants` that says: a plan is given.
+pub const PLAN_GIVEN: u32 = 1;
 /// The bit of `wants` that says: the bundle page is wanted.
 pub const WANT_PAGE: u32 = 1 << 1;
 
@@ -28,12 +32,36 @@ pub mod c {
 
         /// # Safety
         ///
-        /// As `stage`, of three buffers: no two overlap. A pointer is not null, even where the length
-        /// is 0, as it may be for an output that is not wanted.
+        /// As `stage`, the plan's buffer being the one that is written to.
+        pub fn stage_plan(
+            job: *const u8,
+            job_length: usize,
+            plan: *mut u8,
+            plan_length: usize,
+        ) -> usize;
+
+        /// # Safety
+        ///
+        /// As `stage`, of three buffers: no two overlap.
+        pub fn stage_draw(
+            job: *const u8,
+            job_length: usize,
+            plan: *const u8,
+            plan_length: usize,
+            answer: *mut u8,
+            answer_length: usize,
+        ) -> usize;
+
+        /// # Safety
+        ///
+        /// As `stage`, of four buffers: no two overlap. A pointer is not null, even where the length
+        /// is 0, as it may be for a plan that is not given or an output that is not wanted.
         pub fn stage_sheet(
             wants: u32,
             job: *const u8,
             job_length: usize,
+            plan: *const u8,
+            plan_length: usize,
             answer: *mut u8,
             answer_length: usize,
             page: *mut u8,
@@ -66,19 +94,61 @@ pub fn stage(job: &[u8], answer: &mut [u8; BUFFER]) -> usize {
     unsafe { c::stage(job.as_ptr(), job.len(), answer.as_mut_ptr(), answer.len()) }
 }
 
-/// The answer to the job as `stage` gives it, and the bundle page where a buffer for it is lent. A
-/// refusal, 16 of the page among them, leaves the page's buffer as it was.
+/// Writes the plan of the job, or the notice of its refusal, to the front of the buffer, and gives how
+/// many bytes that are: 6, or from 9 to 297. Later bytes of the buffer stay as they were.
+///
+/// ```
+/// let mut plan = [0; bundle_stage_sys::PLAN];
+/// let count = bundle_stage_sys::stage_plan(b"no job", &mut plan);
+/// assert_eq!(plan[..count], [0, 0, 0, 2, 1, 1]);
+/// ```
+pub fn stage_plan(job: &[u8], plan: &mut [u8; PLAN]) -> usize {
+    // SAFETY: as in `stage`, with the plan in the answer's place.
+    unsafe { c::stage_plan(job.as_ptr(), job.len(), plan.as_mut_ptr(), plan.len()) }
+}
+
+/// Writes the answer to the job, drawn from the plan, or the notice of its refusal, to the front of the
+/// buffer, and gives how many bytes that are.
+pub fn stage_draw(job: &[u8], plan: &[u8], answer: &mut [u8; BUFFER]) -> usize {
+    // SAFETY: as in `stage`, of three slices, two of which are lent shared.
+    unsafe {
+        c::stage_draw(
+            job.as_ptr(),
+            job.len(),
+            plan.as_ptr(),
+            plan.len(),
+            answer.as_mut_ptr(),
+            answer.len(),
+        )
+    }
+}
+
+/// The answer to the job as `stage` gives it, or as `stage_draw` does where a plan is given, and the
+/// bundle page where a buffer for it is lent. A refusal, 16 of the page among them, leaves the page's
+/// buffer as it was.
 ///
 /// ```
 /// use bundle_stage_sys::{BUFFER, PAGE};
 ///
 /// let (mut answer, mut page) = ([0; BUFFER], [7; PAGE]);
-/// let count = bundle_stage_sys::stage_sheet(b"no job", &mut answer, Some(&mut page));
+/// let count = bundle_stage_sys::stage_sheet(b"no job", None, &mut answer, Some(&mut page));
 /// assert_eq!(answer[..count], [0, 0, 0, 2, 1, 1]);
 /// assert_eq!(page, [7; PAGE]);
 /// ```
-pub fn stage_sheet(job: &[u8], answer: &mut [u8; BUFFER], page: Option<&mut [u8; PAGE]>) -> usize {
+pub fn stage_sheet(
+    job: &[u8],
+    plan: Option<&[u8]>,
+    answer: &mut [u8; BUFFER],
+    page: Option<&mut [u8; PAGE]>,
+) -> usize {
     let mut wants = 0;
+    let plan = match plan {
+        Some(plan) => {
+            wants |= PLAN_GIVEN;
+            plan
+        }
+        None => &[],
+    };
     let page: &mut [u8] = match page {
         Some(page) => {
             wants |= WANT_PAGE;
@@ -86,13 +156,15 @@ pub fn stage_sheet(job: &[u8], answer: &mut [u8; BUFFER], page: Option<&mut [u8;
         }
         None => &mut [],
     };
-    // SAFETY: as in `stage`, of three slices, no two of which overlap; an empty one has a pointer that
-    // is not null. The contract holds for every `wants` and all lengths.
+    // SAFETY: as in `stage`, of four slices, of which the two that are written to overlap no other; an
+    // empty one has a pointer that is not null. The contract holds for every `wants` and all lengths.
     unsafe {
         c::stage_sheet(
             wants,
             job.as_ptr(),
             job.len(),
+            plan.as_ptr(),
+            plan.len(),
             answer.as_mut_ptr(),
             answer.len(),
             page.as_mut_ptr(),

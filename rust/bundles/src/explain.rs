@@ -1,6 +1,8 @@
 //! An answer in words.
 
-use bundle_stage::{Answer, Board, Bundle, DrawnBundle, Endpoint, Forecast, Refused, Role, Sheet};
+use bundle_stage::{
+    Answer, Board, Bundle, DrawnBundle, Endpoint, Forecast, Plan, Refused, Role, Sheet,
+};
 
 use crate::joints::Joints;
 use crate::lines::Lines;
@@ -14,6 +16,78 @@ pub fn explain(answer: &Answer, board: Option<&Board>, names: &Names) -> String 
         Answer::Refused(refusal) => format!("{refusal}\n"),
         Answer::Drawn(sheet) => drawn(sheet, board, names),
     }
+}
+
+/// A job that a plan is for, and what comes of the two.
+pub struct Drawing<'a> {
+    pub board: &'a Board,
+    pub names: &'a Names,
+    /// The plan is the one that is made for this job.
+    pub own: bool,
+    pub answer: &'a Answer,
+}
+
+/// A table of a plan's places, and its visits left. With its job: the bundles' ids and roles, where they
+/// stand on the sheet that is drawn from it, and whether the stage plans the job so today.
+pub fn explain_plan(plan: &Plan, drawing: Option<&Drawing<'_>>) -> String {
+    let mut text = format!("a plan for {}\n", counted(plan.places.len(), "bundle"));
+    let planned = |x: &Option<f64>| x.map_or(from("none: rail"), number);
+    let rows = plan.places.iter().enumerate();
+    let fits = drawing.filter(|drawing| drawing.board.bundles.len() == plan.places.len());
+    if !plan.places.is_empty() {
+        text.push('\n');
+        text.push_str(&match fits {
+            None => {
+                let head = ["place", "planned x"].map(from);
+                let rows = rows.map(|(place, x)| [(place + 1).to_string(), planned(x)]);
+                table(&[head].into_iter().chain(rows).collect::<Vec<_>>())
+            }
+            Some(drawing) => {
+                let head = ["bundle", "role", "planned x", "drawn", "name"].map(from);
+                let rows = rows.map(|(place, x)| planned_row(drawing, place, planned(x)));
+                table(&[head].into_iter().chain(rows).collect::<Vec<_>>())
+            }
+        });
+    }
+    text.push('\n');
+    let granted = drawing.map(|drawing| drawing.board.grants.tap);
+    text.push_str(&visits("tap visits", plan.tap_visits_left, granted));
+    if let Some(drawing) = drawing {
+        text.push_str(match drawing.own {
+            true => "this is the plan that is made for this job\n",
+            false => "another plan than the one that is made for this job\n",
+        });
+        match drawing.answer {
+            Answer::Drawn(_) => text.push_str("drawn on this job: accepted\n"),
+            Answer::Refused(refusal) => {
+                text.push_str(&format!("drawn on this job: {refusal}\n"));
+            }
+        }
+    }
+    text
+}
+
+fn planned_row(drawing: &Drawing<'_>, place: usize, planned: String) -> [String; 5] {
+    let bundle = &drawing.board.bundles[place];
+    let drawn = match drawing.answer {
+        Answer::Drawn(sheet) => match sheet.bundles[place].interior {
+            true => "interior",
+            false => "rail",
+        },
+        Answer::Refused(_) => "",
+    };
+    let role = match bundle.role {
+        Role::Input => "input",
+        Role::Output => "output",
+    };
+    let name = drawing.names.bundle(bundle.id).unwrap_or_default();
+    [
+        bundle.id.to_string(),
+        from(role),
+        planned,
+        from(drawn),
+        from(name),
+    ]
 }
 
 /// A line for each place that a refusal is about: its lines in the text, if it has one, and what is
@@ -155,13 +229,13 @@ fn row(bundle: &DrawnBundle, board: Option<&Board>) -> [String; 6] {
 }
 
 /// Columns as wide as their longest word, two spaces between them.
-fn table(rows: &[[String; 6]]) -> String {
+fn table<const COLUMNS: usize>(rows: &[[String; COLUMNS]]) -> String {
     let width = |column: usize| {
         let lengths = rows.iter().map(|row| row[column].chars().count());
         lengths.max().unwrap_or(0)
     };
-    let widths: [usize; 6] = std::array::from_fn(width);
-    let line = |row: &[String; 6]| {
+    let widths: [usize; COLUMNS] = std::array::from_fn(width);
+    let line = |row: &[String; COLUMNS]| {
         let words = row.iter().zip(widths);
         let padded = words.map(|(word, width)| format!("{word:width$}"));
         let line = padded.collect::<Vec<_>>().join("  ");

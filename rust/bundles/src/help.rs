@@ -7,7 +7,7 @@ struct Command {
     long: &'static str,
 }
 
-const COMMANDS: [Command; 11] = [
+const COMMANDS: [Command; 12] = [
     Command {
         name: "pack",
         words: "[BOARD]",
@@ -39,8 +39,22 @@ A job's bytes have no names. A file of names has lines such as `node 5 \"timesta
 ports, edges and bundles; every command with `--names FILE` takes such a file, or a board's text.",
     },
     Command {
+        name: "plan",
+        words: "[JOB]",
+        short: "a job, to its plan on standard output, to draw from later",
+        long: "\
+A plan says for each bundle, in the job's order, at which x its collector is to stand inside the sheet, or
+that it is to stand at the rail; and how many tap visits are left. Keep it with the board's revision, and
+`bundles draw --plan PLAN JOB` draws from it on delivery: with its own job, byte for byte what `bundles
+draw JOB` gives. `bundles explain --plan PLAN` says it in words.
+
+Nothing is drawn here, so that only what is wrong with the job itself is refused, and 13. A refusal is the
+six bytes of a notice in the plan's place, and is said in words on standard error. A JOB may be a board's
+text.",
+    },
+    Command {
         name: "draw",
-        words: "[JOB...]",
+        words: "[JOB...] [--plan PLAN]",
         short: "a job, to its answer on standard output; or several jobs, each to a file",
         long: "\
 The answer is the sheet with its bundles drawn, or the six bytes of a refusal, byte for byte what
@@ -49,6 +63,10 @@ also said in words on standard error, with what it is about: the field, record a
 the edge or node; the bundles of a component; what grant would be enough. A JOB may be a board's text,
 which is packed: then the lines are named too.
 
+With a PLAN, made by `bundles plan`, the one job is drawn from it and nothing is planned. It may be the plan
+of another revision: it is refused with 17 where it does not fit the job's bundles, with 18 where a planned
+number is none for this job, and else drawn as any other, with all checks.
+
 With two jobs or more, each answer is written beside its job, with `.answer` in place of `.job` at
 the end of the name, or behind a name with another end; a file that is there is replaced. Each job
 has a line on standard error. A job that cannot be read is told, and the others are drawn. The exit
@@ -56,8 +74,8 @@ code is 2 where one could not be read, else 1 where any was refused.",
     },
     Command {
         name: "explain",
-        words: "[ANSWER [JOB]] [--names FILE]",
-        short: "an answer in words: a table of its bundles, or why the job was refused",
+        words: "[ANSWER [JOB] | --plan PLAN [JOB]] [--names FILE]",
+        short: "an answer in words: a table of its bundles, or why the job was refused; or a plan",
         long: "\
 The table has a line for each bundle: its id, its role, whether it stands inside the sheet
 (interior) or at the rail, the x of its collector, from which y to which it goes, and how many taps
@@ -76,7 +94,12 @@ Each is named: bundle, route or node, and place.
 Of the last shift it is said, across and down, that it subtracted nothing; or that it was exact, as
 all numbers of the job are multiples of 1/64 up to 2^20; or that it rounded; or, where an answer does
 not tell, that it may have rounded. Where nothing was subtracted there is no false joint, which is
-proved; where it was exact none was found on any board tried. All this is about the stage's own answer, so the job is drawn again to compare.",
+proved; where it was exact none was found on any board tried. All this is about the stage's own answer, so the job is drawn again to compare.
+
+With a PLAN in the answer's place the table has a line for each bundle: the x that is planned for it, or
+none. With the JOB it also has the bundle's id and role and where it stands on the sheet that is drawn from
+the plan, and it is said whether the plan is the one that is made for this job, and whether the sheet is
+accepted.",
     },
     Command {
         name: "svg",
@@ -120,7 +143,7 @@ it is the picture.",
     },
     Command {
         name: "page",
-        words: "[BOARD]",
+        words: "[BOARD] [--plan PLAN]",
         short: "a board's text or job, to the page of its bundles on standard output",
         long: "\
 The page is a listing to clip to the unit, for boards on the drafting grid (`grid yes` in the text):
@@ -129,6 +152,8 @@ columns, `I` where it stands inside the sheet (interior) or `R` where it stands 
 collector, and the y at which the collector begins and ends, each in 20 columns with seven decimals. The
 decimals are exact: each number is the one that is drawn, which is proved. All columns are set flush right,
 with a space between them; a line has 76 bytes, its newline among them.
+
+With a PLAN the page is that of the sheet drawn from it.
 
 A board that is not said to be on the grid has no page: it is refused with 16, if with nothing else. Where
 the board is refused, standard output stays empty, and the refusal is told on standard error.",
@@ -166,7 +191,7 @@ pub fn all() -> String {
     );
     for command in &COMMANDS {
         let usage = format!("{} {}", command.name, command.words);
-        text.push_str(&format!("  bundles {usage:46}{}\n", command.short));
+        text.push_str(&format!("  bundles {usage:58}{}\n", command.short));
     }
     text.push_str(&format!(
         "\n{FILES}\n\n\
@@ -176,7 +201,10 @@ pub fn all() -> String {
          bundles pack board.txt > board.job\n  \
          bundles draw board.job > board.answer\n  \
          bundles explain board.answer board.job\n  \
-         bundles svg board.job board.answer > board.svg\n"
+         bundles svg board.job board.answer > board.svg\n\n\
+         Planned with the revision, drawn on delivery:\n\n  \
+         bundles plan board.job > board.plan\n  \
+         bundles draw --plan board.plan board.job > board.answer\n"
     ));
     text
 }

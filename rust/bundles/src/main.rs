@@ -4,12 +4,13 @@
 
 mod files;
 mod help;
+mod plans;
 
 use std::fs;
 use std::path::{Path, PathBuf};
 use std::process::ExitCode;
 
-use bundle_stage::{Answer, Board, Buffers, Sheet, Wanted, locate};
+use bundle_stage::{Answer, Board, Buffers, Cause, Sheet, Wanted, locate};
 use bundles::explain::{counted, explain, places};
 use bundles::html::{html, html_refused};
 use bundles::names::Names;
@@ -17,6 +18,7 @@ use bundles::svg::{svg, svg_refused};
 use bundles::text;
 
 use files::{Loaded, answer, called, load, of, out, read};
+use plans::{plan, plan_explained, plan_of};
 
 /// How a command ends where nothing failed.
 enum Done {
@@ -26,11 +28,12 @@ enum Done {
     Unreadable,
 }
 
-/// What stands behind a command's `--title` and `--names`.
+/// What stands behind a command's `--title`, `--names` and `--plan`.
 #[derive(Clone, Copy, Default)]
 struct Settings<'a> {
     title: Option<&'a str>,
     names: Option<&'a str>,
+    plan: Option<&'a str>,
 }
 
 fn main() -> ExitCode {
@@ -70,9 +73,16 @@ fn command(words: &[&str]) -> Result<Done, String> {
         ["names", board] => names(board),
         ["unpack"] => unpack("-", settings),
         ["unpack", job] => unpack(job, settings),
+        ["plan"] => plan("-"),
+        ["plan", job] => plan(job),
         ["draw"] => draw_one("-", settings),
         ["draw", job] => draw_one(job, settings),
+        ["draw", _, ..] if settings.plan.is_some() => {
+            Err("a plan is of one job: several cannot be drawn from it".to_string())
+        }
         ["draw", ref jobs @ ..] => Ok(draw_all(jobs)),
+        ["explain"] if settings.plan.is_some() => plan_explained(None, settings),
+        ["explain", job] if settings.plan.is_some() => plan_explained(Some(job), settings),
         ["explain"] => explained("-", None, settings),
         ["explain", answer] => explained(answer, None, settings),
         ["explain", "-", "-"] | ["svg", "-", "-"] => {
@@ -82,8 +92,8 @@ fn command(words: &[&str]) -> Result<Done, String> {
         ["svg", job, answer] => picture_of(job, answer, settings),
         ["picture", board] => picture(board, settings),
         ["html", board] => followed(board, settings),
-        ["page"] => page("-"),
-        ["page", board] => page(board),
+        ["page"] => page("-", settings),
+        ["page", board] => page(board, settings),
         ["help" | "--help" | "-h"] => out(help::all().as_bytes()),
         ["version" | "--version" | "-V"] => {
             out(format!("bundles {}\n", env!("CARGO_PKG_VERSION")).as_bytes())
@@ -104,7 +114,7 @@ fn wrong(name: &str) -> String {
     }
 }
 
-/// The words without `--title TITLE` and `--names FILE`, and these.
+/// The words without `--title TITLE`, `--names FILE` and `--plan PLAN`, and these.
 fn settings<'a>(words: &[&'a str]) -> Result<(Vec<&'a str>, Settings<'a>), String> {
     let mut settings = Settings::default();
     let mut others = Vec::new();
@@ -113,6 +123,7 @@ fn settings<'a>(words: &[&'a str]) -> Result<(Vec<&'a str>, Settings<'a>), Strin
         let place = match word {
             "--title" => &mut settings.title,
             "--names" => &mut settings.names,
+            "--plan" => &mut settings.plan,
             _ => {
                 others.push(word);
                 continue;
@@ -120,6 +131,10 @@ fn settings<'a>(words: &[&'a str]) -> Result<(Vec<&'a str>, Settings<'a>), Strin
         };
         let value = words.next();
         *place = Some(value.ok_or_else(|| wrong(others.first().unwrap_or(&word)))?);
+    }
+    let takes_plan = matches!(others.first(), Some(&("draw" | "explain" | "page")));
+    if settings.plan.is_some() && !takes_plan {
+        return Err(wrong(others.first().unwrap_or(&"--plan")));
     }
     Ok((others, settings))
 }
@@ -143,14 +158,32 @@ fn unpack(name: &str, settings: Settings<'_>) -> Result<Done, String> {
 }
 
 fn draw_one(name: &str, settings: Settings<'_>) -> Result<Done, String> {
+    let plan = plan_of(settings, name)?;
     let loaded = load(name, settings.names)?;
-    let (bytes, answer) = drawn(&loaded)?;
+    let (bytes, answer) = match &plan {
+        None => drawn(&loaded)?,
+        Some(plan) => {
+            let bytes = bundle_stage::answer_from(&loaded.job, plan);
+            let answer = Answer::from_bytes(&bytes).map_err(of(&loaded.name))?;
+            (bytes, answer)
+        }
+    };
     out(&bytes)?;
-    if let Answer::Refused(refusal) = &answer {
-        eprintln!("{}: {refusal}", called(name));
-        eprint!("{}", located(&answer, &loaded));
-    }
+    tell(&answer, &loaded, plan.as_deref());
     Ok(done(&answer))
+}
+
+/// Says a refusal on standard error, and what it is about. Of the drawing's refusals that is known where
+/// the plan is the stage's own.
+fn tell(answer: &Answer, loaded: &Loaded, plan: Option<&[u8]>) {
+    let Answer::Refused(refusal) = answer else {
+        return;
+    };
+    eprintln!("{}: {refusal}", called(&loaded.name));
+    let drawing = matches!(refusal.caused_by(), Cause::Drawing | Cause::Grant);
+    if !drawing || plan.is_none_or(|plan| plan == bundle_stage::plan(&loaded.job)) {
+        eprint!("{}", located(answer, loaded));
+    }
 }
 
 /// Draws every job that can be read. One that cannot is said, and the others are drawn.
@@ -201,16 +234,18 @@ fn drawn(loaded: &Loaded) -> Result<(Vec<u8>, Answer), String> {
 }
 
 /// The bundle page of a board, from its text or its job. A refusal is told, and there is no page.
-fn page(name: &str) -> Result<Done, String> {
+fn page(name: &str, settings: Settings<'_>) -> Result<Done, String> {
+    let plan = plan_of(settings, name)?;
     let loaded = load(name, None)?;
     let mut buffers = Box::new(Buffers::default());
-    let written = buffers.write(&loaded.job, &Wanted { page: true });
+    let wanted = Wanted {
+        plan: plan.as_deref(),
+        page: true,
+    };
+    let written = buffers.write(&loaded.job, &wanted);
     let answer = Answer::from_bytes(written.answer).map_err(of(&loaded.name))?;
     out(written.page.unwrap_or_default())?;
-    if let Answer::Refused(refusal) = &answer {
-        eprintln!("{}: {refusal}", called(name));
-        eprint!("{}", located(&answer, &loaded));
-    }
+    tell(&answer, &loaded, plan.as_deref());
     Ok(done(&answer))
 }
 
@@ -262,10 +297,7 @@ fn picture_of(job: &str, name: &str, settings: Settings<'_>) -> Result<Done, Str
 fn picture(name: &str, settings: Settings<'_>) -> Result<Done, String> {
     let loaded = load(name, settings.names)?;
     let (_, answer) = drawn(&loaded)?;
-    if let Answer::Refused(refusal) = &answer {
-        eprintln!("{}: {refusal}", called(name));
-        eprint!("{}", located(&answer, &loaded));
-    }
+    tell(&answer, &loaded, None);
     shown(&loaded, name, &answer, settings)
 }
 
@@ -302,8 +334,7 @@ fn followed(name: &str, settings: Settings<'_>) -> Result<Done, String> {
     let page = match &answer {
         Answer::Drawn(sheet) => html(&board, sheet, &loaded.names, title),
         Answer::Refused(refusal) => {
-            eprintln!("{}: {refusal}", called(name));
-            eprint!("{}", located(&answer, &loaded));
+            tell(&answer, &loaded, None);
             html_refused(&board, *refusal, &loaded.names, title)
         }
     };

@@ -155,6 +155,107 @@ fn a_bundle_page() {
     );
 }
 
+/// Document 02, F-5: planned with the revision, drawn on delivery.
+#[test]
+fn planned_and_drawn_later() {
+    let folder = folder("plans");
+    let name = |name: &str| folder.join(name).to_str().expect("text").to_string();
+    let (board, job) = (example("clock-board.txt"), example("clock-board.job"));
+    let read = |name: &str| fs::read(name).expect("a file");
+    let plan = out(0, &["plan", &job], b"");
+    assert_eq!(out(0, &["plan", &board], b""), plan);
+    assert_eq!(out(0, &["plan"], &read(&job)), plan);
+    assert_eq!(plan[..9], [0, 0, 0, 43, 1, 0, 0x1e, 0x83, 0x68]);
+    let kept = name("clock-board.plan");
+    fs::write(&kept, &plan).expect("a file");
+    let answer = read(&example("clock-board.answer"));
+    assert_eq!(out(0, &["draw", "--plan", &kept, &job], b""), answer);
+    assert_eq!(out(0, &["draw", "--plan", "-", &job], &plan), answer);
+    assert_eq!(out(0, &["draw", "--plan", &kept], &read(&job)), answer);
+    let page = read(&example("clock-board.page.txt"));
+    assert_eq!(out(0, &["page", &job, "--plan", &kept], b""), page);
+    // In words, without the job and with it.
+    let words = text(out(0, &["explain", "--plan", &kept], b""));
+    assert!(words.starts_with("a plan for 6 bundles\n\nplace  planned x\n1      380\n"));
+    assert!(words.ends_with("5      none: rail\n6      none: rail\n\ntap visits: 1999720 left\n"));
+    let words = text(out(0, &["explain", "--plan", &kept, &board], b""));
+    assert!(
+        words.contains("\n4       output  580         interior  time code\n"),
+        "{words}"
+    );
+    assert!(
+        words.contains("\n5       input   none: rail  rail      pulse\n"),
+        "{words}"
+    );
+    assert!(
+        words
+            .ends_with("this is the plan that is made for this job\ndrawn on this job: accepted\n"),
+        "{words}"
+    );
+    // Another revision: it fits, is not the plan of that job, and is drawn.
+    let next = read(&board);
+    let next = text(next).replace(
+        "member_endpoint_reserve       20",
+        "member_endpoint_reserve 30",
+    );
+    fs::write(name("next.txt"), next).expect("a file");
+    let own = out(0, &["draw", &name("next.txt")], b"");
+    let drawn = out(0, &["draw", "--plan", &kept, &name("next.txt")], b"");
+    assert_ne!(drawn, own);
+    let words = text(out(
+        0,
+        &["explain", "--plan", &kept, &name("next.txt")],
+        b"",
+    ));
+    assert!(
+        words.contains("\nanother plan than the one that is made for this job\n"),
+        "{words}"
+    );
+    // Another board, a cut plan, a planned number that is none, a notice in a plan's place.
+    let refused = |plan: &[u8], job: &str, said: &str| {
+        fs::write(name("wrong.plan"), plan).expect("a file");
+        let output = bundles(&["draw", "--plan", &name("wrong.plan"), job], b"");
+        assert_eq!(output.status.code(), Some(1), "{said}");
+        assert_eq!(output.stdout.len(), 6);
+        let words = text(output.stderr);
+        assert!(words.contains(said), "{words}");
+    };
+    refused(
+        &plan,
+        &example("board.job"),
+        "refused with 17, caused by the plan: ",
+    );
+    refused(&plan[..plan.len() - 1], &job, "refused with 17, ");
+    let mut number = plan.clone();
+    number[10] = 0x7f;
+    number[11] = 0xff;
+    refused(&number, &job, "refused with 18, caused by the plan: ");
+    refused(NOTICE, &job, "refused with 17, ");
+    let words = text(out(1, &["explain", "--plan", "-"], NOTICE));
+    assert!(words.starts_with("no plan: refused with 1, "), "{words}");
+    assert_eq!(out(1, &["plan"], NO_JOB), NOTICE);
+    // Words that do not go together.
+    for (words, said) in [
+        (
+            &["draw", "--plan", "-", "-"][..],
+            "cannot both come from standard input",
+        ),
+        (
+            &["draw", "--plan", &kept, &job, &job],
+            "a plan is of one job",
+        ),
+        (
+            &["svg", "--plan", &kept, &job, "-"],
+            "bundles svg JOB ANSWER",
+        ),
+        (&["explain", "--plan", &job], "no plan: byte "),
+        (&["draw", "--plan"], "bundles draw [JOB...] [--plan PLAN]"),
+    ] {
+        let message = failed(words);
+        assert!(message.contains(said), "{words:?}: {message}");
+    }
+}
+
 /// Document 02, F-1: `-0` is packed as it stands, and drawn, explained and shown as 0 is.
 #[test]
 fn minus_zero_in_a_board() {
@@ -402,8 +503,8 @@ fn help() {
     let all = text(out(0, &["help"], b""));
     assert_eq!(text(out(0, &["--help"], b"")), all);
     for command in [
-        "pack", "unpack", "names", "draw", "explain", "svg", "html", "page", "picture", "version",
-        "help",
+        "pack", "unpack", "names", "plan", "draw", "explain", "svg", "html", "page", "picture",
+        "version", "help",
     ] {
         assert!(all.contains(&format!("\n  bundles {command} ")));
         let one = text(out(0, &["help", command], b""));

@@ -95,6 +95,32 @@ fn search(members: i64, runs: i64) -> Vec<u8> {
     draft.job(&Scale::ONE).encode()
 }
 
+/// Chains whose searches sort nearly 2,000 numbers and yet pay few visits: a member with one short run, at
+/// which most numbers fail, stands before those with many. Collectors are separated or not.
+pub fn chains() -> [Vec<u8>; 2] {
+    [false, true].map(|separate| {
+        let mut draft = Draft {
+            gap: 1,
+            separate,
+            ..Draft::default()
+        };
+        let left = draft.node(-200, -10, 100, 20);
+        let right = draft.node(5_000, -10, 100, 20);
+        let source = draft.port_at(left, EAST, 0);
+        let target = draft.port_at(right, WEST, 0);
+        let mut edges = vec![draft.edge(source, target, vec![(1_000, -40), (1_400, -40)])];
+        for member in 0..31 {
+            let points = (0..=SEARCH.1).map(|run| (64 * run + member, 40 * member));
+            edges.push(draft.edge(source, target, points.collect()));
+        }
+        for (port, role) in [(source, INPUT), (target, OUTPUT)] {
+            let width = edges.len() as u32;
+            draft.bundles.push(bundle(port, role, width, &edges));
+        }
+        draft.job(&Scale::ONE).encode()
+    })
+}
+
 /// Two Input and two Output bundles at the rail, each with `members` members, the same for both
 /// roles, and before them `alone` bundles without any, which every changed route is checked
 /// against. A route of 16 points bends where no bundle is. There are no foreign nodes, so that

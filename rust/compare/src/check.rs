@@ -3,6 +3,7 @@
 use jobs::rng::Rng;
 use oracle::stage::BUFFER;
 
+use crate::plans::{Drawer, PlanSame, Planner, Plans};
 use crate::rooms::{LONGEST, Rooms, Side};
 use crate::sheets::{Sheet, SheetSame, Sheets};
 
@@ -13,6 +14,8 @@ pub type Stage = fn(&[u8], &mut [u8]) -> usize;
 #[derive(Clone, Copy)]
 pub struct Entries {
     pub stage: Stage,
+    pub plan: Planner,
+    pub draw: Drawer,
     pub sheet: Sheet,
 }
 
@@ -37,6 +40,7 @@ pub struct Same {
     /// another one.
     pub enough: usize,
     pub short: usize,
+    pub plan: PlanSame,
     pub sheet: SheetSame,
 }
 
@@ -45,6 +49,7 @@ pub struct Checker {
     stage: Stage,
     jobs: Rooms,
     answers: Rooms,
+    plans: Plans,
     sheets: Sheets,
     seed: u64,
 }
@@ -55,14 +60,36 @@ impl Checker {
             stage: entries.stage,
             jobs: Rooms::new(seed),
             answers: Rooms::new(seed),
+            plans: Plans::new(entries.plan, entries.draw, seed),
             sheets: Sheets::new(entries.sheet, seed),
             seed,
         }
     }
 
-    /// Compares one job, or says what differs. The places of what is lent and the lengths of the
-    /// buffers are fixed by seed and index.
+    /// Compares one job in all entries, or says what differs. The places of what is lent and the lengths
+    /// of the buffers are fixed by seed and index.
     pub fn check(&mut self, job: &[u8], index: u64) -> Result<Same, String> {
+        let answer = oracle::answer_of(job);
+        let (enough, short) = self.check_stage(job, &answer, index)?;
+        let number = oracle::number(&answer);
+        let (plan, given) = self.plans.check(job, &answer, index)?;
+        Ok(Same {
+            number,
+            enough,
+            short,
+            plan,
+            sheet: self.sheets.check(job, answer, &given, index)?,
+        })
+    }
+
+    /// Compares one job in `stage` alone with this answer by the judge; which of the lengths the buffers
+    /// had.
+    pub fn check_stage(
+        &mut self,
+        job: &[u8],
+        answer: &[u8],
+        index: u64,
+    ) -> Result<(usize, usize), String> {
         let mut rng = Rng::new("places", self.seed, index);
         let (enough, short) = (rng.below(ENOUGH.len()), rng.below(SHORT.len() + 1));
         let mut call = |length: usize| Call {
@@ -76,15 +103,9 @@ impl Checker {
             Some(&length) => length,
             None => rng.below(BUFFER),
         };
-        let answer = oracle::answer_of(job);
-        self.call(job, whole, &answer)?;
+        self.call(job, whole, answer)?;
         self.call(job, none, &[])?;
-        Ok(Same {
-            number: oracle::number(&answer),
-            enough,
-            short,
-            sheet: self.sheets.check(job, answer, index)?,
-        })
+        Ok((enough, short))
     }
 
     /// Calls the stage; these bytes of the answer are due, and nothing else may change.

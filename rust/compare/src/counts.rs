@@ -2,14 +2,15 @@
 
 use jobs::numbers::{fields, has_minus_zero};
 use jobs::survey::NUMBERS;
-use oracle::outputs::WANT_PAGE;
+use oracle::outputs::{PLAN_GIVEN, WANT_PAGE};
 
 use crate::check::{ENOUGH, SHORT, Same};
 use crate::fuzz::{KINDS, MUTATED, name};
+use crate::plans::{self, PLAN_NUMBERS, PlanSame};
 use crate::sheets::{LISTED, PageFacts, SheetSame};
 
-/// Numbers that `stage_sheet` tells: 0 to 16.
-const SHEET_NUMBERS: usize = 17;
+/// Numbers that `stage_sheet` tells: 0 to 18.
+const SHEET_NUMBERS: usize = PLAN_NUMBERS;
 
 /// Jobs by kind and number, those that have a minus zero in a number field, and calls by the length of
 /// the answer's buffer.
@@ -19,15 +20,64 @@ pub struct Counts {
     pub with_minus_zeros: u64,
     pub enough: [u64; ENOUGH.len()],
     pub short: [u64; SHORT.len() + 1],
+    pub plans: PlanCounts,
     pub sheets: SheetCounts,
 }
 
+/// Calls of the planner by number; of the drawing, by kind of plan and number; made-up plans with a minus
+/// zero, sheets from these that are accepted, and such that have one.
+#[derive(Clone, Debug, Default, Eq, PartialEq)]
+pub struct PlanCounts {
+    pub planner: [u64; PLAN_NUMBERS],
+    pub drawn: [[u64; PLAN_NUMBERS]; plans::KINDS.len()],
+    pub minus_zeros: u64,
+    pub accepted: u64,
+    pub answered: u64,
+}
+
+impl PlanCounts {
+    fn all(&mut self) -> impl Iterator<Item = &mut u64> {
+        let drawn = self.drawn.iter_mut().flatten();
+        let planner = self.planner.iter_mut();
+        planner.chain(drawn).chain([
+            &mut self.minus_zeros,
+            &mut self.accepted,
+            &mut self.answered,
+        ])
+    }
+
+    fn add(&mut self, same: PlanSame) {
+        self.planner[usize::from(same.planner)] += 1;
+        for (counts, number) in self.drawn.iter_mut().zip(same.numbers) {
+            counts[usize::from(number)] += 1;
+        }
+        self.minus_zeros += u64::from(same.minus_zero);
+        self.accepted += u64::from(same.accepted);
+        self.answered += u64::from(same.answered);
+    }
+
+    fn print(&self) {
+        println!("calls of stage_plan with a buffer that is long enough, by number:");
+        print_numbers(&self.planner);
+        for ((_, name), counts) in plans::KINDS.iter().zip(&self.drawn) {
+            println!("calls of stage_draw, the plan being {name}:");
+            print_numbers(counts);
+        }
+        println!(
+            "made-up plans with a minus zero: {}, accepted sheets from them: {}, with one in a \
+             collector of the answer: {}",
+            self.minus_zeros, self.accepted, self.answered
+        );
+    }
+}
+
 /// Calls of `stage_sheet`: by number, without and with the page, without and with bits that are not
-/// listed; and what the pages have.
+/// listed, with a plan; and what the pages have.
 #[derive(Clone, Debug, Default, Eq, PartialEq)]
 pub struct SheetCounts {
     pub numbers: [u64; SHEET_NUMBERS],
     pub wanted: [[u64; 2]; 2],
+    pub with_plan: u64,
     /// The page is wanted with bit 2 clear, and another refusal came before 16: by its number.
     pub before_16: [u64; SHEET_NUMBERS],
     pub page: PageFacts,
@@ -56,6 +106,7 @@ impl SheetCounts {
         self.numbers
             .iter_mut()
             .chain(wanted)
+            .chain([&mut self.with_plan])
             .chain(&mut self.before_16)
             .chain(self.page.all())
             .chain(&mut self.short)
@@ -65,6 +116,7 @@ impl SheetCounts {
         self.numbers[usize::from(same.number)] += 1;
         let page = usize::from(same.wants & WANT_PAGE != 0);
         self.wanted[page][usize::from(same.wants & !LISTED != 0)] += 1;
+        self.with_plan += u64::from(same.wants & PLAN_GIVEN != 0);
         if same.before_16 {
             self.before_16[usize::from(same.number)] += 1;
         }
@@ -81,6 +133,7 @@ impl SheetCounts {
         let [[neither, unlisted], [page, both]] = self.wanted;
         println!("wanted: nothing {neither}, the page {page}");
         println!("the same with bits that are not listed: {unlisted}, {both}");
+        println!("a plan given: {}", self.with_plan);
         println!("16 would be due, but for this number before it:");
         print_numbers(&self.before_16);
         let PageFacts {
@@ -117,6 +170,7 @@ impl Counts {
         jobs.chain([&mut self.with_minus_zeros])
             .chain(&mut self.enough)
             .chain(&mut self.short)
+            .chain(self.plans.all())
             .chain(self.sheets.all())
     }
 
@@ -125,6 +179,7 @@ impl Counts {
         self.with_minus_zeros += u64::from(has_minus_zero(job, &fields(job)));
         self.enough[same.enough] += 1;
         self.short[same.short] += 1;
+        self.plans.add(same.plan);
         self.sheets.add(same.sheet);
     }
 
@@ -159,6 +214,7 @@ impl Counts {
             self.with_minus_zeros
         );
         self.print_lengths();
+        self.plans.print();
         self.sheets.print();
     }
 

@@ -3,16 +3,18 @@
 use std::hint::black_box;
 
 use oracle::outputs::{PAGE_BUFFER, WANT_PAGE};
+use oracle::plan::PLAN_BUFFER;
 use oracle::stage::BUFFER;
 
 use crate::boards::{self, NAMES, Set};
-use crate::outside::{microseconds, stage, stage_sheet};
+use crate::outside::{microseconds, stage, stage_draw, stage_plan, stage_sheet};
 use crate::sheets::Lent;
 use crate::time::{LEAST, median};
 
 /// The buffers of all outputs.
 struct Buffers {
     answer: Vec<u8>,
+    plan: Vec<u8>,
     page: Vec<u8>,
 }
 
@@ -21,6 +23,7 @@ impl Buffers {
         stage_sheet(Lent {
             wants,
             job,
+            plan: &[],
             answer: &mut self.answer,
             page: &mut self.page,
         })
@@ -30,8 +33,15 @@ impl Buffers {
 /// A call of an entry, by name.
 type Call = (&'static str, fn(&mut Buffers, &[u8]) -> usize);
 
-const CALLS: [Call; 3] = [
+const CALLS: [Call; 5] = [
     ("stage", |buffers, job| stage(job, &mut buffers.answer)),
+    ("stage_plan", |buffers, job| {
+        stage_plan(job, &mut buffers.plan)
+    }),
+    ("plan and draw", |buffers, job| {
+        let count = stage_plan(job, &mut buffers.plan);
+        stage_draw(job, &buffers.plan[..count], &mut buffers.answer)
+    }),
     ("stage_sheet", |buffers, job| buffers.sheet(0, job)),
     ("with the page", |buffers, job| {
         buffers.sheet(WANT_PAGE, job)
@@ -55,6 +65,7 @@ fn on_grid(mut set: Set) -> Set {
 fn measure(set: &Set, rounds: usize) -> [f64; CALLS.len()] {
     let mut buffers = Buffers {
         answer: vec![0; BUFFER],
+        plan: vec![0; PLAN_BUFFER],
         page: vec![0; PAGE_BUFFER],
     };
     let mut timing = |call: Call, times: usize| {
@@ -77,6 +88,14 @@ fn measure(set: &Set, rounds: usize) -> [f64; CALLS.len()] {
     all.map(|times_of| median(times_of) / (set.jobs.len() * times) as f64)
 }
 
+/// Each board with its times.
+fn measured(seed: u64, rounds: usize) -> impl Iterator<Item = (&'static str, [f64; CALLS.len()])> {
+    NAMES.into_iter().map(move |name| {
+        let set = on_grid(boards::set(name, seed).expect("a name of the list"));
+        (name, measure(&set, rounds))
+    })
+}
+
 /// Prints one row a board.
 pub fn entries(seed: u64, rounds: usize) {
     print!("{:10}", "board");
@@ -84,13 +103,24 @@ pub fn entries(seed: u64, rounds: usize) {
         print!("{name:>16}");
     }
     println!();
-    for name in NAMES {
-        let set = on_grid(boards::set(name, seed).expect("a name of the list"));
+    for (name, times) in measured(seed, rounds) {
         print!("{name:10}");
-        for time in measure(&set, rounds) {
+        for time in times {
             print!("{time:>16.2}");
         }
         println!();
     }
     println!("microseconds a job, bit 2 set; {rounds} rounds, seed {seed}");
+}
+
+/// The same as a table of a document.
+pub fn table(seed: u64, rounds: usize) -> String {
+    let names = CALLS.map(|(name, _)| format!("{name}, µs"));
+    let line = "|---".repeat(1 + CALLS.len());
+    let mut text = format!("| board | {} |\n{line}|\n", names.join(" | "));
+    for (name, times) in measured(seed, rounds) {
+        let times = times.map(|time| format!("{time:.2}"));
+        text += &format!("| {name} | {} |\n", times.join(" | "));
+    }
+    text
 }

@@ -1,14 +1,15 @@
 //! Jobs and answers in heap memory of exactly their size, for memcheck.
 
 use jobs::families::FAMILIES;
-use oracle::outputs::{Lengths, PAGE_BUFFER, WANT_PAGE, beside, outputs};
-use oracle::stage::BUFFER;
+use oracle::outputs::{Lengths, PAGE_BUFFER, PLAN_GIVEN, WANT_PAGE, outputs};
+use oracle::plan::PLAN_BUFFER;
+use oracle::stage::{BUFFER, answer_from, plan_of};
 
-use crate::outside::{stage_on_heap, stage_sheet_on_heap};
+use crate::outside::{stage_draw_on_heap, stage_on_heap, stage_plan_on_heap, stage_sheet_on_heap};
 
-/// The same bytes by `stage_sheet`, with the page and without it, in buffers of the least sizes; nothing
-/// in shorter ones.
-fn same_sheets(job: &[u8], answer: &[u8]) -> bool {
+/// The same bytes by `stage_sheet`, with plan and page and without them, in buffers of the least sizes;
+/// nothing in shorter ones.
+fn same_sheets(job: &[u8], plan: &[u8]) -> bool {
     let least = Lengths {
         answer: BUFFER,
         page: PAGE_BUFFER,
@@ -18,15 +19,25 @@ fn same_sheets(job: &[u8], answer: &[u8]) -> bool {
         ..least
     };
     let alone = Lengths { page: 0, ..least };
-    [(0, alone), (WANT_PAGE, least), (WANT_PAGE, short)]
-        .into_iter()
-        .all(|(wants, lengths)| {
-            let due = match lengths.are_short(wants) {
-                true => outputs(wants, job, lengths),
-                false => beside(wants, job, answer.to_vec()),
-            };
-            stage_sheet_on_heap(job, wants, lengths) == (due.answer, due.page)
-        })
+    let all = PLAN_GIVEN | WANT_PAGE;
+    let calls = [
+        (0, alone),
+        (WANT_PAGE, least),
+        (WANT_PAGE, short),
+        (all, least),
+    ];
+    calls.into_iter().all(|(wants, lengths)| {
+        let due = outputs(wants, job, plan, lengths);
+        stage_sheet_on_heap(job, plan, wants, lengths) == (due.answer, due.page)
+    })
+}
+
+/// The same plan, and the same sheet drawn from it.
+fn same_plans(job: &[u8], plan: &[u8]) -> bool {
+    stage_plan_on_heap(job, PLAN_BUFFER) == plan
+        && stage_plan_on_heap(job, PLAN_BUFFER - 1).is_empty()
+        && stage_draw_on_heap(job, plan, BUFFER) == answer_from(job, plan)
+        && stage_draw_on_heap(job, plan, BUFFER - 1).is_empty()
 }
 
 /// Compares `count` jobs, the families by turns. True where nothing differs.
@@ -38,9 +49,11 @@ pub fn heap(seed: u64, count: u64) -> bool {
         let index = turn * 7_919 % family.count;
         let job = family.job(seed, index).into_boxed_slice();
         let answer = stage_on_heap(&job, BUFFER);
+        let plan = plan_of(&job).into_boxed_slice();
         if answer != oracle::answer_of(&job)
             || !stage_on_heap(&job, BUFFER - 1).is_empty()
-            || !same_sheets(&job, &answer)
+            || !same_plans(&job, &plan)
+            || !same_sheets(&job, &plan)
         {
             println!("DIFFERS: {} seed {seed} index {index}", family.name);
             return false;

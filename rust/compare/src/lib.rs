@@ -11,6 +11,7 @@ pub mod heap;
 pub mod joints;
 #[allow(unsafe_code)]
 pub mod outside;
+pub mod plans;
 pub mod plot;
 pub mod report;
 pub mod rooms;

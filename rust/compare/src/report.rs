@@ -5,6 +5,7 @@ use std::fs;
 use std::path::Path;
 
 use crate::boards::{self, NAMES, Set};
+use crate::entries;
 use crate::plot::{Panel, Series, plot};
 use crate::time::{Measured, Whose, measure, slope};
 
@@ -62,6 +63,8 @@ pub fn document(folder: &Path, counts: &Path, seed: u64, rounds: usize) -> Resul
     let checks = growing(boards::contact_checks());
     let mut text = format!("Seed {seed}, {rounds} rounds, on {}.\n\n", processor());
     text += &table(&boards, &counts)?;
+    text += "\n";
+    text += &entries::table(seed, rounds);
     text += "\n";
     text += &growth("tap", &searches, |one| one.tap_visits);
     text += &growth("geometry", &checks, |one| one.geometry_visits);

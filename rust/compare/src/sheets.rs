@@ -2,17 +2,19 @@
 //! bytes against the judge's, and no other byte changed.
 
 use jobs::rng::Rng;
-use oracle::outputs::{Lengths, Outputs, PAGE_BUFFER, WANT_PAGE, beside};
+use oracle::outputs::{Lengths, Outputs, PAGE_BUFFER, PLAN_GIVEN, WANT_PAGE, beside, outputs};
 use oracle::page::{LINE, rows, ten_millionths};
 use oracle::stage::BUFFER;
 
 use crate::check::{ENOUGH, SHORT};
+use crate::plans::Given;
 use crate::rooms::{Rooms, Side};
 
 /// What a call of `stage_sheet` is lent.
 pub struct Lent<'a> {
     pub wants: u32,
     pub job: &'a [u8],
+    pub plan: &'a [u8],
     pub answer: &'a mut [u8],
     pub page: &'a mut [u8],
 }
@@ -21,7 +23,7 @@ pub struct Lent<'a> {
 pub type Sheet = fn(Lent<'_>) -> usize;
 
 /// The bits of `wants` that are listed.
-pub const LISTED: u32 = WANT_PAGE;
+pub const LISTED: u32 = PLAN_GIVEN | WANT_PAGE;
 /// Lengths of the page's buffer that 2 lets through, and some that it does not.
 pub const PAGE_ENOUGH: [usize; 3] = [PAGE_BUFFER, PAGE_BUFFER + 1, 10_000];
 pub const PAGE_SHORT: [usize; 4] = [0, 1, LINE, PAGE_BUFFER - 1];
@@ -31,6 +33,7 @@ pub const PAGE_SHORT: [usize; 4] = [0, 1, LINE, PAGE_BUFFER - 1];
 struct Call {
     wants: u32,
     job: Side,
+    plan: Side,
     answer: Side,
     page: Side,
     lengths: Lengths,
@@ -67,6 +70,7 @@ pub struct SheetSame {
 pub struct Sheets {
     sheet: Sheet,
     jobs: Rooms,
+    plans: Rooms,
     answers: Rooms,
     pages: Rooms,
     seed: u64,
@@ -77,23 +81,35 @@ impl Sheets {
         Sheets {
             sheet,
             jobs: Rooms::new(seed),
+            plans: Rooms::new(seed),
             answers: Rooms::new(seed),
             pages: Rooms::new(seed),
             seed,
         }
     }
 
-    /// Two calls for a job with this answer by the judge: one with buffers that are long enough, one
-    /// with a buffer that is too short.
-    pub fn check(&mut self, job: &[u8], answer: Vec<u8>, index: u64) -> Result<SheetSame, String> {
+    /// Two calls for a job with this answer by the judge, and a plan that may be given: one with buffers
+    /// that are long enough, one with a buffer that is too short.
+    pub fn check(
+        &mut self,
+        job: &[u8],
+        answer: Vec<u8>,
+        given: &Given,
+        index: u64,
+    ) -> Result<SheetSame, String> {
         let mut rng = Rng::new("sheets", self.seed, index);
-        let number = oracle::number(&answer);
         let call = call(&mut rng);
+        // A plan may be for the job moved along x.
+        let (job, answer) = match call.wants & PLAN_GIVEN {
+            0 => (job, answer),
+            _ => (&given.job[..], given.answer.clone()),
+        };
+        let number = oracle::number(&answer);
         let due = beside(call.wants, job, answer);
-        self.call(job, call, &due)?;
+        self.call(job, &given.plan, call, &due)?;
         let page = page_facts(&due)?;
         let none = too_short(&mut rng);
-        self.call(job, none, &Outputs::default())?;
+        self.call(job, &given.plan, none, &Outputs::default())?;
         let told = oracle::number(&due.answer);
         Ok(SheetSame {
             wants: call.wants,
@@ -110,30 +126,39 @@ impl Sheets {
     }
 
     /// With this `wants`, for tests.
-    pub fn check_wants(&mut self, job: &[u8], wants: u32, index: u64) -> Result<u8, String> {
+    pub fn check_wants(
+        &mut self,
+        job: &[u8],
+        plan: &[u8],
+        wants: u32,
+        index: u64,
+    ) -> Result<u8, String> {
         let mut rng = Rng::new("wants", self.seed, index);
         let mut call = call(&mut rng);
         call.wants = wants;
         if wants & WANT_PAGE != 0 {
             call.lengths.page = PAGE_BUFFER;
         }
-        let due = beside(wants, job, oracle::answer_of(job));
-        self.call(job, call, &due)?;
+        let due = outputs(wants, job, plan, call.lengths);
+        self.call(job, plan, call, &due)?;
         Ok(oracle::number(&due.answer))
     }
 
-    fn call(&mut self, job: &[u8], call: Call, due: &Outputs) -> Result<(), String> {
+    fn call(&mut self, job: &[u8], plan: &[u8], call: Call, due: &Outputs) -> Result<(), String> {
         let mut lent = self.jobs.lend_filled(call.job, job);
+        let mut read = self.plans.lend_filled(call.plan, plan);
         let mut answer = self.answers.lend(call.answer, call.lengths.answer);
         let mut page = self.pages.lend(call.page, call.lengths.page);
         let count = (self.sheet)(Lent {
             wants: call.wants,
             job: lent.bytes(),
+            plan: read.bytes(),
             answer: answer.bytes(),
             page: page.bytes(),
         });
         let places = [
             ("job", lent.settle(job)),
+            ("plan", read.settle(plan)),
             ("answer", answer.settle(&due.answer)),
             ("page", page.settle(&due.page)),
         ];
@@ -152,9 +177,13 @@ impl Sheets {
     }
 }
 
-/// What is wanted: the page in three of four, and in one of three bits that are not listed.
+/// What is wanted: the page in two of three, and in one of three bits that are not listed; a plan is
+/// given in one of two.
 fn wants(rng: &mut Rng) -> u32 {
-    let listed = if rng.chance(3, 4) { WANT_PAGE } else { 0 };
+    let mut listed = if rng.chance(2, 3) { WANT_PAGE } else { 0 };
+    if rng.chance(1, 2) {
+        listed |= PLAN_GIVEN;
+    }
     let others = match rng.below(6) {
         0 => rng.word() as u32,
         1 => 1 << rng.below(32),
@@ -170,6 +199,7 @@ fn call(rng: &mut Rng) -> Call {
     Call {
         wants,
         job: Side::any(rng),
+        plan: Side::any(rng),
         answer: Side::any(rng),
         page: Side::any(rng),
         lengths: Lengths {

@@ -3,20 +3,29 @@
 use std::process::Command;
 
 use jobs::families::{FAMILIES, Family};
-use oracle::outputs::{Outputs, PAGE_BUFFER, WANT_PAGE, beside};
-use oracle::stage::BUFFER;
+use oracle::outputs::{Outputs, PAGE_BUFFER, PLAN_GIVEN, WANT_PAGE, beside};
+use oracle::plan::PLAN_BUFFER;
+use oracle::stage::{BUFFER, answer_from, plan_of};
 
-use crate::outside::{Fenced, PAGE, stage_on_stack, stage_sheet_on_stack};
+use crate::boards;
+use crate::outside::{
+    Fenced, PAGE, stage_draw_on_stack, stage_on_stack, stage_plan_on_stack, stage_sheet_on_stack,
+};
 use crate::sheets::Lent;
 
 /// Pages of stack that are enough for every job: what `stack` has measured, rounded up.
-pub const PAGES: usize = 168;
+pub const PAGES: usize = 151;
 /// More than the stage needs, to measure on.
 const MEASURED_ON: usize = 256;
 const PATTERN: u8 = 0xa5;
 
-/// A job with its answer by the judge.
-type Case = (Vec<u8>, Vec<u8>);
+/// A job with its answer and its plan by the judge, and the answer from that plan.
+struct Case {
+    job: Vec<u8>,
+    answer: Vec<u8>,
+    plan: Vec<u8>,
+    from_plan: Vec<u8>,
+}
 
 fn cases(family: &Family, seed: u64, count: u64) -> Vec<Case> {
     let count = match family.name {
@@ -25,14 +34,34 @@ fn cases(family: &Family, seed: u64, count: u64) -> Vec<Case> {
     };
     (0..count)
         .map(|turn| family.job(seed, turn * 7_919 % family.count))
-        .map(|job| (oracle::answer_of(&job), job))
-        .map(|(answer, job)| (job, answer))
+        .map(case)
         .collect()
 }
 
-/// Buffers of the answer and of the page.
+fn case(job: Vec<u8>) -> Case {
+    let plan = plan_of(&job);
+    Case {
+        answer: oracle::answer_of(&job),
+        from_plan: answer_from(&job, &plan),
+        plan,
+        job,
+    }
+}
+
+/// The jobs of each family, and such whose searches sort the most numbers, by halves of halves.
+fn all_cases(seed: u64, count: u64) -> impl Iterator<Item = (&'static str, Vec<Case>)> {
+    let families = FAMILIES.iter();
+    let families = families.map(move |family| (family.name, cases(family, seed, count)));
+    let search = boards::set("search", seed).expect("a name of the list");
+    let others = [("search", search.jobs), ("chains", boards::chains().into())];
+    let others = others.map(|(name, jobs)| (name, jobs.into_iter().map(case).collect()));
+    families.chain(others)
+}
+
+/// Buffers of the answer, the plan and the page.
 struct Buffers {
     answer: Vec<u8>,
+    plan: Vec<u8>,
     page: Vec<u8>,
 }
 
@@ -40,33 +69,60 @@ impl Buffers {
     fn new() -> Buffers {
         Buffers {
             answer: vec![0; BUFFER],
+            plan: vec![0; PLAN_BUFFER],
             page: vec![0; PAGE_BUFFER],
         }
     }
 
     /// `stage` on that stack; true where the answer is the judge's.
-    fn stage(&mut self, stack: &mut Fenced, (job, due): &Case) -> bool {
-        let count = stage_on_stack(stack, job, &mut self.answer);
-        self.answer[..count] == *due
+    fn stage(&mut self, stack: &mut Fenced, case: &Case) -> bool {
+        let count = stage_on_stack(stack, &case.job, &mut self.answer);
+        self.answer[..count] == case.answer
+    }
+
+    fn plan(&mut self, stack: &mut Fenced, case: &Case) -> bool {
+        let count = stage_plan_on_stack(stack, &case.job, &mut self.plan);
+        self.plan[..count] == case.plan
+    }
+
+    fn draw(&mut self, stack: &mut Fenced, case: &Case) -> bool {
+        let count = stage_draw_on_stack(stack, &case.job, &case.plan, &mut self.answer);
+        self.answer[..count] == case.from_plan
     }
 
     /// `stage_sheet` with all that can be wanted.
-    fn sheet(&mut self, stack: &mut Fenced, (job, due): &Case) -> bool {
+    fn sheet(&mut self, stack: &mut Fenced, case: &Case) -> bool {
+        self.sheet_with(stack, case, WANT_PAGE, &case.answer)
+    }
+
+    /// The same from a plan.
+    fn sheet_from_plan(&mut self, stack: &mut Fenced, case: &Case) -> bool {
+        self.sheet_with(stack, case, PLAN_GIVEN | WANT_PAGE, &case.from_plan)
+    }
+
+    fn sheet_with(&mut self, stack: &mut Fenced, case: &Case, wants: u32, due: &[u8]) -> bool {
         let lent = Lent {
-            wants: WANT_PAGE,
-            job,
+            wants,
+            job: &case.job,
+            plan: &case.plan,
             answer: &mut self.answer,
             page: &mut self.page,
         };
         let count = stage_sheet_on_stack(stack, lent);
-        let Outputs { answer, page } = beside(WANT_PAGE, job, due.clone());
+        let Outputs { answer, page } = beside(wants, &case.job, due.to_vec());
         self.answer[..count] == answer && self.page.starts_with(&page)
     }
 }
 
 /// A call of an entry on a stack of its own.
 type Entry = fn(&mut Buffers, &mut Fenced, &Case) -> bool;
-const ENTRIES: [Entry; 2] = [Buffers::stage, Buffers::sheet];
+const ENTRIES: [Entry; 5] = [
+    Buffers::stage,
+    Buffers::plan,
+    Buffers::draw,
+    Buffers::sheet,
+    Buffers::sheet_from_plan,
+];
 
 /// The most bytes of stack that a job needs, the return address of the call among them, and the words
 /// that are lent on the stack.
@@ -97,13 +153,13 @@ fn runs_on(pages: usize, cases: &[Case]) -> bool {
 /// Measures, then runs the same jobs on `PAGES` pages. True where that is enough.
 pub fn stack(seed: u64, count: u64) -> bool {
     let mut most = 0;
-    for family in &FAMILIES {
-        let cases = cases(family, seed, count);
+    for (name, cases) in all_cases(seed, count) {
         let bytes = ENTRIES.map(|entry| deepest(entry, &cases));
-        let [stage, sheet] = bytes;
+        let [stage, plan, draw, sheet, from_plan] = bytes;
         println!(
-            "{:12}{:>8} jobs{stage:>10} bytes, stage_sheet{sheet:>10}",
-            family.name,
+            "{:12}{:>8} jobs, bytes: stage{stage:>8}, stage_plan{plan:>8}, stage_draw{draw:>8}, \
+             stage_sheet{sheet:>8}, from a plan{from_plan:>8}",
+            name,
             cases.len()
         );
         most = bytes.into_iter().fold(most, usize::max);
@@ -113,9 +169,7 @@ pub fn stack(seed: u64, count: u64) -> bool {
     if pages > PAGES {
         return false;
     }
-    let enough = FAMILIES
-        .iter()
-        .all(|family| runs_on(PAGES, &cases(family, seed, count)));
+    let enough = all_cases(seed, count).all(|(_, cases)| runs_on(PAGES, &cases));
     println!(
         "on {PAGES} pages: {}",
         if enough { "runs" } else { "DIFFERS" }

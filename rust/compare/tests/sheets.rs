@@ -1,11 +1,11 @@
-//! The entry `stage_sheet`: every bit of `wants`, and 2 at its edges (document 02, F-4).
+//! The entry `stage_sheet`: every bit of `wants`, and 2 at its edges (document 02, F-4, F-5).
 
 use compare::outside::stage_sheet;
 use compare::sheets::{Lent, Sheets};
 use jobs::families::family;
 use jobs::pages;
-use oracle::outputs::{Lengths, PAGE_BUFFER, WANT_PAGE, outputs};
-use oracle::stage::BUFFER;
+use oracle::outputs::{Lengths, PAGE_BUFFER, PLAN_GIVEN, WANT_PAGE, outputs};
+use oracle::stage::{BUFFER, plan_of};
 
 /// Jobs that are accepted, on the grid and off it, and refused with each number there is.
 fn some_jobs() -> Vec<Vec<u8>> {
@@ -36,23 +36,30 @@ fn some_jobs() -> Vec<Vec<u8>> {
     kept
 }
 
-/// Each bit alone and with the page's, all bits, none; a bit that is not listed says nothing.
+/// Each bit alone and with the page's, all bits, none; a bit that is not listed says nothing. Plans are
+/// the job's own and none.
 #[test]
 fn every_bit() {
     let mut sheets = Sheets::new(stage_sheet, 1);
     let bits = (0..32).map(|bit| 1 << bit);
     let masks = bits.flat_map(|bit: u32| [bit, bit | WANT_PAGE, !bit, !bit & !WANT_PAGE]);
     let masks = masks.chain([0, u32::MAX]).collect::<Vec<_>>();
-    let mut said = [0; 17];
+    let mut said = [0; 19];
     for (index, job) in some_jobs().iter().enumerate() {
+        let plan = plan_of(job);
         for &wants in &masks {
-            let number = sheets
-                .check_wants(job, wants, index as u64)
-                .expect("the judge's");
-            said[usize::from(number)] += 1;
+            for plan in [&plan[..], &[]] {
+                let number = sheets
+                    .check_wants(job, plan, wants, index as u64)
+                    .expect("the judge's");
+                said[usize::from(number)] += 1;
+            }
         }
     }
-    assert!(said[16] > 0 && said[0] > said[16], "{said:?}");
+    assert!(
+        said[16] > 0 && said[17] > 0 && said[0] > said[16],
+        "{said:?}"
+    );
 }
 
 /// 2 at 65,535 and 65,536 bytes of answer, at 2,431 and 2,432 of a page that is wanted; a page that is
@@ -60,15 +67,17 @@ fn every_bit() {
 #[test]
 fn short_buffers() {
     for job in some_jobs() {
-        for wants in [0, WANT_PAGE, !WANT_PAGE, u32::MAX] {
+        let plan = plan_of(&job);
+        for wants in [0, PLAN_GIVEN, WANT_PAGE, !WANT_PAGE, u32::MAX] {
             for answer in [0, 6, BUFFER - 1, BUFFER, BUFFER + 1] {
                 for page in [0, PAGE_BUFFER - 1, PAGE_BUFFER, PAGE_BUFFER + 1] {
                     let lengths = Lengths { answer, page };
-                    let due = outputs(wants, &job, lengths);
+                    let due = outputs(wants, &job, &plan, lengths);
                     let (mut told, mut listing) = (vec![0xa5; answer], vec![0x5a; page]);
                     let count = stage_sheet(Lent {
                         wants,
                         job: &job,
+                        plan: &plan,
                         answer: &mut told,
                         page: &mut listing,
                     });

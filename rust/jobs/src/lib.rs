@@ -14,6 +14,7 @@ pub mod grid;
 pub mod mutations;
 pub mod numbers;
 pub mod pages;
+pub mod plans;
 pub mod rng;
 pub mod stored;
 pub mod survey;

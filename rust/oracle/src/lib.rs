@@ -10,6 +10,7 @@ pub mod digest;
 pub mod job;
 pub mod outputs;
 pub mod page;
+pub mod plan;
 pub mod stage;
 pub mod wire;
 

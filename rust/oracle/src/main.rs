@@ -8,6 +8,9 @@ use std::process::ExitCode;
 use oracle::outputs;
 
 const USAGE: &str = "oracle job     one job on standard input, its answer on standard output
+oracle plan    one job on standard input, its plan on standard output
+oracle draw PLAN
+               one job on standard input, the answer from the plan in that file on standard output
 oracle page    one job on standard input, its bundle page on standard output, or the notice of a refusal
 oracle batch   length-prefixed jobs in, length-prefixed answers out
 oracle calls   length-prefixed call records in, length-prefixed results out
@@ -18,6 +21,10 @@ fn main() -> ExitCode {
     let words = std::env::args().skip(1).collect::<Vec<_>>();
     let done = match words.iter().map(String::as_str).collect::<Vec<_>>()[..] {
         ["job"] => one_job(oracle::answer_of),
+        ["plan"] => one_job(oracle::stage::plan_of),
+        ["draw", plan] => std::fs::read(plan)
+            .map_err(text)
+            .and_then(|plan| one_job(|job| oracle::stage::answer_from(job, &plan))),
         ["page"] => one_job(page_or_notice),
         ["batch"] => each_record(|record| Ok(prefixed(oracle::answer_of(record)))),
         ["calls"] => each_record(|record| {
@@ -39,7 +46,7 @@ fn main() -> ExitCode {
 }
 
 /// As the program sheet: at most 65,536 bytes of standard input are looked at.
-fn one_job(make: fn(&[u8]) -> Vec<u8>) -> Result<(), String> {
+fn one_job(make: impl FnOnce(&[u8]) -> Vec<u8>) -> Result<(), String> {
     let mut job = Vec::new();
     io::stdin()
         .lock()

@@ -1,10 +1,11 @@
-//! A call that can want other outputs than the answer: document 02, F-4.
+//! A call that can be given a plan, and can want other outputs than the answer: document 02, F-4, F-5.
 
 use crate::page::page;
-use crate::stage::{BUFFER, answer_of};
+use crate::stage::{BUFFER, answer_from, answer_of};
 use crate::{answer, number};
 
-/// The bit of `wants` for the page.
+/// The bits of `wants`: a plan is given, the page is wanted.
+pub const PLAN_GIVEN: u32 = 1;
 pub const WANT_PAGE: u32 = 2;
 /// Smallest buffer of a page that 2 lets through: 32 lines of 76 bytes.
 pub const PAGE_BUFFER: usize = 2_432;
@@ -30,12 +31,17 @@ impl Lengths {
     }
 }
 
-/// All that is written. A bit of `wants` that is not listed says nothing.
-pub fn outputs(wants: u32, job: &[u8], lengths: Lengths) -> Outputs {
+/// All that is written. A bit of `wants` that is not listed says nothing, nor does a plan that is not
+/// given.
+pub fn outputs(wants: u32, job: &[u8], plan: &[u8], lengths: Lengths) -> Outputs {
     if lengths.are_short(wants) {
         return Outputs::default();
     }
-    beside(wants, job, answer_of(job))
+    let answer = match wants & PLAN_GIVEN {
+        0 => answer_of(job),
+        _ => answer_from(job, plan),
+    };
+    beside(wants, job, answer)
 }
 
 /// All that is written for a job with this answer, where no buffer is too short: 16 comes after every

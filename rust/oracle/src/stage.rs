@@ -3,6 +3,7 @@
 
 use crate::board::Board;
 use crate::patched::harness::{self, Failed, Prepared, normalize};
+use crate::plan::{self, Plan};
 use crate::records::Layout;
 use crate::{answer, job};
 
@@ -61,6 +62,51 @@ pub fn refused_at(job: &[u8]) -> Option<(u8, usize)> {
         &mut visits,
     );
     drawn.err().map(|refused| (refused.number, refused.bundle))
+}
+
+/// The bytes of the job's plan, or the notice of a refusal: document 02, F-5. 13 is looked for here, and
+/// nothing is drawn.
+pub fn plan_of(bytes: &[u8]) -> Vec<u8> {
+    let made = job::read(bytes).and_then(|job| planned(&job).ok_or(13));
+    made.map_or_else(answer::notice, |plan| plan.encode())
+}
+
+/// The Rust's plan of a job; none where the clamp is refused.
+pub fn planned(job: &job::Job) -> Option<Plan> {
+    let board = Board::new(job);
+    let graph = board.graph();
+    let prepared = board.prepare(&graph);
+    let mut tap_visits = board.tap_visits as usize;
+    let entries = prepared.plan(&board.routes, board.separate, &mut tap_visits)?;
+    Some(Plan {
+        tap_visits: tap_visits as u32,
+        entries,
+    })
+}
+
+/// The answer drawn from a job and a plan, or the notice of a refusal: 1 and 3 to 9, 15, then 17, then 18,
+/// then what the sheet meets. The plan's visits left are handed on.
+pub fn answer_from(bytes: &[u8], plan: &[u8]) -> Vec<u8> {
+    from_plan(bytes, plan, normalize).unwrap_or_else(answer::notice)
+}
+
+fn from_plan(bytes: &[u8], plan: &[u8], last: impl FnOnce(&mut Layout)) -> Result<Vec<u8>, u8> {
+    let job = job::read(bytes)?;
+    let plan = plan::read(plan, &job)?;
+    let board = Board::new(&job);
+    let graph = board.graph();
+    let prepared = board.prepare(&graph);
+    let mut visits = board.geometry_visits as usize;
+    let mut layout = board.layout();
+    let interior = draw(&board, &prepared, &plan.entries, &mut layout, &mut visits)
+        .map_err(|refused| refused.number)?;
+    last(&mut layout);
+    Ok(answer::write(
+        &layout,
+        &interior,
+        plan.tap_visits,
+        visits as u32,
+    ))
 }
 
 /// For this thread, what is called before and after each pitch less the tolerance: the one operation

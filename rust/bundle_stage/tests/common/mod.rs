@@ -1,4 +1,7 @@
-//! What the tests share: points, nodes, and a board of one bundle.
+//! What the tests share: points, nodes, a board of one bundle and others, the stored records. No test uses
+//! all of it.
+
+#![allow(dead_code)]
 
 use bundle_stage::*;
 
@@ -57,4 +60,49 @@ pub fn board() -> Board {
         }],
         ..Board::default()
     }
+}
+
+/// The reading of document 01 for 13: the largest input minimum is 2^-33, pitch and smallest output
+/// maximum are 2^20.
+pub fn split_board() -> Board {
+    let pitch = 2_f64.powi(20);
+    let mut board = board();
+    board.options = Options {
+        route_lane_gap: pitch,
+        edge_node_clearance: 2_f64.powi(-33),
+        ..Options::default()
+    };
+    board.nodes = vec![
+        node(1, -pitch, 0.0, 0.0, 0.0),
+        node(2, 2.0 * pitch, 0.0, 0.0, 0.0),
+    ];
+    board.ports.iter_mut().for_each(|port| port.offset = 0.0);
+    for (y, edge) in [0.0, 1.0].into_iter().zip(&mut board.edges) {
+        edge.points = vec![at(-pitch, y), at(2.0 * pitch, y)];
+    }
+    let lanes = board.bundles[0].members.iter_mut();
+    lanes.for_each(|member| member.lane = 0);
+    let members = board.bundles[0].members.clone();
+    board.bundles.push(Bundle {
+        id: 2,
+        endpoint: Endpoint { node: 2, port: 1 },
+        role: Role::Output,
+        width: 2,
+        members,
+    });
+    board
+}
+
+/// The records of a file in `stored/`: jobs and answers by turns.
+pub fn stored(name: &str) -> Vec<Vec<u8>> {
+    let path = format!("{}/../../stored/{name}", env!("CARGO_MANIFEST_DIR"));
+    let bytes = std::fs::read(path).expect("a stored file");
+    let mut rest = &bytes[..];
+    let mut records = Vec::new();
+    while let Some((length, tail)) = rest.split_first_chunk() {
+        let (record, tail) = tail.split_at(u32::from_be_bytes(*length) as usize);
+        records.push(record.to_vec());
+        rest = tail;
+    }
+    records
 }

@@ -1,6 +1,8 @@
-//! The only module with unsafe code: calls of the static library's function, pages that have an
+//! The only module with unsafe code: calls of the static library's functions, pages that have an
 //! unmapped page on either side, processes that share memory, the thread's clock and its flag for
 //! operations that round. x86-64 Linux alone, as the library is.
+
+mod calls;
 
 use std::arch::asm;
 use std::ffi::{c_int, c_uint, c_void};
@@ -9,12 +11,7 @@ use std::ptr::{self, NonNull};
 use std::slice;
 use std::sync::atomic::AtomicU64;
 
-use bundle_stage_sys::c;
-use oracle::outputs::{Lengths, WANT_PAGE};
-use oracle::page::LINE;
-
-use crate::check::Entries;
-use crate::sheets::Lent;
+pub use calls::*;
 
 const PROT_NONE: c_int = 0;
 const PROT_READ: c_int = 1;
@@ -50,146 +47,6 @@ unsafe extern "C" {
     fn waitpid(process: c_int, status: *mut c_int, options: c_int) -> c_int;
     fn _exit(status: c_int) -> !;
     fn alarm(seconds: c_uint) -> c_uint;
-}
-
-/// The proved stage.
-pub fn stage(job: &[u8], answer: &mut [u8]) -> usize {
-    // SAFETY: both slices are valid for their lengths and do not overlap, as `job` is lent shared
-    // and `answer` alone. The stage has a contract for every such pair (no `requires`): it reads
-    // and writes only what it is lent, keeps no pointer and returns.
-    unsafe { c::stage(job.as_ptr(), job.len(), answer.as_mut_ptr(), answer.len()) }
-}
-
-/// The proved entry that can give other outputs too.
-pub fn stage_sheet(lent: Lent<'_>) -> usize {
-    let Lent {
-        wants,
-        job,
-        answer,
-        page,
-    } = lent;
-    // SAFETY: as in `stage`, of three slices.
-    unsafe {
-        c::stage_sheet(
-            wants,
-            job.as_ptr(),
-            job.len(),
-            answer.as_mut_ptr(),
-            answer.len(),
-            page.as_mut_ptr(),
-            page.len(),
-        )
-    }
-}
-
-/// The proved entries.
-pub const PROVED: Entries = Entries {
-    stage,
-    sheet: stage_sheet,
-};
-
-/// The answer in a buffer of `length` bytes that nobody has written to before, so that memcheck
-/// sees a read of the buffer before it is written, and a byte of the answer that is not written.
-pub fn stage_on_heap(job: &[u8], length: usize) -> Vec<u8> {
-    let mut answer = Vec::<u8>::with_capacity(length);
-    // SAFETY: as in `stage`, but that the buffer's bytes are not written yet. The stage does not
-    // read them, and by its contract the first `count` bytes are written, `count` being at most
-    // `length`.
-    unsafe {
-        let count = c::stage(job.as_ptr(), job.len(), answer.as_mut_ptr(), length);
-        assert!(count <= length, "{count} bytes in a buffer of {length}");
-        answer.set_len(count);
-    }
-    answer
-}
-
-/// The same of `stage_sheet`, with the page if it is wanted; the answer and the page.
-pub fn stage_sheet_on_heap(job: &[u8], wants: u32, lengths: Lengths) -> (Vec<u8>, Vec<u8>) {
-    let mut answer = Vec::<u8>::with_capacity(lengths.answer);
-    let mut page = Vec::<u8>::with_capacity(lengths.page);
-    // SAFETY: as above, of three slices. By the contract the page of an accepted job, if it is wanted,
-    // has a line for each bundle, which the answer counts, and no other byte of it is written.
-    unsafe {
-        let count = c::stage_sheet(
-            wants,
-            job.as_ptr(),
-            job.len(),
-            answer.as_mut_ptr(),
-            lengths.answer,
-            page.as_mut_ptr(),
-            lengths.page,
-        );
-        assert!(count <= lengths.answer, "{count} bytes of {lengths:?}");
-        answer.set_len(count);
-        if wants & WANT_PAGE != 0
-            && let Some(&[high, low]) = answer.get(34..36)
-        {
-            let written = LINE * usize::from(u16::from_be_bytes([high, low]));
-            assert!(written <= lengths.page, "{written} bytes of {lengths:?}");
-            page.set_len(written);
-        }
-    }
-    (answer, page)
-}
-
-/// The proved stage on a stack of its own, whose top is the end of `stack`.
-pub fn stage_on_stack(stack: &mut Fenced, job: &[u8], answer: &mut [u8]) -> usize {
-    let top = stack.bytes().as_mut_ptr_range().end;
-    let count: usize;
-    // SAFETY: as in `stage`. The stack is lent by `&mut`, its top is aligned to a page, and no Rust
-    // code runs on it. The stage keeps r12, in which the present stack waits. Where the stage needs
-    // more, the page below is unmapped and the process ends.
-    unsafe {
-        asm!(
-            "mov r12, rsp",
-            "mov rsp, {top}",
-            "call {stage}",
-            "mov rsp, r12",
-            top = in(reg) top,
-            stage = sym c::stage,
-            in("rdi") job.as_ptr(),
-            in("rsi") job.len(),
-            in("rdx") answer.as_mut_ptr(),
-            in("rcx") answer.len(),
-            out("rax") count,
-            out("r12") _,
-            clobber_abi("C"),
-        );
-    }
-    count
-}
-
-/// The same of `stage_sheet`, whose last words stand on the stack, at its top.
-pub fn stage_sheet_on_stack(stack: &mut Fenced, lent: Lent<'_>) -> usize {
-    let last = [lent.page.len(), 0];
-    let bytes = stack.bytes();
-    let (_, top) = bytes.split_at_mut(bytes.len() - size_of_val(&last));
-    for (place, word) in top.chunks_exact_mut(8).zip(last) {
-        place.copy_from_slice(&word.to_ne_bytes());
-    }
-    let count: usize;
-    // SAFETY: as in `stage_on_stack`. What is at the stack's top is what the call takes there: the
-    // seventh word, and one more, so that the stack is aligned to 16 bytes.
-    unsafe {
-        asm!(
-            "mov r12, rsp",
-            "mov rsp, {top}",
-            "call {stage}",
-            "mov rsp, r12",
-            top = in(reg) top.as_mut_ptr(),
-            stage = sym c::stage_sheet,
-            in("rdi") u64::from(lent.wants),
-            in("rsi") lent.job.as_ptr(),
-            in("rdx") lent.job.len(),
-            in("rcx") lent.answer.as_mut_ptr(),
-            in("r8") lent.answer.len(),
-            in("r9") lent.page.as_mut_ptr(),
-            out("rax") count,
-            out("r12") _,
-            clobber_abi("C"),
-        );
-    }
-    count
 }
 
 /// The bit of MXCSR that an SSE operation sets where its result is rounded.
