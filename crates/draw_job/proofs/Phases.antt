@@ -52,7 +52,9 @@ use Rattle.plan_reader.specs.Reading.{told-plan}
 use Rattle.plan_stage.specs.Entries.{after-search, plan-for, plan-phase, after-taking, with-plan, told-with}
 use Rattle.plan_stage.specs.EitherPlan.{told-size, phase-whole}
 use Rattle.outputs.specs.declared.Wants.{Wants}
-use Rattle.outputs.specs.Outputs.{Outputs, notice, after-all, outputs-told}
+use Rattle.crossing_bytes.specs.Bytes.{list-bytes}
+use Rattle.crossing_promise.specs.SheetList.{list-of}
+use Rattle.outputs.specs.Outputs.{Outputs, notice, too-many, after-all, outputs-told}
 use Rattle.job_tables.specs.Ready.{read-accepted, tables-sound, routes-in, given-same}
 use Rattle.job_tables.specs.Came.{Sizes, job-in, Came}
 use Rattle.draw_job.specs.JobTables.{Writes, TapsOf, OnSheet, Lent, finished}
@@ -61,8 +63,8 @@ use Rattle.draw_job.proofs.Answers.{sheet-same}
 -- ---- what is written
 
 -- a refusal's notice, and no other output
-pub notice-writes : (before after : Outputs) (r n : ℕ) (o : Outputs) → o ≡ notice n → after .answer ≡ sets (before .answer) 0 (notice-bytes n) → after .page ≡ before .page → r ≡ 6 → Writes before after r o
-notice-writes before after r n o e b p c = subst (Writes before after r) (sym e) (record { answer = b; page = p; count = c ∙ sym (notice-length n) })
+pub notice-writes : (before after : Outputs) (r n : ℕ) (o : Outputs) → o ≡ notice n → after .answer ≡ sets (before .answer) 0 (notice-bytes n) → after .page ≡ before .page → after .crossings ≡ before .crossings → r ≡ 6 → Writes before after r o
+notice-writes before after r n o e b p l c = subst (Writes before after r) (sym e) (record { answer = b; page = p; crossings = l; count = c ∙ sym (notice-length n) })
 
 pub writes-as : (before after : Outputs) (r : ℕ) (s t : Outputs) → s ≡ t → Writes before after r s → Writes before after r t
 writes-as before after r s t e w = subst (Writes before after r) e w
@@ -75,10 +77,20 @@ pub refused-outputs : (w : Wants) (t : Told) (n : ℕ) → t ≡ refused n → o
 unfolding after-all outputs-told
 refused-outputs w t n e = ap (outputs-for w) e
 
--- 16
-pub off-grid-outputs : (w : Wants) (t : Told) (f : Finished) → t ≡ drawn f → (w .page && not (f .said .flags .«on_grid»)) ≡ true → outputs-for w t ≡ notice 16
+-- 19
+pub many-outputs : (w : Wants) (t : Told) (f : Finished) → t ≡ drawn f → too-many w f ≡ true → outputs-for w t ≡ notice 19
 unfolding after-all outputs-told
-off-grid-outputs w t f e h = ap (outputs-for w) e ∙ ap (λ (b : Bool). outputs-told w (cond b (refused 16) (drawn f))) h
+many-outputs w t f e h = ap (outputs-for w) e ∙ ap (λ (b : Bool). outputs-told w (cond b (refused 19) (cond (w .page && not (f .said .flags .«on_grid»)) (refused 16) (drawn f)))) h
+
+-- past 19
+few-outputs : (w : Wants) (t : Told) (f : Finished) → t ≡ drawn f → too-many w f ≡ false → outputs-for w t ≡ outputs-told w (cond (w .page && not (f .said .flags .«on_grid»)) (refused 16) (drawn f))
+unfolding after-all
+few-outputs w t f e h = ap (outputs-for w) e ∙ ap (λ (b : Bool). outputs-told w (cond b (refused 19) (cond (w .page && not (f .said .flags .«on_grid»)) (refused 16) (drawn f)))) h
+
+-- 16
+pub off-grid-outputs : (w : Wants) (t : Told) (f : Finished) → t ≡ drawn f → too-many w f ≡ false → (w .page && not (f .said .flags .«on_grid»)) ≡ true → outputs-for w t ≡ notice 16
+unfolding outputs-told
+off-grid-outputs w t f e m h = few-outputs w t f e m ∙ ap (λ (b : Bool). outputs-told w (cond b (refused 16) (drawn f))) h
 
 -- which way a branch came
 pub way : {A B C : Type 0} → A ⊎ B → (A → C) → (B → C) → C
@@ -92,16 +104,17 @@ page-put before after wanted page h e = e ∙ sym (ap (λ (b : Bool). sets befor
 pub page-left : (before after : List ℕ) (wanted : Bool) (page : List ℕ) → wanted ≡ false → after ≡ before → after ≡ sets before 0 (cond wanted page [])
 page-left before after wanted page h e = e ∙ sym (ap (λ (b : Bool). sets before 0 (cond b page [])) h)
 
--- the answer, and the page where it is wanted
-pub drawn-writes : (w : Wants) (t : Told) (f : Finished) → t ≡ drawn f → (w .page && not (f .said .flags .«on_grid»)) ≡ false → (before after : Outputs) (r : ℕ) (s : Sheet) → s ≡ answer-of f
-    → after .answer ≡ sets (before .answer) 0 (answer-bytes s) → after .page ≡ sets (before .page) 0 (cond (w .page) (answer-page id-columns s) []) → r ≡ length (answer-bytes s) → Writes before after r (outputs-for w t)
-unfolding after-all outputs-told
-drawn-writes w t f e h before after r s is a p c =
+-- the answer, and the page and the list where they are wanted
+pub drawn-writes : (w : Wants) (t : Told) (f : Finished) → t ≡ drawn f → too-many w f ≡ false → (w .page && not (f .said .flags .«on_grid»)) ≡ false → (before after : Outputs) (r : ℕ) (s : Sheet) → s ≡ answer-of f
+    → after .answer ≡ sets (before .answer) 0 (answer-bytes s) → after .page ≡ sets (before .page) 0 (cond (w .page) (answer-page id-columns s) []) → after .crossings ≡ sets (before .crossings) 0 (cond (w .crossings) (list-bytes (f .said .board) (list-of f)) []) → r ≡ length (answer-bytes s) → Writes before after r (outputs-for w t)
+unfolding outputs-told
+drawn-writes w t f e m h before after r s is a p l c =
     writes-as before after r (outputs-told w (drawn f)) (outputs-for w t)
-    (sym (ap (outputs-for w) e ∙ ap (λ (b : Bool). outputs-told w (cond b (refused 16) (drawn f))) h))
+    (sym (few-outputs w t f e m ∙ ap (λ (b : Bool). outputs-told w (cond b (refused 16) (drawn f))) h))
     (record {
       answer = a ∙ ap (λ (z : Sheet). sets (before .answer) 0 (answer-bytes z)) is;
       page = p ∙ ap (λ (z : Sheet). sets (before .page) 0 (cond (w .page) (answer-page id-columns z) [])) is;
+      crossings = l;
       count = c ∙ ap (λ (z : Sheet). length (answer-bytes z)) is;
     })
 

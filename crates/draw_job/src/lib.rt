@@ -1,5 +1,5 @@
-// A job that was read, drawn: the plan (13, or 17 and 18), the sheet (10, 11, 12, 14), the last refusal (16), the last
-// shift, the answer and what else is wanted.
+// A job that was read, drawn: the plan (13, or 17 and 18), the sheet (10, 11, 12, 14), the last refusals
+// (19, 16), the last shift, the answer and what else is wanted.
 //
 // Ported from cachanova/schemweave, commit c4a1a2c60a, crates/schemweave/src/boundary_bundles.rs
 // (Apache-2.0, see NOTICE).
@@ -7,7 +7,7 @@ ghost use mathlib.Core.Path.{_≡_};
 ghost use mathlib.Core.Bool.{false};
 ghost use Prim.Native.Nat.{ℕ, _*_, _≤_};
 ghost use lib.ListN.{length};
-ghost use Rattle.limits.specs.Limits.{max-edges, max-members, page-room, candidate-room, search-work};
+ghost use Rattle.limits.specs.Limits.{max-edges, max-members, page-room, crossings-room, candidate-room, search-work};
 ghost use Rattle.components.specs.Settled.{step-in};
 ghost use Rattle.promise.specs.Stage.{told-bytes};
 ghost use Rattle.plan_stage.specs.Entries.{after-search, plan-phase, after-taking};
@@ -77,9 +77,10 @@ fn own_plan(s: Step) -> PlanRead
     }
 }
 
-// The plan, one that is given (17, 18) or our own (13), the sheet of it and the last shift, in lent slices; the answer and the page, or the
-// notice of a refusal. One function for all of it: a table that is handed on is copied. The search keeps its
-// stretches and sorts in the slots of the present routes: nothing is in them before the sheet.
+// The plan, one that is given (17, 18) or our own (13), the sheet of it and the last shift, in lent
+// slices; the answer, the page and the list of crossings, or the notice of a refusal. One function for
+// all of it: a table that is handed on is copied. The search keeps its stretches and sorts in the slots
+// of the present routes: nothing is in them before the sheet.
 pub fn draw_in(
     wants: Wants,
     j: Job,
@@ -95,12 +96,13 @@ pub fn draw_in(
     scratch: &mut [f64],
     answer: &mut [u8],
     page: &mut [u8],
+    crossings: &mut [u8],
 ) -> usize
-    requires { ⌜ Came j (now given) × (6 ≤ length (now answer)) × (lacks (wants .page) (length (now page)) page-room ≡ false) ⌝ }
+    requires { ⌜ Came j (now given) × (6 ≤ length (now answer)) × (lacks (wants .page) (length (now page)) page-room ≡ false) × (lacks (wants .crossings) (length (now crossings)) crossings-room ≡ false) ⌝ }
     requires { ⌜ length (told-bytes (after-taking (job-in j (now given)) (plan-phase (wants .plan) (job-in j (now given)) (now plan)))) ≤ length (now answer) ⌝ }
     requires { ⌜ (search-work ≤ length (now points)) × (length (now sorted) ≡ candidate-room) ⌝ }
     requires { ⌜ Lent j (now edges) (now lanes) (now taps) (now points) (now counts) (now mask) (now scratch) ⌝ }
-    ensures { λ r. ⌜ Writes (record { answer = now (answer .entry); page = now (page .entry) }) (record { answer = now (answer .exit); page = now (page .exit) }) r (outputs-told wants (after-all wants (after-taking (job-in j (now (given .entry))) (plan-phase (wants .plan) (job-in j (now (given .entry))) (now (plan .entry)))))) ⌝ }
+    ensures { λ r. ⌜ Writes (record { answer = now (answer .entry); page = now (page .entry); crossings = now (crossings .entry) }) (record { answer = now (answer .exit); page = now (page .exit); crossings = now (crossings .exit) }) r (outputs-told wants (after-all wants (after-taking (job-in j (now (given .entry))) (plan-phase (wants .plan) (job-in j (now (given .entry))) (now (plan .entry)))))) ⌝ }
 {
     let offsets = plan_depths::corridor_depth_offsets(
         j.options,
@@ -157,7 +159,22 @@ pub fn draw_in(
     match v {
         Verdict::Refused(r, q) => answer::write_notice(&mut answer[..], r),
         Verdict::Clean(rest) => {
-            if wants.page & !j.flags.on_grid {
+            let off_grid = wants.page & !j.flags.on_grid;
+            if wants.crossings {
+                let too_many = crossing_output::list_crossings(
+                    j.flags.permits_crossings,
+                    off_grid,
+                    j.edges,
+                    d.drawn,
+                    &points[..],
+                    &counts[..],
+                    &mut crossings[..],
+                );
+                if too_many {
+                    return answer::write_notice(&mut answer[..], 19);
+                }
+            }
+            if off_grid {
                 return answer::write_notice(&mut answer[..], 16);
             }
             let n = j.members.count;

@@ -1,4 +1,4 @@
--- Strict crossings among the kinds of request F-6, and where they are. Definitions of inner contracts.
+-- Strict crossings among the kinds of request F-6, and where they are. Definitions only.
 -- Assumes nothing.
 use mathlib.Core.Bool.{Bool, cond}
 use lib.Dec.{eqb}

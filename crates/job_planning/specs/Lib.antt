@@ -1,1 +1,2 @@
 pub mod PlanWrites
+pub mod PlanThere

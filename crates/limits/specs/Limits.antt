@@ -161,3 +161,21 @@ line-bytes = id-columns + 66
 -- a line for each bundle
 abbrev pub page-room : ℕ
 page-room = max-bundles * line-bytes
+
+-- ---- the list of crossings
+
+-- F-7: "19 when .. there are more than 1,024 crossings"
+abbrev pub max-crossings : ℕ
+max-crossings = 1024
+
+-- the coordinates of that many places; the ids of that many entries
+abbrev pub crossing-numbers : ℕ
+crossing-numbers = 2 * max-crossings
+
+-- an entry of the list: a point and two ids
+abbrev pub crossing-bytes : ℕ
+crossing-bytes = 16 + 4 + 4
+
+-- the largest list: a count, and the entries
+abbrev pub crossings-room : ℕ
+crossings-room = 2 + crossing-bytes * max-crossings

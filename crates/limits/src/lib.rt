@@ -138,3 +138,17 @@ pub const LINE_BYTES: usize = ID_COLUMNS + 66;
 
 // A line for each bundle.
 pub const PAGE_ROOM: usize = MAX_BUNDLES * LINE_BYTES;
+
+// ---- the list of crossings
+
+// F-7: "19 when .. there are more than 1,024 crossings".
+pub const MAX_CROSSINGS: usize = 1024;
+
+// The coordinates of that many places; the ids of that many entries.
+pub const CROSSING_NUMBERS: usize = 2 * MAX_CROSSINGS;
+
+// An entry of the list: a point and two ids.
+pub const CROSSING_BYTES: usize = 16 + 4 + 4;
+
+// The largest list: a count, and the entries.
+pub const CROSSINGS_ROOM: usize = 2 + CROSSING_BYTES * MAX_CROSSINGS;

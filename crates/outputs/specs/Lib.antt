@@ -1,3 +1,5 @@
 pub mod Outputs
+pub mod Promises
 pub mod Front
 pub mod PageFront
+pub mod ListThere

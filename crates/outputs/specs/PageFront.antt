@@ -17,8 +17,8 @@ use Rattle.bundle_page.specs.AnswerPage.{answer-page}
 use Rattle.page_promise.specs.PageReadsBack.{PageReadsBack, PageIsRead}
 use Rattle.page_promise.specs.Theorem.{page-in}
 use Rattle.outputs.specs.declared.Wants.{Wants}
-use Rattle.outputs.specs.Outputs.{Outputs, nothing, wants-of, lacks, too-short, after-all, outputs-told, outputs-of}
-use Rattle.outputs.specs.Front.{on-the-grid, wanted-room, long-page, front-of, at-front}
+use Rattle.outputs.specs.Outputs.{Outputs, nothing, wants-of, too-short, too-many, after-all, outputs-told, outputs-of}
+use Rattle.outputs.specs.Front.{on-the-grid, wanted-room, rooms, front-of, at-front}
 
 -- an answer and its page
 record Printed (given : Bool) (bytes plan : List ℕ) (page : ℕ) (o : Outputs) : Type 0 where
@@ -33,11 +33,11 @@ told-printed : (w : Wants) (given : Bool) (bytes plan : List ℕ) (page : ℕ) �
     → Printed given bytes plan page (outputs-told w (after-all w t))
 unfolding after-all outputs-told
 told-printed w given bytes plan page wanted h t (a-refusal n) long = absurd (omega (arith, long, notice-length n))
-told-printed w given bytes plan page wanted h t (a-sheet f c) long = go (w .page && not (f .said .flags .«on_grid»)) refl long
+told-printed w given bytes plan page wanted h t (a-sheet f c) long = go (too-many w f) long
   where
-    go : (b : Bool) → (w .page && not (f .said .flags .«on_grid»)) ≡ b → 6 < length (outputs-told w (cond b (refused 16) (drawn f)) .answer) → Printed given bytes plan page (outputs-told w (cond b (refused 16) (drawn f)))
-    go true g long = absurd (omega (arith, long, notice-length 16))
-    go false g long = record {
+    last : (b : Bool) → (w .page && not (f .said .flags .«on_grid»)) ≡ b → 6 < length (outputs-told w (cond b (refused 16) (drawn f)) .answer) → Printed given bytes plan page (outputs-told w (cond b (refused 16) (drawn f)))
+    last true g long = absurd (omega (arith, long, notice-length 16))
+    last false g long = record {
       made = f;
       comes = c;
       on-grid = on-the-grid (w .page) (f .said .flags .«on_grid») wanted g;
@@ -46,27 +46,34 @@ told-printed w given bytes plan page wanted h t (a-sheet f c) long = go (w .page
       page-is = ap (λ (b : Bool). cond b (answer-page id-columns (answer-of f)) []) wanted;
     }
 
-printed : (mask : ℕ) (bytes plan : List ℕ) (answer page : ℕ) → wants-of mask .page ≡ true → 6 < length (outputs-of mask bytes plan answer page .answer) → Printed (wants-of mask .plan) bytes plan page (outputs-of mask bytes plan answer page)
+    go : (b : Bool) → 6 < length (outputs-told w (cond b (refused 19) (cond (w .page && not (f .said .flags .«on_grid»)) (refused 16) (drawn f))) .answer)
+        → Printed given bytes plan page (outputs-told w (cond b (refused 19) (cond (w .page && not (f .said .flags .«on_grid»)) (refused 16) (drawn f))))
+    go true long = absurd (omega (arith, long, notice-length 19))
+    go false long = last (w .page && not (f .said .flags .«on_grid»)) refl long
+
+printed : (mask : ℕ) (bytes plan : List ℕ) (answer page crossings : ℕ) → wants-of mask .page ≡ true → 6 < length (outputs-of mask bytes plan answer page crossings .answer)
+    → Printed (wants-of mask .plan) bytes plan page (outputs-of mask bytes plan answer page crossings)
 unfolding outputs-of
-printed mask bytes plan answer page wanted long = go (too-short (wants-of mask) answer page) refl long
+printed mask bytes plan answer page crossings wanted long = go (too-short (wants-of mask) answer page crossings) refl long
   where
-    go : (b : Bool) → too-short (wants-of mask) answer page ≡ b → 6 < length (cond b nothing (outputs-told (wants-of mask) (after-all (wants-of mask) (told-with (wants-of mask .plan) bytes plan))) .answer)
+    go : (b : Bool) → too-short (wants-of mask) answer page crossings ≡ b → 6 < length (cond b nothing (outputs-told (wants-of mask) (after-all (wants-of mask) (told-with (wants-of mask .plan) bytes plan))) .answer)
         → Printed (wants-of mask .plan) bytes plan page (cond b nothing (outputs-told (wants-of mask) (after-all (wants-of mask) (told-with (wants-of mask .plan) bytes plan))))
     go true e long = absurd (omega arith)
     go false e long =
-        told-printed (wants-of mask) (wants-of mask .plan) bytes plan page wanted (wanted-room (wants-of mask .page) page page-room wanted (long-page (wants-of mask) answer page e)) (told-with (wants-of mask .plan) bytes plan) (cause-with (wants-of mask .plan) bytes plan) long
+        told-printed (wants-of mask) (wants-of mask .plan) bytes plan page wanted (wanted-room (wants-of mask .page) page page-room wanted (rooms (wants-of mask) answer page crossings e .for-page))
+        (told-with (wants-of mask .plan) bytes plan) (cause-with (wants-of mask .plan) bytes plan) long
 
 -- THE THEOREM, of what stands in the buffers
-pub page-promised : (mask : ℕ) (bytes plan answer page answer' page' : List ℕ) (n : ℕ) → ((i : ℕ) → i < length bytes → getD bytes i 0 < 256)
-    → answer' ≡ sets answer 0 (outputs-of mask bytes plan (length answer) (length page) .answer) → n ≡ length (outputs-of mask bytes plan (length answer) (length page) .answer)
-    → page' ≡ sets page 0 (outputs-of mask bytes plan (length answer) (length page) .page) → wants-of mask .page ≡ true → PageReadsBack bytes (take n answer') page'
-page-promised mask bytes plan answer page answer' page' n all a c p wanted =
+pub page-promised : (mask : ℕ) (bytes plan answer page answer' page' : List ℕ) (crossings n : ℕ) → ((i : ℕ) → i < length bytes → getD bytes i 0 < 256)
+    → answer' ≡ sets answer 0 (outputs-of mask bytes plan (length answer) (length page) crossings .answer) → n ≡ length (outputs-of mask bytes plan (length answer) (length page) crossings .answer)
+    → page' ≡ sets page 0 (outputs-of mask bytes plan (length answer) (length page) crossings .page) → wants-of mask .page ≡ true → PageReadsBack bytes (take n answer') page'
+page-promised mask bytes plan answer page answer' page' crossings n all a c p wanted =
     let given = wants-of mask .plan in
-    let o = outputs-of mask bytes plan (length answer) (length page) in
-    let front : take n answer' ≡ o .answer = at-front given bytes plan answer (o .answer) answer' n (front-of mask bytes plan (length answer) (length page)) a c in
+    let o = outputs-of mask bytes plan (length answer) (length page) crossings in
+    let front : take n answer' ≡ o .answer = at-front given bytes plan answer (o .answer) answer' n (front-of mask bytes plan (length answer) (length page) crossings) a c in
     subst (λ (l : List ℕ). PageReadsBack bytes l page') (sym front)
     (λ long.
-    let r = printed mask bytes plan (length answer) (length page) wanted long in
+    let r = printed mask bytes plan (length answer) (length page) crossings wanted long in
     let f = r .made in
     let k = r .comes in
     page-in bytes f (k .is-read) (k .is-drawn) (phase-shaped given bytes plan (f .said) (k .is-read) (f .plan-used) (k .is-taken)) all (r .on-grid)

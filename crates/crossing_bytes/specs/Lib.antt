@@ -1,0 +1,5 @@
+pub mod Bytes
+pub mod RowBytes
+pub mod Laws
+pub mod Counted
+pub mod Link
