@@ -16,7 +16,8 @@ static uint8_t page[STAGE_PAGE_SIZE];
 int main(void) {
     size_t length = fread(job, 1, sizeof job, stdin);
     static const uint8_t no_plan[1];
-    stage_sheet(STAGE_WANT_PAGE, job, length, no_plan, 0, answer, sizeof answer, page, sizeof page);
+    static uint8_t no_list[1];
+    stage_sheet(STAGE_WANT_PAGE, job, length, no_plan, 0, answer, sizeof answer, page, sizeof page, no_list, 0);
     if (answer[STAGE_NUMBER_AT] != 0) {
         fprintf(stderr, "refused with %d\n", answer[STAGE_NUMBER_AT]);
         return 1;

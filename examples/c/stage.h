@@ -25,11 +25,15 @@ extern "C" {
 /* The bundle page: the least size of its buffer, and the bytes of a line, one line for each bundle. */
 #define STAGE_PAGE_SIZE 2432
 #define STAGE_PAGE_LINE_SIZE 76
+/* The list of crossings: the least size of its buffer, and the bytes of an entry behind the count's two. */
+#define STAGE_CROSSINGS_SIZE 24578
+#define STAGE_CROSSING_SIZE 24
 /* Bits of what stage_sheet is told is given and wanted; those that are not listed say nothing. */
 #define STAGE_PLAN_GIVEN 1u
 #define STAGE_WANT_PAGE 2u
+#define STAGE_WANT_CROSSINGS 4u
 /* Stack that a call needs at most, as measured. */
-#define STAGE_STACK_SIZE 615608
+#define STAGE_STACK_SIZE 644408
 
 /*
  * Writes the answer to the job, or the notice of its refusal, to the front of the answer's buffer, and
@@ -62,12 +66,17 @@ size_t stage_draw(const uint8_t *job, size_t job_length, const uint8_t *plan, si
  * is wanted, is as an answer's buffer that is too short. 16 is the refusal of a page for a job that is not
  * said to be on the drafting grid (flag bit 2), after all others.
  *
- * No two of job, plan, answer and page overlap. No pointer is null; a plan that is not given and a page
- * that is not wanted may have length 0.
+ * The same of the list of crossings and STAGE_WANT_CROSSINGS: its count in two bytes, the higher first, then
+ * for each crossing of a bundle and a route its place before the last shift, x and y as binary64, the bundle's
+ * id and the edge's, all big-endian; by y, then x, then the job's order. 19 is the refusal of a list of more
+ * than 1,024, before 16 and after all others.
+ *
+ * No two of job, plan, answer, page and list overlap. No pointer is null; a plan that is not given and an
+ * output that is not wanted may have length 0.
  */
 size_t stage_sheet(uint32_t wants, const uint8_t *job, size_t job_length, const uint8_t *plan,
                    size_t plan_length, uint8_t *answer, size_t answer_length, uint8_t *page,
-                   size_t page_length);
+                   size_t page_length, uint8_t *crossings, size_t crossings_length);
 
 #ifdef __cplusplus
 }

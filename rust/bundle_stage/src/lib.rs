@@ -92,7 +92,10 @@ pub use board::{
 pub use grid::OffGrid;
 pub use joints::{FalseJoint, Meeting};
 pub use locate::{Forecast, locate};
-pub use outputs::{Buffers, Drawn, PAGE_LINE_SIZE, PAGE_SIZE, Wanted, Written};
+pub use outputs::{
+    Buffers, CROSSING_SIZE, CROSSINGS_SIZE, Crossing, Drawn, PAGE_LINE_SIZE, PAGE_SIZE, Wanted,
+    Written,
+};
 pub use place::{Item, Part, Place, Refused};
 pub use plan::{PLAN_SIZE, Plan, answer_from, plan};
 pub use refusal::{Cause, Refusal};

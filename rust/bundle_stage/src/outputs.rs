@@ -1,15 +1,20 @@
 //! What the stage can be given beside the job, and its outputs beside the answer.
 
-use bundle_stage_sys::{BUFFER, PAGE};
+use bundle_stage_sys::{BUFFER, CROSSINGS, PAGE};
 
-use crate::board::Board;
+use crate::board::{Board, Id, Point};
 use crate::refusal::Refusal;
 use crate::sheet::{Answer, Sheet};
+use crate::wire::{Malformed, Reader, record};
 
 /// The bytes of a buffer that holds every bundle page: 32 lines.
 pub const PAGE_SIZE: usize = PAGE;
 /// The bytes of a line of a bundle page, its newline among them.
 pub const PAGE_LINE_SIZE: usize = 76;
+/// The bytes of a buffer that holds every list of crossings: 1,024 of them.
+pub const CROSSINGS_SIZE: usize = CROSSINGS;
+/// The bytes of a crossing in the list, behind the two of its count.
+pub const CROSSING_SIZE: usize = 24;
 /// Where an answer has its count of bundles, in two bytes.
 const BUNDLES_AT: usize = 34;
 
@@ -21,6 +26,41 @@ pub struct Wanted<'a> {
     /// The bundle page. A board that is not said to be on the drafting grid (`flags.on_grid`) has none
     /// and is refused with [`Refusal::PageOffGrid`], if with nothing else.
     pub page: bool,
+    /// The list of crossings. A sheet with more than 1,024 is refused with
+    /// [`Refusal::TooManyCrossings`], if with nothing else but for the page.
+    pub crossings: bool,
+}
+
+/// Where a bundle and a route cross without a joint.
+#[derive(Clone, Copy, Debug, PartialEq)]
+pub struct Crossing {
+    /// The place, on the sheet before its last shift.
+    pub point: Point,
+    /// The bundle, whose collector or spine is crossed.
+    pub bundle: Id,
+    /// The edge of the route.
+    pub edge: Id,
+}
+
+record!(Crossing {
+    point: "a crossing's place",
+    bundle: "a crossing's bundle",
+    edge: "a crossing's edge",
+});
+
+impl Crossing {
+    /// The list that bytes say, if they are a whole one.
+    ///
+    /// # Errors
+    ///
+    /// The first byte that does not fit, and what was expected there.
+    pub fn list_from_bytes(bytes: &[u8]) -> Result<Vec<Crossing>, Malformed> {
+        let mut from = Reader::new(bytes);
+        let count = from.field("the count of crossings")?;
+        let list = from.rows(count, "a crossing")?;
+        from.end()?;
+        Ok(list)
+    }
 }
 
 /// Buffers of the largest sizes, so that none is too short. They can be used again.
@@ -41,6 +81,7 @@ pub struct Wanted<'a> {
 pub struct Buffers {
     answer: [u8; BUFFER],
     page: [u8; PAGE],
+    crossings: [u8; CROSSINGS],
 }
 
 impl Default for Buffers {
@@ -48,6 +89,7 @@ impl Default for Buffers {
         Buffers {
             answer: [0; BUFFER],
             page: [0; PAGE],
+            crossings: [0; CROSSINGS],
         }
     }
 }
@@ -59,22 +101,36 @@ pub struct Written<'a> {
     pub answer: &'a [u8],
     /// The bundle page, if it is wanted and nothing was refused: lines of 76 bytes, one for each bundle.
     pub page: Option<&'a [u8]>,
+    /// The list of crossings, if it is wanted and nothing was refused: a count in two bytes, then 24 bytes
+    /// for each, by y, then x, then the board's order. It is empty where crossings are forbidden.
+    pub crossings: Option<&'a [u8]>,
 }
 
 impl Buffers {
     /// The answer to a job's bytes, whatever they are, and what else is wanted.
     pub fn write(&mut self, job: &[u8], wanted: &Wanted<'_>) -> Written<'_> {
         let page = wanted.page.then_some(&mut self.page);
-        let count = bundle_stage_sys::stage_sheet(job, wanted.plan, &mut self.answer, page);
+        let list = wanted.crossings.then_some(&mut self.crossings);
+        let count = bundle_stage_sys::stage_sheet(job, wanted.plan, &mut self.answer, page, list);
         let answer = &self.answer[..count];
         // A notice is shorter, and with it nothing else is written.
         let bundles = match answer.get(BUNDLES_AT..BUNDLES_AT + 2) {
             Some(&[high, low]) => usize::from(u16::from_be_bytes([high, low])),
-            _ => return Written { answer, page: None },
+            _ => {
+                return Written {
+                    answer,
+                    page: None,
+                    crossings: None,
+                };
+            }
         };
+        let crossings = usize::from(u16::from_be_bytes([self.crossings[0], self.crossings[1]]));
         Written {
             answer,
             page: wanted.page.then(|| &self.page[..bundles * PAGE_LINE_SIZE]),
+            crossings: wanted
+                .crossings
+                .then(|| &self.crossings[..2 + crossings * CROSSING_SIZE]),
         }
     }
 }
@@ -86,6 +142,9 @@ pub struct Drawn {
     pub sheet: Sheet,
     /// The bundle page, if it is wanted.
     pub page: Option<String>,
+    /// The crossings, if they are wanted: by y, then x, then the board's order. Their places are those
+    /// before the last shift.
+    pub crossings: Option<Vec<Crossing>>,
 }
 
 impl Board {
@@ -98,7 +157,8 @@ impl Board {
     ///
     /// # Panics
     ///
-    /// Never: the stage is proved to write whole answers, and pages of digits, letters and spaces.
+    /// Never: the stage is proved to write whole answers and lists, and pages of digits, letters and
+    /// spaces.
     ///
     /// ```
     /// use bundle_stage::*;
@@ -124,9 +184,13 @@ impl Board {
             .expect("the stage is proved to write whole answers")
             .into_result()?;
         let text = |page: &[u8]| str::from_utf8(page).expect("a page is ASCII").to_string();
+        let list = |bytes: &[u8]| {
+            Crossing::list_from_bytes(bytes).expect("the stage is proved to write whole lists")
+        };
         Ok(Drawn {
             sheet,
             page: written.page.map(text),
+            crossings: written.crossings.map(list),
         })
     }
 }

@@ -4,7 +4,7 @@ use std::error::Error;
 use std::fmt;
 
 /// Why there is no sheet: one case for each number of document 01, and of requests F-2,
-/// F-4 and F-5 of document 02.
+/// F-4, F-5 and F-7 of document 02.
 ///
 /// [`Refused`](crate::Refused) adds what a refusal is about.
 #[derive(Clone, Copy, Debug, Eq, Hash, PartialEq)]
@@ -48,6 +48,8 @@ pub enum Refusal {
     PlanMismatch,
     /// 18: a planned number is no coordinate, or is off the grid of a board that is said to be on it.
     PlannedNumber,
+    /// 19: the list of crossings is wanted, and there are more than 1,024.
+    TooManyCrossings,
 }
 
 /// Who can cause a refusal.
@@ -68,7 +70,7 @@ pub enum Cause {
 
 impl Refusal {
     /// All of them, by number.
-    pub const ALL: [Refusal; 18] = [
+    pub const ALL: [Refusal; 19] = [
         Refusal::LengthMismatch,
         Refusal::BufferTooShort,
         Refusal::UnknownVersion,
@@ -87,6 +89,7 @@ impl Refusal {
         Refusal::PageOffGrid,
         Refusal::PlanMismatch,
         Refusal::PlannedNumber,
+        Refusal::TooManyCrossings,
     ];
 
     /// The number in the notice.
@@ -106,7 +109,7 @@ impl Refusal {
         match self.number() {
             1 | 2 | 16 => Cause::Caller,
             3..=9 | 15 => Cause::Writer,
-            10..=13 => Cause::Drawing,
+            10..=13 | 19 => Cause::Drawing,
             17 | 18 => Cause::Plan,
             _ => Cause::Grant,
         }
@@ -168,6 +171,9 @@ impl Refusal {
                 "a planned number is not finite or out of range, or, the job being said to be on the \
                  drafting grid, off the grid"
             }
+            Refusal::TooManyCrossings => {
+                "the list of crossings is wanted, and bundles and routes cross more than 1,024 times"
+            }
         }
     }
 
@@ -178,7 +184,8 @@ impl Refusal {
                 "Look at how the job was read or sent: it is cut short, too long, or no job."
             }
             Refusal::BufferTooShort => {
-                "Lend 65,536 bytes for the answer, and 2,432 for a page that is wanted."
+                "Lend 65,536 bytes for the answer, 2,432 for a page and 24,578 for a list of crossings \
+                 that is wanted."
             }
             Refusal::UnknownVersion => {
                 "Look at the fifth byte, and at which program wrote the job."
@@ -238,6 +245,10 @@ impl Refusal {
             Refusal::PlannedNumber => {
                 "Planned numbers have magnitude at most 2^30; on the grid they are multiples of 1/128 \
                  with magnitude at most 2^20, and not minus zero. Plan anew."
+            }
+            Refusal::TooManyCrossings => {
+                "Look for routes that go across many bundles, and lead them around; or do without the \
+                 list."
             }
         }
     }

@@ -139,7 +139,7 @@ impl Answer {
         let mut from = Reader::new(bytes);
         from.length()?;
         version(&mut from)?;
-        let refused = from.listed("the number (0 to 18)", |number: u8| match number {
+        let refused = from.listed("the number (0 to 19)", |number: u8| match number {
             0 => Some(None),
             _ => Refusal::of_number(number).map(Some),
         })?;

@@ -388,7 +388,7 @@ fn refusals_have_their_numbers_and_words() {
         let _: &dyn Error = &refusal;
     }
     assert_eq!(Refusal::of_number(0), None);
-    assert_eq!(Refusal::of_number(19), None);
+    assert_eq!(Refusal::of_number(20), None);
 }
 
 // ---- against the Rust

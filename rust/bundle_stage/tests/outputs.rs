@@ -83,6 +83,84 @@ fn planned_and_drawn_later() {
     }
 }
 
+/// The board with crossings permitted and upright wires across the bundle's spine, at these places.
+fn crossed(places: impl IntoIterator<Item = f64>) -> Board {
+    let mut board = board();
+    board.flags.permit_crossings = true;
+    for (id, x) in (3..).zip(places) {
+        let mut wire = board.edges[0].clone();
+        wire.id = id;
+        wire.points = vec![at(x, -10.0), at(x, 110.0)];
+        board.edges.push(wire);
+    }
+    board
+}
+
+/// Document 02, F-7: the list by y, then x, then edge; none where crossings are forbidden; 19 above 1,024,
+/// before 16.
+#[test]
+fn the_list_of_crossings() {
+    let wanted = Wanted {
+        crossings: true,
+        ..Wanted::default()
+    };
+    let board = crossed([150.0, 100.0, 150.0]);
+    let drawn = board.draw_with(&wanted).expect("drawn");
+    assert_eq!(Ok(drawn.sheet.clone()), board.draw());
+    // Before the last shift, which moves all down by 10.
+    assert_eq!(drawn.sheet.bundles[0].spine.start.y, 60.0);
+    let crossing = |x: f64, edge: Id| Crossing {
+        point: at(x, 50.0),
+        bundle: 1,
+        edge,
+    };
+    let due = [crossing(100.0, 4), crossing(150.0, 3), crossing(150.0, 5)];
+    assert_eq!(drawn.crossings.as_deref(), Some(&due[..]));
+    let mut buffers = Box::new(Buffers::default());
+    let written = buffers.write(&board.to_bytes().expect("small"), &wanted);
+    let bytes = written.crossings.expect("a list").to_vec();
+    assert_eq!(
+        (bytes.len(), &bytes[..2]),
+        (2 + 3 * CROSSING_SIZE, &[0, 3][..])
+    );
+    assert_eq!(Crossing::list_from_bytes(&bytes), Ok(due.to_vec()));
+    for length in 0..bytes.len() {
+        assert!(Crossing::list_from_bytes(&bytes[..length]).is_err());
+    }
+    // Not wanted, there is none; with crossings forbidden it is empty.
+    let nothing = board.draw_with(&Wanted::default()).expect("drawn");
+    assert_eq!(nothing.crossings, None);
+    let mut forbidden = crossed([]);
+    forbidden.flags.permit_crossings = false;
+    let drawn = forbidden.draw_with(&wanted).expect("drawn");
+    assert_eq!(drawn.crossings, Some(Vec::new()));
+    let mut forbidden = board.clone();
+    forbidden.flags.permit_crossings = false;
+    assert_eq!(forbidden.draw_with(&wanted), Err(Refusal::ForbiddenContact));
+    // Wires that go up and down over the spine: 16 of 63 runs, and one of the rest.
+    let winding = |last: usize| {
+        let mut board = crossed((0..17).map(|place| 70.5 + f64::from(place)));
+        for (place, edge) in board.edges[2..].iter_mut().enumerate() {
+            let runs = if place < 16 { 63 } else { last };
+            let (up, down) = (edge.points[0], edge.points[1]);
+            edge.points = [up, down].into_iter().cycle().take(runs + 1).collect();
+        }
+        board
+    };
+    let most = winding(16);
+    let drawn = most.draw_with(&wanted).expect("drawn");
+    assert_eq!(drawn.crossings.expect("a list").len(), 1_024);
+    let more = winding(17);
+    assert!(more.draw().is_ok());
+    assert_eq!(more.draw_with(&wanted), Err(Refusal::TooManyCrossings));
+    let both = Wanted {
+        page: true,
+        ..wanted
+    };
+    assert_eq!(most.draw_with(&both), Err(Refusal::PageOffGrid));
+    assert_eq!(more.draw_with(&both), Err(Refusal::TooManyCrossings));
+}
+
 #[test]
 fn plans_come_back() {
     for plan in [

@@ -8,10 +8,16 @@ pub const PLAN: usize = 297;
 /// The bytes of a bundle page's buffer: the least that the stage accepts, and the largest page.
 pub const PAGE: usize = 2_432;
 
+/// The bytes of a buffer for the list of crossings: the least that the stage accepts, and the longest
+/// list.
+pub const CROSSINGS: usize = 24_578;
+
 /// The bit of `wants` that says: a plan is given.
 pub const PLAN_GIVEN: u32 = 1;
 /// The bit of `wants` that says: the bundle page is wanted.
 pub const WANT_PAGE: u32 = 1 << 1;
+/// The bit of `wants` that says: the list of crossings is wanted.
+pub const WANT_CROSSINGS: u32 = 1 << 2;
 
 /// The library's functions as C sees them, for callers with memory of their own.
 pub mod c {
@@ -54,7 +60,7 @@ pub mod c {
 
         /// # Safety
         ///
-        /// As `stage`, of four buffers: no two overlap. A pointer is not null, even where the length
+        /// As `stage`, of five buffers: no two overlap. A pointer is not null, even where the length
         /// is 0, as it may be for a plan that is not given or an output that is not wanted.
         pub fn stage_sheet(
             wants: u32,
@@ -66,6 +72,8 @@ pub mod c {
             answer_length: usize,
             page: *mut u8,
             page_length: usize,
+            crossings: *mut u8,
+            crossings_length: usize,
         ) -> usize;
     }
 }
@@ -124,14 +132,14 @@ pub fn stage_draw(job: &[u8], plan: &[u8], answer: &mut [u8; BUFFER]) -> usize {
 }
 
 /// The answer to the job as `stage` gives it, or as `stage_draw` does where a plan is given, and the
-/// bundle page where a buffer for it is lent. A refusal, 16 of the page among them, leaves the page's
-/// buffer as it was.
+/// bundle page and the list of crossings where buffers for them are lent. A refusal, 16 of the page and 19
+/// of the list among them, leaves these buffers as they were.
 ///
 /// ```
 /// use bundle_stage_sys::{BUFFER, PAGE};
 ///
 /// let (mut answer, mut page) = ([0; BUFFER], [7; PAGE]);
-/// let count = bundle_stage_sys::stage_sheet(b"no job", None, &mut answer, Some(&mut page));
+/// let count = bundle_stage_sys::stage_sheet(b"no job", None, &mut answer, Some(&mut page), None);
 /// assert_eq!(answer[..count], [0, 0, 0, 2, 1, 1]);
 /// assert_eq!(page, [7; PAGE]);
 /// ```
@@ -140,6 +148,7 @@ pub fn stage_sheet(
     plan: Option<&[u8]>,
     answer: &mut [u8; BUFFER],
     page: Option<&mut [u8; PAGE]>,
+    crossings: Option<&mut [u8; CROSSINGS]>,
 ) -> usize {
     let mut wants = 0;
     let plan = match plan {
@@ -156,7 +165,14 @@ pub fn stage_sheet(
         }
         None => &mut [],
     };
-    // SAFETY: as in `stage`, of four slices, of which the two that are written to overlap no other; an
+    let crossings: &mut [u8] = match crossings {
+        Some(crossings) => {
+            wants |= WANT_CROSSINGS;
+            crossings
+        }
+        None => &mut [],
+    };
+    // SAFETY: as in `stage`, of five slices, of which the three that are written to overlap no other; an
     // empty one has a pointer that is not null. The contract holds for every `wants` and all lengths.
     unsafe {
         c::stage_sheet(
@@ -169,6 +185,8 @@ pub fn stage_sheet(
             answer.len(),
             page.as_mut_ptr(),
             page.len(),
+            crossings.as_mut_ptr(),
+            crossings.len(),
         )
     }
 }

@@ -1,7 +1,7 @@
 //! An answer in words.
 
 use bundle_stage::{
-    Answer, Board, Bundle, DrawnBundle, Endpoint, Forecast, Plan, Refused, Role, Sheet,
+    Answer, Board, Bundle, Crossing, DrawnBundle, Endpoint, Forecast, Plan, Refused, Role, Sheet,
 };
 
 use crate::joints::Joints;
@@ -16,6 +16,33 @@ pub fn explain(answer: &Answer, board: Option<&Board>, names: &Names) -> String 
         Answer::Refused(refusal) => format!("{refusal}\n"),
         Answer::Drawn(sheet) => drawn(sheet, board, names),
     }
+}
+
+/// A line for each crossing of a bundle and a route: its place before the last shift, and the two.
+pub fn explain_crossings(list: &[Crossing], names: &Names) -> String {
+    let mut text = format!(
+        "{} of bundles and routes; places before the last shift\n",
+        counted(list.len(), "crossing")
+    );
+    if list.is_empty() {
+        return text;
+    }
+    let named = |id: u32, name: Option<&str>| match name {
+        Some(name) => format!("{id} {name}"),
+        None => id.to_string(),
+    };
+    let head = ["x", "y", "bundle", "edge"].map(from);
+    let rows = list.iter().map(|one| {
+        [
+            number(one.point.x),
+            number(one.point.y),
+            named(one.bundle, names.bundle(one.bundle)),
+            named(one.edge, names.edge(one.edge)),
+        ]
+    });
+    text.push('\n');
+    text.push_str(&table(&[head].into_iter().chain(rows).collect::<Vec<_>>()));
+    text
 }
 
 /// A job that a plan is for, and what comes of the two.

@@ -7,7 +7,7 @@ struct Command {
     long: &'static str,
 }
 
-const COMMANDS: [Command; 12] = [
+const COMMANDS: [Command; 13] = [
     Command {
         name: "pack",
         words: "[BOARD]",
@@ -113,7 +113,8 @@ is so on none, there is no picture, but words that say what would mislead, and t
 
 Nodes are boxes with their ids, ports are squares, routes are thin lines and bundles heavy ones, each
 with a colour and a mark of its own. A dot is a joint: a tap on its collector. Where lines cross
-without a joint, the one goes over the other in an arch. Routes that lie over each other, or very near,
+without a joint, the one goes over the other in an arch; where a bundle and a route do so, that is the list
+of `bundles crossings`, each with its arch. Routes that lie over each other, or very near,
 are drawn side by side; a route in two bundles changes its colour half way. The legend has each
 bundle's id, from which ports to which it leads, its role, place and width. Below it stands what `bundles explain` says of the joints
 and of the last shift; a false joint has a ring around it, and its words stand below the title.
@@ -140,6 +141,19 @@ search takes names and ids. Wheel, two fingers, `+` and `-` zoom; dragging and t
 shows the whole sheet, Tab goes from one thing to the next, Enter chooses, Escape shows all again, `/`
 goes to the search. Behind `#` in the address can stand what is chosen: sheet.html#bundle-3. Printed
 it is the picture.",
+    },
+    Command {
+        name: "crossings",
+        words: "[BOARD] [--plan PLAN] [--names FILE]",
+        short: "a board's text or job, to the list of where bundles and routes cross",
+        long: "\
+For boards on which crossings are permitted: a line for each place where a route crosses a bundle without
+a joint, with the place on the sheet before its last shift, the bundle and the edge; by y, then x, then the
+board's order. That each crossing stands there once, that nothing else does, and that a bundle and a route
+share no other point but the route's own tap, is proved of the sheet before its last shift. Crossings of two
+bundles are not in the list, nor are those of two routes.
+
+A sheet with more than 1,024 is refused with 19. With a PLAN the list is that of the sheet drawn from it.",
     },
     Command {
         name: "page",

@@ -1,15 +1,18 @@
 //! In words: whether joints of a sheet in an answer are false, and what is known of its last shift.
 
-use bundle_stage::{Board, FalseJoint, LastShift, Meeting, Point, Segment, Sheet, Shift};
+use bundle_stage::{
+    Board, Crossing, FalseJoint, LastShift, Meeting, Point, Segment, Sheet, Shift, Wanted,
+};
 
+use crate::explain::counted;
 use crate::text::number;
 
 /// What was found on a sheet.
 pub enum Joints {
     /// The stage gives another answer to this job, so that nothing is known of this one.
     NotOurs,
-    /// Crossings are permitted: nothing is promised.
-    Permitted(LastShift),
+    /// Crossings are permitted: these are the stage's list, or there are too many for one.
+    Permitted(Option<Vec<Crossing>>, LastShift),
     /// These are false: none, mostly.
     False(Vec<FalseJoint>, LastShift),
 }
@@ -24,7 +27,17 @@ impl Joints {
         let shift = sheet.last_shift(board);
         match sheet.false_joints(board) {
             Some(joints) => Joints::False(joints, shift),
-            None => Joints::Permitted(shift),
+            None => Joints::Permitted(listed(board), shift),
+        }
+    }
+
+    /// The crossings of bundles and routes, by the stage's list, if there is one.
+    pub fn crossings(&self) -> Option<&[Crossing]> {
+        match self {
+            Joints::NotOurs => None,
+            Joints::Permitted(list, _) => list.as_deref(),
+            // None is permitted.
+            Joints::False(..) => Some(&[]),
         }
     }
 
@@ -56,8 +69,12 @@ impl Joints {
             Joints::NotOurs => {
                 "not looked at, as the stage gives another answer to this job".to_string()
             }
-            Joints::Permitted(_) => {
-                "crossings are permitted, so that nothing is promised of them".to_string()
+            Joints::Permitted(Some(list), _) => format!(
+                "{} with routes, else only taps, as is proved before the last shift",
+                counted(list.len(), "crossing")
+            ),
+            Joints::Permitted(None, _) => {
+                "crossings are permitted, and there are more than can be listed".to_string()
             }
             Joints::False(joints, _) if joints.is_empty() => {
                 "none is false on the sheet in the answer, looked at in exact numbers".to_string()
@@ -76,9 +93,18 @@ impl Joints {
     fn shift(&self) -> Option<String> {
         match self {
             Joints::NotOurs => None,
-            Joints::Permitted(shift) | Joints::False(_, shift) => Some(shifted(*shift)),
+            Joints::Permitted(_, shift) | Joints::False(_, shift) => Some(shifted(*shift)),
         }
     }
+}
+
+/// The crossings of the board's sheet, none where there are too many to be listed.
+fn listed(board: &Board) -> Option<Vec<Crossing>> {
+    let wanted = Wanted {
+        crossings: true,
+        ..Wanted::default()
+    };
+    board.draw_with(&wanted).ok()?.crossings
 }
 
 /// What it is called.

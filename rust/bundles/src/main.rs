@@ -10,8 +10,8 @@ use std::fs;
 use std::path::{Path, PathBuf};
 use std::process::ExitCode;
 
-use bundle_stage::{Answer, Board, Buffers, Cause, Sheet, Wanted, locate};
-use bundles::explain::{counted, explain, places};
+use bundle_stage::{Answer, Board, Buffers, Cause, Crossing, Sheet, Wanted, locate};
+use bundles::explain::{counted, explain, explain_crossings, places};
 use bundles::html::{html, html_refused};
 use bundles::names::Names;
 use bundles::svg::{svg, svg_refused};
@@ -92,6 +92,8 @@ fn command(words: &[&str]) -> Result<Done, String> {
         ["svg", job, answer] => picture_of(job, answer, settings),
         ["picture", board] => picture(board, settings),
         ["html", board] => followed(board, settings),
+        ["crossings"] => crossings("-", settings),
+        ["crossings", board] => crossings(board, settings),
         ["page"] => page("-", settings),
         ["page", board] => page(board, settings),
         ["help" | "--help" | "-h"] => out(help::all().as_bytes()),
@@ -132,7 +134,10 @@ fn settings<'a>(words: &[&'a str]) -> Result<(Vec<&'a str>, Settings<'a>), Strin
         let value = words.next();
         *place = Some(value.ok_or_else(|| wrong(others.first().unwrap_or(&word)))?);
     }
-    let takes_plan = matches!(others.first(), Some(&("draw" | "explain" | "page")));
+    let takes_plan = matches!(
+        others.first(),
+        Some(&("draw" | "explain" | "crossings" | "page"))
+    );
     if settings.plan.is_some() && !takes_plan {
         return Err(wrong(others.first().unwrap_or(&"--plan")));
     }
@@ -233,6 +238,27 @@ fn drawn(loaded: &Loaded) -> Result<(Vec<u8>, Answer), String> {
     Ok((bytes, answer))
 }
 
+/// The crossings of a board's bundles and routes, from its text or its job. A refusal is told, and there
+/// is no list.
+fn crossings(name: &str, settings: Settings<'_>) -> Result<Done, String> {
+    let plan = plan_of(settings, name)?;
+    let loaded = load(name, settings.names)?;
+    let mut buffers = Box::new(Buffers::default());
+    let wanted = Wanted {
+        plan: plan.as_deref(),
+        crossings: true,
+        ..Wanted::default()
+    };
+    let written = buffers.write(&loaded.job, &wanted);
+    let answer = Answer::from_bytes(written.answer).map_err(of(&loaded.name))?;
+    if let Some(list) = written.crossings {
+        let list = Crossing::list_from_bytes(list).map_err(of(&loaded.name))?;
+        out(explain_crossings(&list, &loaded.names).as_bytes())?;
+    }
+    tell(&answer, &loaded, plan.as_deref());
+    Ok(done(&answer))
+}
+
 /// The bundle page of a board, from its text or its job. A refusal is told, and there is no page.
 fn page(name: &str, settings: Settings<'_>) -> Result<Done, String> {
     let plan = plan_of(settings, name)?;
@@ -241,6 +267,7 @@ fn page(name: &str, settings: Settings<'_>) -> Result<Done, String> {
     let wanted = Wanted {
         plan: plan.as_deref(),
         page: true,
+        ..Wanted::default()
     };
     let written = buffers.write(&loaded.job, &wanted);
     let answer = Answer::from_bytes(written.answer).map_err(of(&loaded.name))?;

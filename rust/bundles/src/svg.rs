@@ -68,7 +68,8 @@ impl fmt::Display for Unclear {
 
 impl std::error::Error for Unclear {}
 
-/// The finished sheet. `board` is the one that it is the answer to.
+/// The finished sheet. `board` is the one that it is the answer to. An arch of a bundle and a route is a
+/// crossing of the stage's list, and each crossing of the list has its arch.
 ///
 /// # Errors
 ///
@@ -93,6 +94,7 @@ pub fn svg(board: &Board, sheet: &Sheet, names: &Names, title: &str) -> Result<S
     let joints = Joints::of(board, sheet);
     let mut scene = Scene::of_sheet(board, sheet);
     scene.mark(joints.found());
+    scene.list(joints.crossings());
     scene.names = names.clone();
     let head = Head {
         title: title.to_string(),
@@ -151,8 +153,8 @@ fn picture(scene: Scene, head: &Head, ink: &str, said: Option<String>) -> Result
         );
         let mut scene = scene.clone().moved(|point| page.at(point));
         let mut pens = Pens::of(&scene);
-        let strokes = strokes(&mut scene, &mut pens, paper >= TUNNELS);
-        match unclear(&scene, &strokes, &pens) {
+        let (strokes, miscounted) = strokes(&mut scene, &mut pens, paper >= TUNNELS);
+        match miscounted.or_else(|| unclear(&scene, &strokes, &pens)) {
             None => {
                 return Ok(page_of(
                     &scene,

@@ -46,7 +46,7 @@ fn in_words() {
     );
     assert_eq!(
         said(&example("crossings")),
-        "joints: crossings are permitted, so that nothing is promised of them\n\
+        "joints: 5 crossings with routes, else only taps, as is proved before the last shift\n\
          last shift: across, it subtracted nothing; down, it was exact (all numbers of the job are \
          multiples of 1/64 up to 2^20)\n"
     );

@@ -155,6 +155,49 @@ fn a_bundle_page() {
     );
 }
 
+/// Document 02, F-7: the list of crossings, with names where there are some.
+#[test]
+fn the_list_of_crossings() {
+    let (board, job) = (example("crossings.txt"), example("crossings.job"));
+    let read = |name: &str| fs::read(name).expect("an example");
+    assert_eq!(out(0, &["pack", &board], b""), read(&job));
+    let list = "\
+5 crossings of bundles and routes; places before the last shift
+
+x    y    bundle  edge
+190  80   1       51
+190  80   1       52
+500  110  1       23
+190  240  2       51
+240  240  2       52
+";
+    assert_eq!(text(out(0, &["crossings", &job], b"")), list);
+    assert_eq!(text(out(0, &["crossings", &board], b"")), list);
+    assert_eq!(text(out(0, &["crossings"], &read(&job))), list);
+    let names = folder("crossings").join("names");
+    fs::write(&names, "bundle 2 \"clocks\"\nedge 51 \"sync\"\n").expect("a file");
+    let names = names.to_str().expect("text");
+    let named = text(out(0, &["crossings", &job, "--names", names], b""));
+    assert!(named.contains("\n190  240  2 clocks  51 sync\n"), "{named}");
+    // Drawn from a plan; forbidden, so that there is none; refused.
+    let plan = folder("crossed").join("plan");
+    fs::write(&plan, out(0, &["plan", &job], b"")).expect("a file");
+    let plan = plan.to_str().expect("text");
+    assert_eq!(
+        text(out(0, &["crossings", &job, "--plan", plan], b"")),
+        list
+    );
+    let none = text(out(0, &["crossings", &example("clock-board.job")], b""));
+    assert_eq!(
+        none,
+        "0 crossings of bundles and routes; places before the last shift\n"
+    );
+    let refused = bundles(&["crossings"], NO_JOB);
+    assert_eq!(refused.status.code(), Some(1));
+    assert!(refused.stdout.is_empty());
+    assert!(text(refused.stderr).contains("refused with 1, "));
+}
+
 /// Document 02, F-5: planned with the revision, drawn on delivery.
 #[test]
 fn planned_and_drawn_later() {
@@ -503,8 +546,19 @@ fn help() {
     let all = text(out(0, &["help"], b""));
     assert_eq!(text(out(0, &["--help"], b"")), all);
     for command in [
-        "pack", "unpack", "names", "plan", "draw", "explain", "svg", "html", "page", "picture",
-        "version", "help",
+        "pack",
+        "unpack",
+        "names",
+        "plan",
+        "draw",
+        "explain",
+        "svg",
+        "html",
+        "crossings",
+        "page",
+        "picture",
+        "version",
+        "help",
     ] {
         assert!(all.contains(&format!("\n  bundles {command} ")));
         let one = text(out(0, &["help", command], b""));

@@ -1,7 +1,7 @@
 //! One job, in both stages: the same bytes, and no other byte changed.
 
 use jobs::rng::Rng;
-use oracle::stage::BUFFER;
+use oracle::stage::{BUFFER, answer_and_crossings};
 
 use crate::plans::{Drawer, PlanSame, Planner, Plans};
 use crate::rooms::{LONGEST, Rooms, Side};
@@ -69,7 +69,7 @@ impl Checker {
     /// Compares one job in all entries, or says what differs. The places of what is lent and the lengths
     /// of the buffers are fixed by seed and index.
     pub fn check(&mut self, job: &[u8], index: u64) -> Result<Same, String> {
-        let answer = oracle::answer_of(job);
+        let (answer, list) = answer_and_crossings(job, None);
         let (enough, short) = self.check_stage(job, &answer, index)?;
         let number = oracle::number(&answer);
         let (plan, given) = self.plans.check(job, &answer, index)?;
@@ -78,7 +78,7 @@ impl Checker {
             enough,
             short,
             plan,
-            sheet: self.sheets.check(job, answer, &given, index)?,
+            sheet: self.sheets.check(job, (answer, list), &given, index)?,
         })
     }
 

@@ -2,15 +2,15 @@
 
 use jobs::numbers::{fields, has_minus_zero};
 use jobs::survey::NUMBERS;
-use oracle::outputs::{PLAN_GIVEN, WANT_PAGE};
+use oracle::outputs::{PLAN_GIVEN, WANT_CROSSINGS, WANT_PAGE};
 
 use crate::check::{ENOUGH, SHORT, Same};
 use crate::fuzz::{KINDS, MUTATED, name};
 use crate::plans::{self, PLAN_NUMBERS, PlanSame};
-use crate::sheets::{LISTED, PageFacts, SheetSame};
+use crate::sheets::{LISTED, ListFacts, PageFacts, SheetSame};
 
-/// Numbers that `stage_sheet` tells: 0 to 18.
-const SHEET_NUMBERS: usize = PLAN_NUMBERS;
+/// Numbers that `stage_sheet` tells: 0 to 19.
+const SHEET_NUMBERS: usize = 20;
 
 /// Jobs by kind and number, those that have a minus zero in a number field, and calls by the length of
 /// the answer's buffer.
@@ -71,18 +71,20 @@ impl PlanCounts {
     }
 }
 
-/// Calls of `stage_sheet`: by number, without and with the page, without and with bits that are not
-/// listed, with a plan; and what the pages have.
+/// Calls of `stage_sheet`: by number, by what is wanted, with bits that are not listed, with a plan; and
+/// what pages and lists have.
 #[derive(Clone, Debug, Default, Eq, PartialEq)]
 pub struct SheetCounts {
     pub numbers: [u64; SHEET_NUMBERS],
-    pub wanted: [[u64; 2]; 2],
+    /// Nothing, the page, the list, both; the second time with bits that are not listed.
+    pub wanted: [[u64; 4]; 2],
     pub with_plan: u64,
     /// The page is wanted with bit 2 clear, and another refusal came before 16: by its number.
     pub before_16: [u64; SHEET_NUMBERS],
     pub page: PageFacts,
-    /// Calls with too short a buffer of the answer, of the page, of both.
-    pub short: [u64; 3],
+    pub list: ListFacts,
+    /// Calls with too short a buffer of the answer, of the page, of the list, of several.
+    pub short: [u64; 4],
 }
 
 impl PageFacts {
@@ -100,6 +102,50 @@ impl PageFacts {
     }
 }
 
+impl ListFacts {
+    fn all(&mut self) -> impl Iterator<Item = &mut u64> {
+        [
+            &mut self.lists,
+            &mut self.empty,
+            &mut self.forbidden,
+            &mut self.entries,
+            &mut self.of_spines,
+            &mut self.ties,
+            &mut self.ties_of_edges,
+            &mut self.looked_at,
+            &mut self.minus_zeros,
+        ]
+        .into_iter()
+        .chain(&mut self.about_limit)
+    }
+
+    fn print(&self) {
+        let ListFacts {
+            lists,
+            empty,
+            forbidden,
+            entries,
+            of_spines,
+            ties,
+            ties_of_edges,
+            about_limit: [less, most, one_more, more],
+            looked_at,
+            minus_zeros,
+        } = self;
+        println!(
+            "lists with entries: {lists}, empty with crossings permitted: {empty}, forbidden: \
+             {forbidden}; made again by kinds, in whole numbers: {looked_at}"
+        );
+        println!(
+            "entries: {entries}, of spines {of_spines}, at the place of the one before {ties}, of \
+             these of the same edge {ties_of_edges}, with a minus zero {minus_zeros}"
+        );
+        println!(
+            "lists of 1,023: {less}, of 1,024: {most}; 19 for 1,025: {one_more}, for more: {more}"
+        );
+    }
+}
+
 impl SheetCounts {
     fn all(&mut self) -> impl Iterator<Item = &mut u64> {
         let wanted = self.wanted.iter_mut().flatten();
@@ -109,13 +155,15 @@ impl SheetCounts {
             .chain([&mut self.with_plan])
             .chain(&mut self.before_16)
             .chain(self.page.all())
+            .chain(self.list.all())
             .chain(&mut self.short)
     }
 
     fn add(&mut self, mut same: SheetSame) {
         self.numbers[usize::from(same.number)] += 1;
-        let page = usize::from(same.wants & WANT_PAGE != 0);
-        self.wanted[page][usize::from(same.wants & !LISTED != 0)] += 1;
+        let wanted = [WANT_PAGE, WANT_CROSSINGS].map(|bit| usize::from(same.wants & bit != 0));
+        let unlisted = usize::from(same.wants & !LISTED != 0);
+        self.wanted[unlisted][wanted[0] + 2 * wanted[1]] += 1;
         self.with_plan += u64::from(same.wants & PLAN_GIVEN != 0);
         if same.before_16 {
             self.before_16[usize::from(same.number)] += 1;
@@ -123,16 +171,27 @@ impl SheetCounts {
         for (sum, count) in self.page.all().into_iter().zip(same.page.all()) {
             *sum += *count;
         }
-        let [answer, page] = same.short;
-        self.short[usize::from(page) + usize::from(answer && page)] += 1;
+        for (sum, count) in self.list.all().zip(same.list.all()) {
+            *sum += *count;
+        }
+        let which = match same.short {
+            [true, false, false] => 0,
+            [false, true, false] => 1,
+            [false, false, true] => 2,
+            _ => 3,
+        };
+        self.short[which] += 1;
     }
 
     fn print(&self) {
         println!("calls of stage_sheet with buffers that are long enough, by number:");
         print_numbers(&self.numbers);
-        let [[neither, unlisted], [page, both]] = self.wanted;
-        println!("wanted: nothing {neither}, the page {page}");
-        println!("the same with bits that are not listed: {unlisted}, {both}");
+        for (words, [nothing, page, list, both]) in [
+            ("wanted", self.wanted[0]),
+            ("and with bits that are not listed", self.wanted[1]),
+        ] {
+            println!("{words}: nothing {nothing}, the page {page}, the list {list}, both {both}");
+        }
         println!("a plan given: {}", self.with_plan);
         println!("16 would be due, but for this number before it:");
         print_numbers(&self.before_16);
@@ -152,8 +211,12 @@ impl SheetCounts {
              at least 2^22 {largest}, negative {negative}",
             3 * lines
         );
-        let [answer, page, both] = self.short;
-        println!("nothing written, too short: the answer {answer}, the page {page}, both {both}");
+        self.list.print();
+        let [answer, page, list, several] = self.short;
+        println!(
+            "nothing written, too short: the answer {answer}, the page {page}, the list {list}, \
+             several {several}"
+        );
     }
 }
 

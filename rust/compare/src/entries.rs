@@ -2,7 +2,8 @@
 
 use std::hint::black_box;
 
-use oracle::outputs::{PAGE_BUFFER, WANT_PAGE};
+use oracle::crossings::CROSSINGS_BUFFER;
+use oracle::outputs::{PAGE_BUFFER, WANT_CROSSINGS, WANT_PAGE};
 use oracle::plan::PLAN_BUFFER;
 use oracle::stage::BUFFER;
 
@@ -16,6 +17,7 @@ struct Buffers {
     answer: Vec<u8>,
     plan: Vec<u8>,
     page: Vec<u8>,
+    crossings: Vec<u8>,
 }
 
 impl Buffers {
@@ -26,6 +28,7 @@ impl Buffers {
             plan: &[],
             answer: &mut self.answer,
             page: &mut self.page,
+            crossings: &mut self.crossings,
         })
     }
 }
@@ -33,7 +36,7 @@ impl Buffers {
 /// A call of an entry, by name.
 type Call = (&'static str, fn(&mut Buffers, &[u8]) -> usize);
 
-const CALLS: [Call; 5] = [
+const CALLS: [Call; 6] = [
     ("stage", |buffers, job| stage(job, &mut buffers.answer)),
     ("stage_plan", |buffers, job| {
         stage_plan(job, &mut buffers.plan)
@@ -46,12 +49,16 @@ const CALLS: [Call; 5] = [
     ("with the page", |buffers, job| {
         buffers.sheet(WANT_PAGE, job)
     }),
+    ("with the list", |buffers, job| {
+        buffers.sheet(WANT_CROSSINGS, job)
+    }),
 ];
 
-/// The set with bit 2 in all jobs, whose numbers are whole, so that a page can be wanted.
+/// The set with bits 1 and 2 in all jobs, whose numbers are whole, so that a page can be wanted and
+/// crossings are permitted.
 fn on_grid(mut set: Set) -> Set {
     for job in &mut set.jobs {
-        job[5] |= 4;
+        job[5] |= 6;
         assert_eq!(
             oracle::number(&oracle::answer_of(job)),
             0,
@@ -67,6 +74,7 @@ fn measure(set: &Set, rounds: usize) -> [f64; CALLS.len()] {
         answer: vec![0; BUFFER],
         plan: vec![0; PLAN_BUFFER],
         page: vec![0; PAGE_BUFFER],
+        crossings: vec![0; CROSSINGS_BUFFER],
     };
     let mut timing = |call: Call, times: usize| {
         let start = microseconds();
@@ -110,7 +118,7 @@ pub fn entries(seed: u64, rounds: usize) {
         }
         println!();
     }
-    println!("microseconds a job, bit 2 set; {rounds} rounds, seed {seed}");
+    println!("microseconds a job, bits 1 and 2 set; {rounds} rounds, seed {seed}");
 }
 
 /// The same as a table of a document.

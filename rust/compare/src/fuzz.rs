@@ -9,21 +9,21 @@ use std::time::{Duration, Instant};
 
 use jobs::families::FAMILIES;
 use jobs::mutations::Mutations;
-use jobs::pages;
+use jobs::{crossed, pages};
 
 use crate::check::{Checker, Entries};
 use crate::counts::Counts;
 use crate::outside::{End, PANICKED, end_after, forked, shared_words, wait_for_any};
 
-/// Jobs of each kind among `CYCLE` that follow one another: of each family, mutated ones, and those for
-/// pages. Few are of the families that come around after some thousands of jobs, or whose jobs take
+/// Jobs of each kind among `CYCLE` that follow one another: of each family, mutated ones, those for pages
+/// and those with crossings. Few are of the families that come around after some thousands of jobs, or whose jobs take
 /// long.
 const SHARES: [u64; KINDS] = [
-    64, 48, 96, 64, 96, 24, 64, 8, 24, 12, 1, 32, 24, 48, 48, 32, 1, 2, 304, 32,
+    64, 48, 96, 64, 96, 24, 64, 8, 24, 12, 1, 32, 24, 48, 48, 32, 1, 2, 272, 32, 32,
 ];
 pub const KINDS: usize = FAMILIES.len() + OTHERS.len();
 /// The kinds of jobs that are of no family.
-const OTHERS: [&str; 2] = ["mutated", "pages"];
+const OTHERS: [&str; 3] = ["mutated", "pages", "crossed"];
 pub const MUTATED: usize = FAMILIES.len();
 const CYCLE: u64 = 1_024;
 /// How many jobs there are between two lines that say how far it is.
@@ -178,7 +178,8 @@ impl Jobs {
         match FAMILIES.get(kind) {
             Some(family) => family.job(self.seed, place),
             None if kind == MUTATED => self.mutations.job(place),
-            None => pages::job(self.seed, place),
+            None if kind == MUTATED + 1 => pages::job(self.seed, place),
+            None => crossed::job(self.seed, place),
         }
     }
 }

@@ -1,34 +1,46 @@
 //! Jobs and answers in heap memory of exactly their size, for memcheck.
 
 use jobs::families::FAMILIES;
-use oracle::outputs::{Lengths, PAGE_BUFFER, PLAN_GIVEN, WANT_PAGE, outputs};
+use oracle::crossings::CROSSINGS_BUFFER;
+use oracle::outputs::{Lengths, PAGE_BUFFER, PLAN_GIVEN, WANT_CROSSINGS, WANT_PAGE, outputs};
 use oracle::plan::PLAN_BUFFER;
 use oracle::stage::{BUFFER, answer_from, plan_of};
 
 use crate::outside::{stage_draw_on_heap, stage_on_heap, stage_plan_on_heap, stage_sheet_on_heap};
 
-/// The same bytes by `stage_sheet`, with plan and page and without them, in buffers of the least sizes;
-/// nothing in shorter ones.
+/// The same bytes by `stage_sheet`, with plan, page and crossings and without them, in buffers of the
+/// least sizes; nothing in shorter ones.
 fn same_sheets(job: &[u8], plan: &[u8]) -> bool {
     let least = Lengths {
         answer: BUFFER,
         page: PAGE_BUFFER,
+        crossings: CROSSINGS_BUFFER,
     };
-    let short = Lengths {
+    let alone = Lengths {
+        page: 0,
+        crossings: 0,
+        ..least
+    };
+    let short_page = Lengths {
         page: PAGE_BUFFER - 1,
         ..least
     };
-    let alone = Lengths { page: 0, ..least };
-    let all = PLAN_GIVEN | WANT_PAGE;
+    let short_list = Lengths {
+        crossings: CROSSINGS_BUFFER - 1,
+        ..least
+    };
+    let both = WANT_PAGE | WANT_CROSSINGS;
     let calls = [
         (0, alone),
         (WANT_PAGE, least),
-        (WANT_PAGE, short),
-        (all, least),
+        (WANT_CROSSINGS, least),
+        (WANT_PAGE, short_page),
+        (WANT_CROSSINGS, short_list),
+        (PLAN_GIVEN | both, least),
     ];
     calls.into_iter().all(|(wants, lengths)| {
         let due = outputs(wants, job, plan, lengths);
-        stage_sheet_on_heap(job, plan, wants, lengths) == (due.answer, due.page)
+        stage_sheet_on_heap(job, plan, wants, lengths) == due
     })
 }
 

@@ -2,10 +2,12 @@
 
 use std::process::Command;
 
+use jobs::crossed;
 use jobs::families::{FAMILIES, Family};
-use oracle::outputs::{Outputs, PAGE_BUFFER, PLAN_GIVEN, WANT_PAGE, beside};
+use oracle::crossings::{CROSSINGS_BUFFER, Crossing, MOST};
+use oracle::outputs::{Outputs, PAGE_BUFFER, PLAN_GIVEN, WANT_CROSSINGS, WANT_PAGE, beside};
 use oracle::plan::PLAN_BUFFER;
-use oracle::stage::{BUFFER, answer_from, plan_of};
+use oracle::stage::{BUFFER, answer_and_crossings, plan_of};
 
 use crate::boards;
 use crate::outside::{
@@ -14,17 +16,20 @@ use crate::outside::{
 use crate::sheets::Lent;
 
 /// Pages of stack that are enough for every job: what `stack` has measured, rounded up.
-pub const PAGES: usize = 151;
+pub const PAGES: usize = 158;
 /// More than the stage needs, to measure on.
 const MEASURED_ON: usize = 256;
 const PATTERN: u8 = 0xa5;
 
+/// An answer by the judge, with its crossings.
+type Told = (Vec<u8>, Vec<Crossing>);
+
 /// A job with its answer and its plan by the judge, and the answer from that plan.
 struct Case {
     job: Vec<u8>,
-    answer: Vec<u8>,
+    told: Told,
     plan: Vec<u8>,
-    from_plan: Vec<u8>,
+    from_plan: Told,
 }
 
 fn cases(family: &Family, seed: u64, count: u64) -> Vec<Case> {
@@ -41,28 +46,35 @@ fn cases(family: &Family, seed: u64, count: u64) -> Vec<Case> {
 fn case(job: Vec<u8>) -> Case {
     let plan = plan_of(&job);
     Case {
-        answer: oracle::answer_of(&job),
-        from_plan: answer_from(&job, &plan),
+        told: answer_and_crossings(&job, None),
+        from_plan: answer_and_crossings(&job, Some(&plan)),
         plan,
         job,
     }
 }
 
-/// The jobs of each family, and such whose searches sort the most numbers, by halves of halves.
+/// The jobs of each family, such whose searches sort the most numbers, by halves of halves, and such with
+/// the longest lists of crossings.
 fn all_cases(seed: u64, count: u64) -> impl Iterator<Item = (&'static str, Vec<Case>)> {
     let families = FAMILIES.iter();
     let families = families.map(move |family| (family.name, cases(family, seed, count)));
     let search = boards::set("search", seed).expect("a name of the list");
-    let others = [("search", search.jobs), ("chains", boards::chains().into())];
+    let crossed = (0..6).map(|seed| crossed::exactly(seed, MOST));
+    let others = [
+        ("search", search.jobs),
+        ("chains", boards::chains().into()),
+        ("crossed", crossed.collect()),
+    ];
     let others = others.map(|(name, jobs)| (name, jobs.into_iter().map(case).collect()));
     families.chain(others)
 }
 
-/// Buffers of the answer, the plan and the page.
+/// The buffers that are written to.
 struct Buffers {
     answer: Vec<u8>,
     plan: Vec<u8>,
     page: Vec<u8>,
+    crossings: Vec<u8>,
 }
 
 impl Buffers {
@@ -71,13 +83,14 @@ impl Buffers {
             answer: vec![0; BUFFER],
             plan: vec![0; PLAN_BUFFER],
             page: vec![0; PAGE_BUFFER],
+            crossings: vec![0; CROSSINGS_BUFFER],
         }
     }
 
     /// `stage` on that stack; true where the answer is the judge's.
     fn stage(&mut self, stack: &mut Fenced, case: &Case) -> bool {
         let count = stage_on_stack(stack, &case.job, &mut self.answer);
-        self.answer[..count] == case.answer
+        self.answer[..count] == case.told.0
     }
 
     fn plan(&mut self, stack: &mut Fenced, case: &Case) -> bool {
@@ -87,30 +100,39 @@ impl Buffers {
 
     fn draw(&mut self, stack: &mut Fenced, case: &Case) -> bool {
         let count = stage_draw_on_stack(stack, &case.job, &case.plan, &mut self.answer);
-        self.answer[..count] == case.from_plan
+        self.answer[..count] == case.from_plan.0
     }
 
     /// `stage_sheet` with all that can be wanted.
     fn sheet(&mut self, stack: &mut Fenced, case: &Case) -> bool {
-        self.sheet_with(stack, case, WANT_PAGE, &case.answer)
+        self.sheet_with(stack, case, WANT_PAGE | WANT_CROSSINGS, &case.told)
     }
 
     /// The same from a plan.
     fn sheet_from_plan(&mut self, stack: &mut Fenced, case: &Case) -> bool {
-        self.sheet_with(stack, case, PLAN_GIVEN | WANT_PAGE, &case.from_plan)
+        let wants = PLAN_GIVEN | WANT_PAGE | WANT_CROSSINGS;
+        self.sheet_with(stack, case, wants, &case.from_plan)
     }
 
-    fn sheet_with(&mut self, stack: &mut Fenced, case: &Case, wants: u32, due: &[u8]) -> bool {
+    fn sheet_with(&mut self, stack: &mut Fenced, case: &Case, wants: u32, told: &Told) -> bool {
         let lent = Lent {
             wants,
             job: &case.job,
             plan: &case.plan,
             answer: &mut self.answer,
             page: &mut self.page,
+            crossings: &mut self.crossings,
         };
         let count = stage_sheet_on_stack(stack, lent);
-        let Outputs { answer, page } = beside(wants, &case.job, due.to_vec());
-        self.answer[..count] == answer && self.page.starts_with(&page)
+        let due = beside(wants, &case.job, told.0.clone(), &told.1);
+        let Outputs {
+            answer,
+            page,
+            crossings,
+        } = due;
+        self.answer[..count] == answer
+            && self.page.starts_with(&page)
+            && self.crossings.starts_with(&crossings)
     }
 }
 

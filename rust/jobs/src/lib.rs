@@ -6,6 +6,7 @@ pub mod boards;
 pub mod cases;
 pub mod check;
 pub mod contacts;
+pub mod crossed;
 pub mod damages;
 pub mod draft;
 pub mod families;

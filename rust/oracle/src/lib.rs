@@ -6,6 +6,7 @@
 pub mod answer;
 pub mod calls;
 pub mod clamp;
+pub mod crossings;
 pub mod digest;
 pub mod job;
 pub mod outputs;

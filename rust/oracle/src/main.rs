@@ -5,12 +5,15 @@
 use std::io::{self, BufReader, BufWriter, Read, Write};
 use std::process::ExitCode;
 
-use oracle::outputs;
+use oracle::outputs::{self, Lengths, Outputs};
 
 const USAGE: &str = "oracle job     one job on standard input, its answer on standard output
 oracle plan    one job on standard input, its plan on standard output
 oracle draw PLAN
                one job on standard input, the answer from the plan in that file on standard output
+oracle crossings
+               one job on standard input, the list of its crossings on standard output, or the notice
+               of a refusal
 oracle page    one job on standard input, its bundle page on standard output, or the notice of a refusal
 oracle batch   length-prefixed jobs in, length-prefixed answers out
 oracle calls   length-prefixed call records in, length-prefixed results out
@@ -25,7 +28,8 @@ fn main() -> ExitCode {
         ["draw", plan] => std::fs::read(plan)
             .map_err(text)
             .and_then(|plan| one_job(|job| oracle::stage::answer_from(job, &plan))),
-        ["page"] => one_job(page_or_notice),
+        ["page"] => one_job(|job| wanted(outputs::WANT_PAGE, job, |made| made.page)),
+        ["crossings"] => one_job(|job| wanted(outputs::WANT_CROSSINGS, job, |made| made.crossings)),
         ["batch"] => each_record(|record| Ok(prefixed(oracle::answer_of(record)))),
         ["calls"] => each_record(|record| {
             oracle::calls::call(record)
@@ -56,11 +60,17 @@ fn one_job(make: impl FnOnce(&[u8]) -> Vec<u8>) -> Result<(), String> {
     io::stdout().lock().write_all(&make(&job)).map_err(text)
 }
 
-fn page_or_notice(job: &[u8]) -> Vec<u8> {
-    let outputs = outputs::beside(outputs::WANT_PAGE, job, oracle::answer_of(job));
-    match oracle::number(&outputs.answer) {
-        0 => outputs.page,
-        _ => outputs.answer,
+/// An output that is wanted, or the notice of a refusal.
+fn wanted(wants: u32, job: &[u8], which: fn(Outputs) -> Vec<u8>) -> Vec<u8> {
+    let enough = Lengths {
+        answer: usize::MAX,
+        page: usize::MAX,
+        crossings: usize::MAX,
+    };
+    let made = outputs::outputs(wants, job, &[], enough);
+    match oracle::number(&made.answer) {
+        0 => which(made),
+        _ => made.answer,
     }
 }
 

@@ -2,6 +2,7 @@
 //! bundle (10, 12, 11, 14), normalize_layout, the answer.
 
 use crate::board::Board;
+use crate::crossings::{Crossing, crossings, crossings_by_kinds};
 use crate::patched::harness::{self, Failed, Prepared, normalize};
 use crate::plan::{self, Plan};
 use crate::records::Layout;
@@ -88,6 +89,34 @@ pub fn planned(job: &job::Job) -> Option<Plan> {
 /// then what the sheet meets. The plan's visits left are handed on.
 pub fn answer_from(bytes: &[u8], plan: &[u8]) -> Vec<u8> {
     from_plan(bytes, plan, normalize).unwrap_or_else(answer::notice)
+}
+
+/// The answer, and the crossings of the sheet before its shift (document 02, F-7), none where the job is
+/// refused. A plan may be given.
+pub fn answer_and_crossings(bytes: &[u8], plan: Option<&[u8]>) -> (Vec<u8>, Vec<Crossing>) {
+    with_crossings(bytes, plan, crossings)
+}
+
+/// The crossings by the kinds of request F-6, in whole numbers of any size.
+pub fn kinds_of_crossings(bytes: &[u8], plan: Option<&[u8]>) -> Vec<Crossing> {
+    with_crossings(bytes, plan, crossings_by_kinds).1
+}
+
+fn with_crossings(
+    bytes: &[u8],
+    plan: Option<&[u8]>,
+    of: fn(&Layout) -> Vec<Crossing>,
+) -> (Vec<u8>, Vec<Crossing>) {
+    let mut list = Vec::new();
+    let last = |layout: &mut Layout| {
+        list = of(layout);
+        normalize(layout);
+    };
+    let answer = match plan {
+        None => sheet(bytes, last, |_| {}),
+        Some(plan) => from_plan(bytes, plan, last),
+    };
+    (answer.unwrap_or_else(answer::notice), list)
 }
 
 fn from_plan(bytes: &[u8], plan: &[u8], last: impl FnOnce(&mut Layout)) -> Result<Vec<u8>, u8> {

@@ -1,8 +1,12 @@
 //! Where lines cross without a joint: the thinner one, or the level one of two alike, goes over the
-//! other in an arch, and the other has a gap there.
+//! other in an arch, and the other has a gap there. Where a bundle and a route do so is the stage's list,
+//! if there is one.
+
+use std::collections::HashMap;
 
 use bundle_stage::Point;
 
+use super::scene::Crossed;
 use super::spans::{Span, Way};
 use super::stroke::{Arch, Gap, Piece, Stroke};
 use super::white::{KEPT, WHITE};
@@ -17,9 +21,15 @@ struct Over {
     there: f64,
 }
 
-/// Gives the strokes their arches. With `tunnels` a line of which too little would be left between two
-/// that go over it has one gap there.
-pub fn bridge(strokes: &mut [Stroke], tunnels: bool) {
+/// Gives the strokes their arches, and says how often each bundle and route cross on the page. With
+/// `tunnels` a line of which too little would be left between two that go over it has one gap there. A
+/// bundle and a route that are not `listed` get no arch.
+pub fn bridge(
+    strokes: &mut [Stroke],
+    tunnels: bool,
+    listed: Option<&HashMap<(usize, usize), Crossed>>,
+) -> HashMap<(usize, usize), usize> {
+    let mut found = HashMap::new();
     let pieces = strokes.iter().enumerate();
     let pieces = pieces.flat_map(|(stroke, of)| {
         let pieces = of.pieces().enumerate();
@@ -39,6 +49,18 @@ pub fn bridge(strokes: &mut [Stroke], tunnels: bool) {
             let Some((at, other)) = here.crossing(there) else {
                 continue;
             };
+            // The routes' strokes stand first, in the scene's order.
+            let pair = match (strokes[*a].bundle, strokes[*b].bundle) {
+                (Some(trunk), None) => Some((trunk, *b)),
+                (None, Some(trunk)) => Some((trunk, *a)),
+                _ => None,
+            };
+            if let Some(pair) = pair {
+                *found.entry(pair).or_insert(0) += 1;
+                if listed.is_some_and(|listed| !listed.contains_key(&pair)) {
+                    continue;
+                }
+            }
             let (a, b) = (&strokes[*a], &strokes[*b]);
             let (place, at, reach, under, there) = if goes_over(a, here, b, there) {
                 (i, at, reach(a, b), j, other)
@@ -82,6 +104,7 @@ pub fn bridge(strokes: &mut [Stroke], tunnels: bool) {
             *gaps = merged(gaps);
         }
     }
+    found
 }
 
 /// Gaps in order, those that are too near to each other as one.

@@ -1,21 +1,24 @@
 //! The lines of a scene as they are drawn: routes side by side, and what follows from it at their
 //! ends.
 
+use std::collections::{BTreeSet, HashMap};
+
 use bundle_stage::{Point, Role, Segment};
 
 use super::crossings::bridge;
 use super::field::moved;
 use super::lanes;
 use super::pens::Pens;
-use super::scene::{Port, Route, Scene, Tap, Trunk, corners};
+use super::scene::{Crossed, Port, Route, Scene, Tap, Trunk, corners};
 use super::spans::{Way, room};
 use super::stroke::{NO_END, Piece, Stroke, apart};
 use super::white::{SEEN, WHITE};
 
 /// The routes' strokes, then for each bundle those of its spine and its collector. Taps and
 /// collectors of the scene follow the routes that are drawn side by side; where these are very near
-/// to each other, routes are drawn thinner.
-pub fn strokes(scene: &mut Scene, pens: &mut Pens, tunnels: bool) -> Vec<Stroke> {
+/// to each other, routes are drawn thinner. Where bundles and routes would cross otherwise than the
+/// scene's list has it, words say so.
+pub fn strokes(scene: &mut Scene, pens: &mut Pens, tunnels: bool) -> (Vec<Stroke>, Option<String>) {
     let routes = scene.routes.iter();
     let given = routes
         .map(|route| lanes::corners(&route.points))
@@ -57,8 +60,27 @@ pub fn strokes(scene: &mut Scene, pens: &mut Pens, tunnels: bool) -> Vec<Stroke>
         }
     }
     strokes.extend(of_trunks);
-    bridge(&mut strokes, tunnels);
-    strokes
+    let found = bridge(&mut strokes, tunnels, scene.crossings.as_ref());
+    let miscounted = miscounted(scene, &found);
+    (strokes, miscounted)
+}
+
+/// Where a bundle and a route cross on the page more or less often than on the sheet, in words. Runs of a
+/// route that goes back over itself may be drawn as one or side by side.
+fn miscounted(scene: &Scene, found: &HashMap<(usize, usize), usize>) -> Option<String> {
+    let listed = scene.crossings.as_ref()?;
+    let pairs = listed.keys().chain(found.keys()).collect::<BTreeSet<_>>();
+    pairs.into_iter().find_map(|pair| {
+        let Crossed { runs, places } = listed.get(pair).copied().unwrap_or_default();
+        let drawn = found.get(pair).copied().unwrap_or_default();
+        let (trunk, route) = (scene.trunks[pair.0].id, scene.routes[pair.1].id);
+        (drawn < places || drawn > runs).then(|| {
+            format!(
+                "route {route} would cross bundle {trunk} in {drawn} places, and it does so in \
+                 {places}"
+            )
+        })
+    })
 }
 
 /// Makes trunks and dots smaller where they would touch what is not theirs.

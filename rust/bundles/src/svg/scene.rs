@@ -3,7 +3,7 @@
 use std::collections::HashMap;
 
 use bundle_stage::{
-    Board, Edge, Endpoint, FalseJoint, Id, Node, Point, Role, Segment, Sheet, Side,
+    Board, Crossing, Edge, Endpoint, FalseJoint, Id, Node, Point, Role, Segment, Sheet, Side,
 };
 
 use crate::joints::{name, words};
@@ -16,6 +16,8 @@ pub struct Scene {
     pub routes: Vec<Route>,
     pub trunks: Vec<Trunk>,
     pub marks: Vec<Mark>,
+    /// How often each bundle and route cross, by their places, if that is known.
+    pub crossings: Option<HashMap<(usize, usize), Crossed>>,
     pub names: Names,
     /// How many nodes, ports, routes and bundles have a number that no page can show.
     pub left_out: usize,
@@ -66,6 +68,15 @@ pub struct Tap {
     pub held: bool,
     /// The radius of its dot.
     pub radius: f64,
+}
+
+/// How often a route crosses a bundle.
+#[derive(Clone, Copy, Default)]
+pub struct Crossed {
+    /// Runs that do.
+    pub runs: usize,
+    /// Places where they do: a route may go back over itself.
+    pub places: usize,
 }
 
 /// A false joint.
@@ -146,6 +157,26 @@ impl Scene {
         scene
     }
 
+    /// Takes the stage's list of crossings of bundles and routes: equal places follow each other in it.
+    pub fn list(&mut self, crossings: Option<&[Crossing]>) {
+        self.crossings = crossings.map(|list| {
+            let mut all = HashMap::<_, Crossed>::new();
+            for (turn, one) in list.iter().enumerate() {
+                let trunk = self.trunks.iter().position(|trunk| trunk.id == one.bundle);
+                let route = self.routes.iter().position(|route| route.id == one.edge);
+                // What cannot be shown crosses nothing on the page.
+                let (Some(trunk), Some(route)) = (trunk, route) else {
+                    continue;
+                };
+                let crossed = all.entry((trunk, route)).or_default();
+                crossed.runs += 1;
+                let before = turn.checked_sub(1).map(|before| list[before]);
+                crossed.places += usize::from(before != Some(*one));
+            }
+            all
+        });
+    }
+
     fn of_nodes(board: &Board, nodes: Vec<Node>) -> Scene {
         let count = nodes.len() + board.ports.len();
         let nodes = nodes.into_iter().filter(shown_node).collect::<Vec<_>>();
@@ -175,6 +206,7 @@ impl Scene {
             routes: Vec::new(),
             trunks: Vec::new(),
             marks: Vec::new(),
+            crossings: None,
             names: Names::default(),
         }
     }

@@ -4,7 +4,8 @@
 use std::arch::asm;
 
 use bundle_stage_sys::c;
-use oracle::outputs::{Lengths, WANT_PAGE};
+use oracle::crossings::ENTRY;
+use oracle::outputs::{Lengths, Outputs, WANT_CROSSINGS, WANT_PAGE};
 use oracle::page::LINE;
 
 use super::Fenced;
@@ -48,8 +49,9 @@ pub fn stage_sheet(lent: Lent<'_>) -> usize {
         plan,
         answer,
         page,
+        crossings,
     } = lent;
-    // SAFETY: as in `stage`, of four slices.
+    // SAFETY: as in `stage`, of five slices.
     unsafe {
         c::stage_sheet(
             wants,
@@ -61,6 +63,8 @@ pub fn stage_sheet(lent: Lent<'_>) -> usize {
             answer.len(),
             page.as_mut_ptr(),
             page.len(),
+            crossings.as_mut_ptr(),
+            crossings.len(),
         )
     }
 }
@@ -119,17 +123,14 @@ pub fn stage_draw_on_heap(job: &[u8], plan: &[u8], length: usize) -> Vec<u8> {
     answer
 }
 
-/// The same of `stage_sheet`, with the page if it is wanted; the answer and the page.
-pub fn stage_sheet_on_heap(
-    job: &[u8],
-    plan: &[u8],
-    wants: u32,
-    lengths: Lengths,
-) -> (Vec<u8>, Vec<u8>) {
+/// The same of `stage_sheet`, with what is wanted.
+pub fn stage_sheet_on_heap(job: &[u8], plan: &[u8], wants: u32, lengths: Lengths) -> Outputs {
     let mut answer = Vec::<u8>::with_capacity(lengths.answer);
     let mut page = Vec::<u8>::with_capacity(lengths.page);
-    // SAFETY: as above, of four slices. By the contract the page of an accepted job, if it is wanted,
-    // has a line for each bundle, which the answer counts, and no other byte of it is written.
+    let mut crossings = Vec::<u8>::with_capacity(lengths.crossings);
+    // SAFETY: as above, of five slices. By the contract the page of an accepted job, if it is wanted,
+    // has a line for each bundle, which the answer counts, the list begins with its count, and no other
+    // byte of them is written.
     unsafe {
         let count = c::stage_sheet(
             wants,
@@ -141,6 +142,8 @@ pub fn stage_sheet_on_heap(
             lengths.answer,
             page.as_mut_ptr(),
             lengths.page,
+            crossings.as_mut_ptr(),
+            lengths.crossings,
         );
         assert!(count <= lengths.answer, "{count} bytes of {lengths:?}");
         answer.set_len(count);
@@ -151,8 +154,22 @@ pub fn stage_sheet_on_heap(
             assert!(written <= lengths.page, "{written} bytes of {lengths:?}");
             page.set_len(written);
         }
+        if wants & WANT_CROSSINGS != 0 && answer.len() > 6 {
+            crossings.set_len(2);
+            let count = usize::from(u16::from_be_bytes([crossings[0], crossings[1]]));
+            let written = 2 + ENTRY * count;
+            assert!(
+                written <= lengths.crossings,
+                "{written} bytes of {lengths:?}"
+            );
+            crossings.set_len(written);
+        }
     }
-    (answer, page)
+    Outputs {
+        answer,
+        page,
+        crossings,
+    }
 }
 
 /// The proved stage on a stack of its own, whose top is the end of `stack`.
@@ -245,6 +262,8 @@ pub fn stage_sheet_on_stack(stack: &mut Fenced, lent: Lent<'_>) -> usize {
         lent.answer.len(),
         lent.page.as_ptr().addr(),
         lent.page.len(),
+        lent.crossings.as_ptr().addr(),
+        lent.crossings.len(),
         0,
     ];
     let bytes = stack.bytes();

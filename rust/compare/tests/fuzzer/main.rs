@@ -1,6 +1,7 @@
 //! The fuzzer itself: wrong stages are caught, at a job that fails again by itself, and the proved
 //! one passes. A program of one thread, since the fuzzer forks.
 
+mod lists;
 mod pages;
 mod plans;
 
@@ -12,6 +13,7 @@ use compare::fuzz::{How, Outcome, Settings, run};
 use compare::outside::{PROVED, stage};
 use jobs::numbers::{fields, has_minus_zero};
 
+use lists::WRONG_LISTS;
 use pages::WRONG_SHEETS;
 use plans::{WRONG_DRAWERS, WRONG_PLANNERS};
 
@@ -215,7 +217,7 @@ fn main() {
     for (name, draw, expected) in WRONG_DRAWERS {
         caught(name, Entries { draw, ..PROVED }, expected);
     }
-    for (name, sheet) in WRONG_SHEETS {
+    for (name, sheet) in WRONG_SHEETS.into_iter().chain(WRONG_LISTS) {
         caught(name, Entries { sheet, ..PROVED }, &[How::Differs]);
     }
     let one = run(&settings(), PROVED);

@@ -15,6 +15,7 @@ fn with_page(lent: Lent<'_>, change: fn(&mut [u8])) -> usize {
         plan,
         answer,
         page,
+        crossings,
     } = lent;
     let lines = |answer: &[u8]| usize::from(u16::from_be_bytes([answer[34], answer[35]]));
     let count = stage_sheet(Lent {
@@ -23,6 +24,7 @@ fn with_page(lent: Lent<'_>, change: fn(&mut [u8])) -> usize {
         plan,
         answer,
         page,
+        crossings,
     });
     if accepted(count) && wants & WANT_PAGE != 0 && lines(answer) > 0 {
         change(page);
