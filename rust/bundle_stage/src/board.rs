@@ -1,9 +1,7 @@
 //! The board: what a job says.
 
+use crate::id::Id;
 use crate::wire::{Malformed, Reader, TooMany, Wire, Writer, choice, listed, record};
-
-/// The number by which a node, port, edge or bundle is named.
-pub type Id = u32;
 
 /// The version of the job's and the answer's format.
 pub(crate) const VERSION: u8 = 1;
@@ -77,6 +75,9 @@ impl Visits {
         tap: 2_000_000,
         geometry: 20_000_000,
     };
+
+    /// The names of the two grants, in the job's order.
+    pub const NAMES: [&'static str; 2] = ["tap_visits", "geometry_visits"];
 }
 
 /// The largest grants: [`Visits::MOST`].
@@ -99,6 +100,19 @@ pub struct Node {
     pub width: f64,
     /// From 0 to 2^30.
     pub height: f64,
+}
+
+impl Node {
+    /// Where a port of this node stands: the Rust's port_point.
+    pub fn port_point(&self, port: &Port) -> Point {
+        let (x, y) = match port.side {
+            Side::North => (self.x + port.offset, self.y),
+            Side::East => (self.x + self.width, self.y + port.offset),
+            Side::South => (self.x + port.offset, self.y + self.height),
+            Side::West => (self.x, self.y + port.offset),
+        };
+        Point { x, y }
+    }
 }
 
 /// A port on a side of a node.
@@ -191,13 +205,6 @@ pub struct Member {
     pub lane: u16,
 }
 
-record!(Options {
-    port_stub: "port_stub",
-    route_lane_gap: "route_lane_gap",
-    edge_node_clearance: "edge_node_clearance",
-    minimum_parallel_wire_spacing: "minimum_parallel_wire_spacing",
-    member_endpoint_reserve: "member_endpoint_reserve",
-});
 record!(Visits {
     tap: "tap visits",
     geometry: "geometry visits"
@@ -279,21 +286,30 @@ impl Wire for Flags {
     }
 }
 
-impl Options {
-    /// The five options with their names, in the job's order.
-    pub(crate) fn named(&self) -> [(&'static str, f64); 5] {
-        [
-            ("port_stub", self.port_stub),
-            ("route_lane_gap", self.route_lane_gap),
-            ("edge_node_clearance", self.edge_node_clearance),
-            (
-                "minimum_parallel_wire_spacing",
-                self.minimum_parallel_wire_spacing,
-            ),
-            ("member_endpoint_reserve", self.member_endpoint_reserve),
-        ]
-    }
+/// The options by name, in the job's order.
+macro_rules! options {
+    ($($name:ident),*) => {
+        record!(Options { $($name: stringify!($name)),* });
+
+        impl Options {
+            /// The names of the five options, in the job's order.
+            pub const NAMES: [&'static str; 5] = [$(stringify!($name)),*];
+
+            /// The five options, in the job's order.
+            pub fn values(&self) -> [f64; 5] {
+                [$(self.$name),*]
+            }
+
+            /// The options with these values.
+            pub fn of_values([$($name),*]: [f64; 5]) -> Options {
+                Options { $($name),* }
+            }
+        }
+    };
 }
+
+#[rustfmt::skip]
+options!(port_stub, route_lane_gap, edge_node_clearance, minimum_parallel_wire_spacing, member_endpoint_reserve);
 
 impl Board {
     /// The job's bytes. They fail only where a count is too large for the format; limits of the

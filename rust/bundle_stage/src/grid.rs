@@ -1,6 +1,6 @@
 //! The drafting grid: multiples of 1/64 with magnitude at most 2^20.
 
-use crate::board::{Board, Edge, Node};
+use crate::board::{Board, Edge, Node, Options};
 use crate::place::{Item, Place, place};
 
 const UNIT: f64 = 1.0 / 64.0;
@@ -59,7 +59,8 @@ impl Board {
             let numbers = numbers.into_iter().filter(|number| !is_on_grid(number.1));
             off.extend(numbers.map(|(field, value)| OffGrid { item, field, value }));
         };
-        for (name, number) in self.options.named() {
+        let options = Options::NAMES.into_iter().zip(self.options.values());
+        for (name, number) in options {
             look(Item::Setting { name }, vec![(String::new(), number)]);
         }
         for (node, item) in self.nodes.iter().zip(self.node_items()) {

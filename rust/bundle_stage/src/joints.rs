@@ -4,7 +4,8 @@
 //! points two of them share: nothing is rounded. "In the same place" is document 01's term: the exact
 //! difference, rounded once, which is what a subtraction gives.
 
-use crate::board::{Board, Id, Node, Point};
+use crate::board::{Board, Node, Point};
+use crate::id::Id;
 use crate::sheet::{DrawnBundle, Route, Segment, Sheet};
 
 /// What meets and should not, and where.
@@ -170,11 +171,11 @@ fn with_bundles(earlier: &DrawnBundle, later: &[DrawnBundle]) -> Vec<FalseJoint>
     found
 }
 
-fn parts(bundle: &DrawnBundle) -> [Segment; 2] {
+pub(crate) fn parts(bundle: &DrawnBundle) -> [Segment; 2] {
     [bundle.collector, bundle.spine]
 }
 
-fn segments(route: &Route) -> impl Iterator<Item = Segment> {
+pub(crate) fn segments(route: &Route) -> impl Iterator<Item = Segment> {
     let pairs = route.points.windows(2);
     pairs.map(|pair| Segment {
         start: pair[0],
@@ -206,7 +207,7 @@ impl Run {
 }
 
 /// The Rust's preserved_point_matches.
-fn same_place(a: Point, b: Point) -> bool {
+pub(crate) fn same_place(a: Point, b: Point) -> bool {
     let near = |a: f64, b: f64| (a - b).abs() <= 1e-7;
     near(a.x, b.x) && near(a.y, b.y)
 }
@@ -214,7 +215,7 @@ fn same_place(a: Point, b: Point) -> bool {
 /// A level or upright piece, by the coordinate that stays, and the lowest and highest of the other. A
 /// piece of no length is level.
 #[derive(Clone, Copy, Debug)]
-struct Line {
+pub(crate) struct Line {
     level: bool,
     fixed: f64,
     low: f64,
@@ -223,7 +224,7 @@ struct Line {
 
 impl Line {
     /// None of a slanted one, or of one with a number that is no place.
-    fn of(Segment { start, end }: Segment) -> Option<Line> {
+    pub(crate) fn of(Segment { start, end }: Segment) -> Option<Line> {
         let numbers = [start.x, start.y, end.x, end.y];
         let level = start.y == end.y;
         if !numbers.iter().all(|number| number.is_finite()) || !(level || start.x == end.x) {
@@ -275,7 +276,7 @@ impl Line {
 
     /// The part of it inside a node, whose far sides are the rounded sums of corner and size: lying
     /// along a side does not count (verify_member_route_node_interiors).
-    fn inside(&self, node: &Node) -> Option<Segment> {
+    pub(crate) fn inside(&self, node: &Node) -> Option<Segment> {
         let across = (node.x, node.x + node.width);
         let down = (node.y, node.y + node.height);
         let (beside, along) = if self.level {

@@ -12,11 +12,12 @@
 //! use bundle_stage::*;
 //!
 //! // Two wires lead from a port of node 1 to node 2, to be drawn as one bundle.
-//! let source = Endpoint { node: 1, port: 1 };
+//! let [first, second] = [1, 2].map(Id::from);
+//! let source = Endpoint { node: first, port: first };
 //! let wire = |id, y| Edge {
 //!     id,
 //!     source,
-//!     target: Endpoint { node: 2, port: id },
+//!     target: Endpoint { node: second, port: id },
 //!     points: vec![
 //!         Point { x: 40.0, y: 50.0 },
 //!         Point { x: 60.0, y: 50.0 },
@@ -32,21 +33,21 @@
 //!         ..Options::default()
 //!     },
 //!     nodes: vec![
-//!         Node { id: 1, x: 0.0, y: 30.0, width: 40.0, height: 40.0 },
-//!         Node { id: 2, x: 200.0, y: 0.0, width: 40.0, height: 100.0 },
+//!         Node { id: first, x: 0.0, y: 30.0, width: 40.0, height: 40.0 },
+//!         Node { id: second, x: 200.0, y: 0.0, width: 40.0, height: 100.0 },
 //!     ],
 //!     ports: vec![
-//!         Port { node: 1, id: 1, side: Side::East, offset: 20.0 },
-//!         Port { node: 2, id: 1, side: Side::West, offset: 40.0 },
-//!         Port { node: 2, id: 2, side: Side::West, offset: 60.0 },
+//!         Port { node: first, id: first, side: Side::East, offset: 20.0 },
+//!         Port { node: second, id: first, side: Side::West, offset: 40.0 },
+//!         Port { node: second, id: second, side: Side::West, offset: 60.0 },
 //!     ],
-//!     edges: vec![wire(1, 40.0), wire(2, 60.0)],
+//!     edges: vec![wire(first, 40.0), wire(second, 60.0)],
 //!     bundles: vec![Bundle {
-//!         id: 1,
+//!         id: Id::from(1),
 //!         endpoint: source,
 //!         role: Role::Input,
 //!         width: 2,
-//!         members: vec![Member { edge: 1, lane: 0 }, Member { edge: 2, lane: 1 }],
+//!         members: vec![Member { edge: first, lane: 0 }, Member { edge: second, lane: 1 }],
 //!     }],
 //!     ..Board::default()
 //! };
@@ -70,8 +71,10 @@
 #![forbid(unsafe_code)]
 #![warn(missing_docs)]
 
+mod attempt;
 mod board;
 mod grid;
+mod id;
 mod joints;
 pub mod limits;
 mod locate;
@@ -85,11 +88,12 @@ mod wire;
 
 use bundle_stage_sys::BUFFER;
 
+pub use attempt::Attempt;
 pub use board::{
-    Board, Bundle, Edge, Endpoint, Flags, Id, Member, Node, Options, Point, Port, Role, Side,
-    Visits,
+    Board, Bundle, Edge, Endpoint, Flags, Member, Node, Options, Point, Port, Role, Side, Visits,
 };
 pub use grid::OffGrid;
+pub use id::Id;
 pub use joints::{FalseJoint, Meeting};
 pub use locate::{Forecast, locate};
 pub use outputs::{

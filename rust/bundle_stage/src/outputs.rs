@@ -2,7 +2,8 @@
 
 use bundle_stage_sys::{BUFFER, CROSSINGS, PAGE};
 
-use crate::board::{Board, Id, Point};
+use crate::board::{Board, Point};
+use crate::id::Id;
 use crate::refusal::Refusal;
 use crate::sheet::{Answer, Sheet};
 use crate::wire::{Malformed, Reader, record};
@@ -102,7 +103,8 @@ pub struct Written<'a> {
     /// The bundle page, if it is wanted and nothing was refused: lines of 76 bytes, one for each bundle.
     pub page: Option<&'a [u8]>,
     /// The list of crossings, if it is wanted and nothing was refused: a count in two bytes, then 24 bytes
-    /// for each, by y, then x, then the board's order. It is empty where crossings are forbidden.
+    /// for each, by y, then x, then the board's order. It has no entry where crossings are
+    /// forbidden.
     pub crossings: Option<&'a [u8]>,
 }
 
@@ -163,12 +165,13 @@ impl Board {
     /// ```
     /// use bundle_stage::*;
     ///
-    /// let port = Endpoint { node: 1, port: 1 };
+    /// let id = Id::from(1);
+    /// let port = Endpoint { node: id, port: id };
     /// let board = Board {
     ///     flags: Flags { on_grid: true, ..Flags::default() },
-    ///     nodes: vec![Node { id: 1, x: 0.0, y: 0.0, width: 40.0, height: 40.0 }],
-    ///     ports: vec![Port { node: 1, id: 1, side: Side::East, offset: 20.5 }],
-    ///     bundles: vec![Bundle { id: 7, endpoint: port, role: Role::Input, width: 0, members: vec![] }],
+    ///     nodes: vec![Node { id, x: 0.0, y: 0.0, width: 40.0, height: 40.0 }],
+    ///     ports: vec![Port { node: id, id, side: Side::East, offset: 20.5 }],
+    ///     bundles: vec![Bundle { id: 7.into(), endpoint: port, role: Role::Input, width: 0, members: vec![] }],
     ///     ..Board::default()
     /// };
     /// let drawn = board.draw_with(&Wanted { page: true, ..Wanted::default() })?;

@@ -3,7 +3,7 @@
 use std::error::Error;
 use std::fmt;
 
-use crate::board::Id;
+use crate::id::Id;
 use crate::refusal::Refusal;
 
 /// A record of a job, by its place in its table, from 0, and its id; or a setting by its name.
@@ -136,9 +136,9 @@ impl fmt::Display for Place {
 /// [`locate`](crate::locate) give it.
 ///
 /// The number is the stage's, which is proved. The places are found by this crate: fields and ids by
-/// reading the job again; what a drawing failed at by drawing the job again with records that touch
-/// nothing, and counting the visits that they add. A place is told only where this reading gives the
-/// stage's own number.
+/// reading the job again; what a drawing failed at by drawing the job again, cut to its first bundles,
+/// and with records that touch nothing, whose visits are counted. A place is told only where this
+/// reading gives the stage's own number.
 #[derive(Clone, Debug, Eq, PartialEq)]
 #[non_exhaustive]
 pub struct Refused {

@@ -15,11 +15,12 @@ pub const PLAN_SIZE: usize = PLAN;
 /// ```
 /// use bundle_stage::*;
 ///
-/// let port = Endpoint { node: 1, port: 1 };
+/// let id = Id::from(1);
+/// let port = Endpoint { node: id, port: id };
 /// let board = Board {
-///     nodes: vec![Node { id: 1, x: 0.0, y: 0.0, width: 40.0, height: 40.0 }],
-///     ports: vec![Port { node: 1, id: 1, side: Side::East, offset: 20.0 }],
-///     bundles: vec![Bundle { id: 7, endpoint: port, role: Role::Input, width: 0, members: vec![] }],
+///     nodes: vec![Node { id, x: 0.0, y: 0.0, width: 40.0, height: 40.0 }],
+///     ports: vec![Port { node: id, id, side: Side::East, offset: 20.0 }],
+///     bundles: vec![Bundle { id: 7.into(), endpoint: port, role: Role::Input, width: 0, members: vec![] }],
 ///     ..Board::default()
 /// };
 /// let plan = board.plan()?;

@@ -1,6 +1,7 @@
 //! The sheet: what an answer says.
 
-use crate::board::{Id, Point, Role, VERSION, Visits, version};
+use crate::board::{Point, Role, VERSION, Visits, version};
+use crate::id::Id;
 use crate::refusal::Refusal;
 use crate::wire::{Malformed, Reader, TooMany, Wire, Writer, choice, listed, record};
 

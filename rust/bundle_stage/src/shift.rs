@@ -4,7 +4,8 @@
 //! An answer does not have the sheet before the shift. Known of it are the nodes, and the routes that
 //! are in no bundle: those are the job's.
 
-use crate::board::{Board, Id, Node, Point};
+use crate::board::{Board, Node, Point};
+use crate::id::Id;
 use crate::sheet::Sheet;
 
 /// What is known of the last shift, across (x) and down (y).

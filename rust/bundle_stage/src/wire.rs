@@ -237,7 +237,7 @@ macro_rules! listed {
 
 /// A struct whose fields stand in the bytes in the order given here.
 macro_rules! record {
-    ($name:ident { $($field:ident: $words:literal),* $(,)? }) => {
+    ($name:ident { $($field:ident: $words:expr),* $(,)? }) => {
         impl crate::wire::Wire for $name {
             fn put(&self, to: &mut crate::wire::Writer) -> Result<(), crate::wire::TooMany> {
                 $(crate::wire::Wire::put(&self.$field, to)?;)*

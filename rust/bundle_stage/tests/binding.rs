@@ -36,7 +36,7 @@ fn the_two_wires_are_drawn() {
     assert_eq!(
         sheet.nodes[1],
         PlacedNode {
-            id: 2,
+            id: Id::from(2),
             x: 200.0,
             y: 0.0
         }
@@ -59,7 +59,7 @@ fn the_two_wires_are_drawn() {
     assert_eq!(
         bundle.taps[1],
         Tap {
-            edge: 2,
+            edge: Id::from(2),
             point: at(180.0, 60.0)
         }
     );
@@ -81,19 +81,16 @@ fn odd_board() -> Board {
     };
     for (id, side) in [(7, Side::North), (7, Side::South), (8, Side::West)] {
         odd.ports.push(Port {
-            node: 99,
-            id,
+            node: Id::from(99),
+            id: Id::from(id),
             side,
             offset: 5e-324,
         });
     }
     odd.edges[1].points.clear();
     odd.bundles.push(Bundle {
-        id: 0,
-        endpoint: Endpoint {
-            node: u32::MAX,
-            port: 0,
-        },
+        id: Id::from(0),
+        endpoint: end(u32::MAX, 0),
         role: Role::Output,
         width: u32::MAX,
         members: Vec::new(),
@@ -119,6 +116,23 @@ fn boards_come_back() {
             assert_eq!(format!("{back:?}"), format!("{board:?}"));
         }
     }
+}
+
+#[test]
+fn ids_are_numbers_of_32_bits() {
+    for number in [0, 7, u32::MAX] {
+        let id = Id::from(number);
+        assert_eq!(u64::from(id), u64::from(number));
+        assert_eq!(id.number(), u64::from(number));
+        assert_eq!(id.to_string(), number.to_string());
+        assert_eq!(format!("{id:>10}"), format!("{number:>10}"));
+        assert_eq!(number.to_string().parse(), Ok(id));
+    }
+    for word in ["", "-1", "4294967296", "7a"] {
+        assert!(word.parse::<Id>().is_err(), "{word}");
+    }
+    assert!(Id::from(9) < Id::from(10));
+    assert_eq!(Id::default(), Id::from(0));
 }
 
 #[test]
@@ -149,7 +163,7 @@ fn answers_come_back() {
         height: -0.0,
         nodes: Vec::new(),
         routes: vec![Route {
-            id: 5,
+            id: Id::from(5),
             points: Vec::new(),
         }],
         bundles: Vec::new(),
@@ -244,16 +258,16 @@ fn every_refusal_by_name() {
         let moved = |board: &mut Board| board.nodes[0].x = wrong;
         assert_eq!(changed(moved), Err(Refusal::NumberOutOfRange), "{wrong}");
     }
-    let twice = |board: &mut Board| board.edges[1].id = 1;
+    let twice = |board: &mut Board| board.edges[1].id = Id::from(1);
     assert_eq!(changed(twice), Err(Refusal::DuplicateId));
-    let unknown = |board: &mut Board| board.bundles[0].endpoint.port = 9;
+    let unknown = |board: &mut Board| board.bundles[0].endpoint.port = Id::from(9);
     assert_eq!(changed(unknown), Err(Refusal::UnknownId));
     let short = |board: &mut Board| board.edges[0].points.truncate(1);
     assert_eq!(changed(short), Err(Refusal::TapUnreachable));
     // A wire of another edge across the trunk.
     let foreign = |board: &mut Board| {
         let mut wire = board.edges[0].clone();
-        wire.id = 3;
+        wire.id = Id::from(3);
         wire.points = vec![at(100.0, 0.0), at(100.0, 100.0)];
         board.edges.push(wire);
     };
@@ -290,7 +304,7 @@ fn the_drafting_grid() {
         board.flags.on_grid = true;
         // A wire of its own, far from the bundle.
         let mut wire = board.edges[0].clone();
-        wire.id = 3;
+        wire.id = Id::from(3);
         wire.points = vec![at(value, 500.0)];
         board.edges.push(wire);
         board
@@ -316,7 +330,10 @@ fn the_drafting_grid() {
             panic!("{:?}", board.off_grid());
         };
         assert_eq!(found.what(), "the x of point 1 of edge 3");
-        let edge = Item::Edge { place: 2, id: 3 };
+        let edge = Item::Edge {
+            place: 2,
+            id: Id::from(3),
+        };
         assert_eq!((found.item, found.value), (edge, off));
         let beside = found.nearest().expect("no NaN");
         assert_eq!(beside.map(f64::to_bits), nearest.map(f64::to_bits), "{off}");
@@ -354,7 +371,7 @@ fn minus_zero_is_taken_as_plus_zero() {
         board.nodes[1].y = zero;
         board.nodes.push(node(3, -80.0, -80.0, zero, zero));
         let mut wire = board.edges[0].clone();
-        wire.id = 3;
+        wire.id = Id::from(3);
         wire.points = vec![at(zero, zero), at(100.0, zero)];
         board.edges.push(wire);
         board

@@ -7,7 +7,7 @@ use std::fs;
 use bundle_stage::*;
 
 mod common;
-use common::{at, board as two_wires, node};
+use common::{at, board as two_wires, end, node};
 
 fn file(name: &str) -> Vec<u8> {
     fs::read(format!("{}/{name}", env!("CARGO_MANIFEST_DIR"))).expect("a file of the repository")
@@ -27,11 +27,11 @@ fn from(start: Point, end: Point) -> Segment {
 /// y = 50 from x = 40; wire 3 below them, in no bundle; and a node that no wire reaches.
 fn board() -> Board {
     let mut board = two_wires();
-    let target = Endpoint { node: 2, port: 3 };
+    let target = end(2, 3);
     let points = vec![at(0.0, 120.0), at(200.0, 120.0)];
     let source = board.edges[0].source;
     board.edges.push(Edge {
-        id: 3,
+        id: Id::from(3),
         source,
         target,
         points,
@@ -65,8 +65,8 @@ fn a_gap_that_the_shift_closes() {
     let tap = sheet.bundles[0].taps[0].point;
     assert_eq!(tap.x, 2_f64.powi(30) + 18.0);
     let meeting = Meeting::Route {
-        route: 7,
-        bundle: 1,
+        route: Id::from(7),
+        bundle: Id::from(1),
     };
     // The collector is the tap alone, and so is the end of the spine: it is said once.
     let due = joint(meeting, tap, tap);
@@ -85,8 +85,8 @@ fn a_gap_that_the_shift_closes() {
 fn a_gap_that_closes_among_thirds() {
     let (board, sheet) = job("tests/data/gap-closed-among-thirds.job");
     let meeting = Meeting::Route {
-        route: 1,
-        bundle: 1,
+        route: Id::from(1),
+        bundle: Id::from(1),
     };
     let Segment { start, end } = sheet.bundles[0].spine;
     let (collector, spine) = (joint(meeting, end, end), joint(meeting, start, end));
@@ -99,7 +99,10 @@ fn a_gap_that_closes_among_thirds() {
 #[test]
 fn a_far_side_that_the_shift_moves() {
     let (board, sheet) = job("tests/data/far-side-by-the-shift.job");
-    let meeting = Meeting::Node { route: 6, node: 2 };
+    let meeting = Meeting::Node {
+        route: Id::from(6),
+        node: Id::from(2),
+    };
     let x = 2_f64.powi(28);
     let due = joint(meeting, at(x, 50.0), at(x, 150.0));
     assert_eq!(sheet.false_joints(&board), Some(vec![due]));
@@ -209,8 +212,8 @@ fn as_drawn_there_is_none() {
 #[test]
 fn a_route_on_a_bundle() {
     let meeting = Meeting::Route {
-        route: 3,
-        bundle: 1,
+        route: Id::from(3),
+        bundle: Id::from(1),
     };
     // Through the collector, along it, along the spine, ending on it.
     let moved =
@@ -243,8 +246,8 @@ fn a_route_on_a_bundle() {
 #[test]
 fn a_member_beside_its_tap() {
     let meeting = Meeting::Route {
-        route: 1,
-        bundle: 1,
+        route: Id::from(1),
+        bundle: Id::from(1),
     };
     let started = |x: f64, y: f64| {
         joints(|sheet| {
@@ -265,20 +268,20 @@ fn a_member_beside_its_tap() {
     let along = joints(|sheet| sheet.routes[0].points = vec![tap, down]);
     assert_eq!(along, [joint(meeting, tap, down)]);
     // Nothing is listed with this route.
-    let unlisted = joints(|sheet| sheet.bundles[0].taps[0].edge = 9);
+    let unlisted = joints(|sheet| sheet.bundles[0].taps[0].edge = Id::from(9));
     assert_eq!(unlisted, [joint(meeting, tap, tap)]);
 }
 
 #[test]
 fn two_bundles() {
     let meeting = Meeting::Bundles {
-        earlier: 1,
-        later: 2,
+        earlier: Id::from(1),
+        later: Id::from(2),
     };
     let with = |collector: Segment, spine: Segment| {
         joints(|sheet| {
             sheet.bundles.push(DrawnBundle {
-                id: 2,
+                id: Id::from(2),
                 interior: false,
                 collector,
                 spine,
@@ -308,7 +311,7 @@ fn two_bundles_of_no_length() {
     board.edges.clear();
     board.bundles[0].members.clear();
     board.bundles.push(Bundle {
-        id: 2,
+        id: Id::from(2),
         ..board.bundles[0].clone()
     });
     let sheet = board.draw().expect("accepted");
@@ -318,7 +321,10 @@ fn two_bundles_of_no_length() {
 
 #[test]
 fn a_member_in_a_node() {
-    let meeting = Meeting::Node { route: 1, node: 3 };
+    let meeting = Meeting::Node {
+        route: Id::from(1),
+        node: Id::from(3),
+    };
     let moved = |x: f64, y: f64| joints(|sheet| (sheet.nodes[2].x, sheet.nodes[2].y) = (x, y));
     assert_eq!(
         moved(185.0, 35.0),
@@ -336,7 +342,7 @@ fn a_member_in_a_node() {
 #[test]
 fn slanted_ones_and_numbers_that_are_no_places() {
     let (a, b) = (at(0.0, 120.0), at(200.0, 121.0));
-    let route = Meeting::SlantedRoute { route: 3 };
+    let route = Meeting::SlantedRoute { route: Id::from(3) };
     let slanted = joints(|sheet| sheet.routes[2].points = vec![a, b]);
     assert_eq!(slanted, [joint(route, a, b)]);
     for number in [f64::NAN, f64::INFINITY] {
@@ -347,5 +353,10 @@ fn slanted_ones_and_numbers_that_are_no_places() {
         assert_eq!(found[0].meeting, route);
     }
     let found = joints(|sheet| sheet.bundles[0].spine.end.y = 51.0);
-    assert_eq!(found[0].meeting, Meeting::SlantedBundle { bundle: 1 });
+    assert_eq!(
+        found[0].meeting,
+        Meeting::SlantedBundle {
+            bundle: Id::from(1)
+        }
+    );
 }

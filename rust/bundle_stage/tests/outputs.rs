@@ -62,7 +62,7 @@ fn planned_and_drawn_later() {
     };
     assert_ne!(split_board().draw_from(&rails), Err(Refusal::NoRoomToSplit));
     let mut wrong = board.clone();
-    wrong.edges[1].id = 1;
+    wrong.edges[1].id = Id::from(1);
     assert_eq!(wrong.plan(), Err(Refusal::DuplicateId));
     assert_eq!(wrong.draw_from(&visits), Err(Refusal::DuplicateId));
     // On the grid: minus zero and odd 256ths are none of its numbers.
@@ -89,7 +89,7 @@ fn crossed(places: impl IntoIterator<Item = f64>) -> Board {
     board.flags.permit_crossings = true;
     for (id, x) in (3..).zip(places) {
         let mut wire = board.edges[0].clone();
-        wire.id = id;
+        wire.id = Id::from(id);
         wire.points = vec![at(x, -10.0), at(x, 110.0)];
         board.edges.push(wire);
     }
@@ -109,10 +109,10 @@ fn the_list_of_crossings() {
     assert_eq!(Ok(drawn.sheet.clone()), board.draw());
     // Before the last shift, which moves all down by 10.
     assert_eq!(drawn.sheet.bundles[0].spine.start.y, 60.0);
-    let crossing = |x: f64, edge: Id| Crossing {
+    let crossing = |x: f64, edge: u32| Crossing {
         point: at(x, 50.0),
-        bundle: 1,
-        edge,
+        bundle: Id::from(1),
+        edge: Id::from(edge),
     };
     let due = [crossing(100.0, 4), crossing(150.0, 3), crossing(150.0, 5)];
     assert_eq!(drawn.crossings.as_deref(), Some(&due[..]));

@@ -1,7 +1,8 @@
 //! An answer in words.
 
 use bundle_stage::{
-    Answer, Board, Bundle, Crossing, DrawnBundle, Endpoint, Forecast, Plan, Refused, Role, Sheet,
+    Answer, Board, Bundle, Crossing, DrawnBundle, Endpoint, Forecast, Id, Plan, Refused, Role,
+    Sheet,
 };
 
 use crate::joints::Joints;
@@ -27,7 +28,7 @@ pub fn explain_crossings(list: &[Crossing], names: &Names) -> String {
     if list.is_empty() {
         return text;
     }
-    let named = |id: u32, name: Option<&str>| match name {
+    let named = |id: Id, name: Option<&str>| match name {
         Some(name) => format!("{id} {name}"),
         None => id.to_string(),
     };

@@ -113,21 +113,29 @@ is so on none, there is no picture, but words that say what would mislead, and t
 
 Nodes are boxes with their ids, ports are squares, routes are thin lines and bundles heavy ones, each
 with a colour and a mark of its own. A dot is a joint: a tap on its collector. Where lines cross
-without a joint, the one goes over the other in an arch; where a bundle and a route do so, that is the list
-of `bundles crossings`, each with its arch. Routes that lie over each other, or very near,
+without a joint, the one goes over the other in an arch; arches that run into each other are joined, and
+one that has no room to rise is a gap. Where a bundle and a route do so, that is the list of `bundles
+crossings`: each crossing of it is shown by an arch or a gap, counted for each bundle and route. A sheet
+drawn from a given plan is not the stage's own answer to the job, and one with more than 1,024 crossings
+has no list: there the tool itself finds where they cross. Routes that lie over each other, or very near,
 are drawn side by side; a route in two bundles changes its colour half way. The legend has each
-bundle's id, from which ports to which it leads, its role, place and width. Below it stands what `bundles explain` says of the joints
-and of the last shift; a false joint has a ring around it, and its words stand below the title.
+bundle's id, from which ports to which it leads, its role, place and width. Below it stands what `bundles
+explain` says of the joints and of the last shift; a false joint has a ring around it, and its words stand
+below the title.
 
 Lines and letters have their sizes in millimetres of the page; no letter is smaller than 1.8. Where
 lines would be too near to each other, the sheet is stretched across or down, and the last line of the
-page says how much. An id for which there is no room is left out, and the last line counts those; in a
-browser a line or a box under the pointer says its id.
+page says how much, or that it is not to scale. An id for which there is no room is left out, and the last line counts those. Names
+stand on the sheet where there is room beside the ids without covering a line: a node's below its id or
+beside its box, else in the legend; a bundle's with its id; those of ports and edges that have no room are
+counted. In a browser a line or a box under the pointer says its id and its name.
 
 Without a TITLE the title is the job's name without its end.
 
 For a refusal the picture has the board as it was given, in grey, if the job is whole, and the refusal
-in words.",
+in words with what it is about. Where the drawing refused it (10, 11, 12), the bundle that was refused
+lies over it as it was tried, dashed: its spine and collector, its taps, where its members would be led,
+and a ring where it was refused. None of that is a sheet.",
     },
     Command {
         name: "html",
@@ -196,7 +204,8 @@ const FILES: &str = "\
 Where a file is left out, or named `-`, standard input is read.
 
 Exit codes: 0, done. 1, the job was refused; the answer, its explanation or its picture is written
-all the same. 2, bad usage, or a file that cannot be read or written or is not what it should be.";
+all the same, a bundle page or a list of crossings is not. 2, bad usage, or a file that cannot be read
+or written or is not what it should be.";
 
 /// All commands.
 pub fn all() -> String {

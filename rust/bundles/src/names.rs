@@ -3,7 +3,7 @@
 
 use std::collections::BTreeMap;
 
-use bundle_stage::{Endpoint, Item};
+use bundle_stage::{Endpoint, Id, Item};
 
 use crate::text::{Wrong, utf8};
 use crate::tokens::{quote, split, unquote};
@@ -11,42 +11,42 @@ use crate::tokens::{quote, split, unquote};
 /// Names by id, where they are given.
 #[derive(Clone, Debug, Default, Eq, PartialEq)]
 pub struct Names {
-    nodes: BTreeMap<u32, String>,
-    ports: BTreeMap<(u32, u32), String>,
-    edges: BTreeMap<u32, String>,
-    bundles: BTreeMap<u32, String>,
+    nodes: BTreeMap<Id, String>,
+    ports: BTreeMap<(Id, Id), String>,
+    edges: BTreeMap<Id, String>,
+    bundles: BTreeMap<Id, String>,
 }
 
 impl Names {
-    pub fn node(&self, id: u32) -> Option<&str> {
+    pub fn node(&self, id: Id) -> Option<&str> {
         self.nodes.get(&id).map(String::as_str)
     }
 
-    pub fn port(&self, node: u32, id: u32) -> Option<&str> {
+    pub fn port(&self, node: Id, id: Id) -> Option<&str> {
         self.ports.get(&(node, id)).map(String::as_str)
     }
 
-    pub fn edge(&self, id: u32) -> Option<&str> {
+    pub fn edge(&self, id: Id) -> Option<&str> {
         self.edges.get(&id).map(String::as_str)
     }
 
-    pub fn bundle(&self, id: u32) -> Option<&str> {
+    pub fn bundle(&self, id: Id) -> Option<&str> {
         self.bundles.get(&id).map(String::as_str)
     }
 
-    pub fn set_node(&mut self, id: u32, name: &str) {
+    pub fn set_node(&mut self, id: Id, name: &str) {
         self.nodes.insert(id, name.to_string());
     }
 
-    pub fn set_port(&mut self, node: u32, id: u32, name: &str) {
+    pub fn set_port(&mut self, node: Id, id: Id, name: &str) {
         self.ports.insert((node, id), name.to_string());
     }
 
-    pub fn set_edge(&mut self, id: u32, name: &str) {
+    pub fn set_edge(&mut self, id: Id, name: &str) {
         self.edges.insert(id, name.to_string());
     }
 
-    pub fn set_bundle(&mut self, id: u32, name: &str) {
+    pub fn set_bundle(&mut self, id: Id, name: &str) {
         self.bundles.insert(id, name.to_string());
     }
 

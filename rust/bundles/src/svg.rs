@@ -18,14 +18,18 @@ mod pens;
 mod scene;
 mod shapes;
 mod spans;
+mod stretch;
 mod stroke;
+mod tried;
 mod walk;
 mod white;
+mod wishes;
 mod xml;
 
-use std::fmt;
+use std::collections::BTreeSet;
+use std::{fmt, iter};
 
-use bundle_stage::{Board, Point, Refusal, Sheet};
+use bundle_stage::{Board, Id, Place, Point, Refusal, Refused, Sheet, locate};
 
 use crate::explain::counted;
 use crate::joints::{Joints, name, words};
@@ -34,14 +38,17 @@ use crate::text::number;
 pub(crate) use xml::escaped;
 
 use drawn::strokes;
-use labels::labels;
+use labels::{Labels, labels};
 use legend::{Head, Legend};
-use page::{MARGIN, PAPERS, Page};
+use page::{A0, LARGEST, MARGIN, PAPERS, Page};
 use palette::{BLACK, GREY};
 use pens::Pens;
 use scene::Scene;
 use shapes::{lines, marks, nodes, ports};
+use spans::Way;
+use stretch::{Needs, is_straight};
 use stroke::Stroke;
+use tried::Tried;
 use white::unclear;
 use xml::mm;
 
@@ -68,8 +75,9 @@ impl fmt::Display for Unclear {
 
 impl std::error::Error for Unclear {}
 
-/// The finished sheet. `board` is the one that it is the answer to. An arch of a bundle and a route is a
-/// crossing of the stage's list, and each crossing of the list has its arch.
+/// The finished sheet. `board` is the one that it is the answer to. Where it is the
+/// stage's own and has a list of crossings, an arch or a gap of a bundle and a route is a crossing of the
+/// list, and each crossing of the list is shown by an arch or a gap, counted for each bundle and route.
 ///
 /// # Errors
 ///
@@ -104,7 +112,8 @@ pub fn svg(board: &Board, sheet: &Sheet, names: &Names, title: &str) -> Result<S
     picture(scene, &head, BLACK, Some(joints.line()))
 }
 
-/// No more false joints are named below the title. The line below the legend counts all.
+/// No more false joints, or places of a refusal, are named below the title. The line below the legend
+/// counts all false joints.
 const MOST_NAMED: usize = 6;
 
 fn warnings(joints: &Joints) -> Vec<String> {
@@ -114,19 +123,31 @@ fn warnings(joints: &Joints) -> Vec<String> {
 }
 
 fn capital(line: String) -> String {
-    line[..1].to_uppercase() + &line[1..]
+    let mut letters = line.chars();
+    let first = letters.next().map(char::to_uppercase);
+    first.into_iter().flatten().chain(letters).collect()
 }
 
-/// The board alone, in grey, with the words of its refusal. Routes that cannot be drawn apart are left
-/// out.
+/// The board alone, in grey, with the words of its refusal, and over it the bundle that was refused, if
+/// it was by the drawing: dashed, as it was tried. Routes that cannot be drawn apart are left out.
 pub fn svg_refused(board: &Board, refusal: Refusal, names: &Names, title: &str) -> String {
+    let mut scene = Scene::of_board(board);
+    scene.names = names.clone();
+    let mut warnings = vec![format!("No sheet: {refusal}")];
+    // The board may not be the one that was refused so: then nothing is known of it.
+    let job = board.to_bytes().ok();
+    let refused = job.and_then(|job| locate(&job));
+    if let Some(refused) = refused.filter(|refused| refused.refusal == refusal) {
+        warnings.extend(here(&refused, names));
+        scene.tried = board
+            .attempt()
+            .and_then(|attempt| Tried::of(board, &attempt));
+    }
     let mut head = Head {
         title: title.to_string(),
         about: None,
-        warnings: vec![refusal.to_string()],
+        warnings,
     };
-    let mut scene = Scene::of_board(board);
-    scene.names = names.clone();
     if scene.lines().len() <= MOST_LINES
         && let Ok(svg) = picture(scene.clone(), &head, GREY, None)
     {
@@ -139,27 +160,54 @@ pub fn svg_refused(board: &Board, refusal: Refusal, names: &Names, title: &str) 
     picture(scene, &head, GREY, None).unwrap_or_default()
 }
 
+/// What a refusal is about, in words.
+fn here(refused: &Refused, names: &Names) -> Vec<String> {
+    let words = |place: &Place| place.words(|item| names.item(item));
+    let all = refused.places.len();
+    let named = refused.places.iter().take(MOST_NAMED);
+    let mut here = named
+        .map(|place| capital(format!("{}.", words(place))))
+        .collect::<Vec<_>>();
+    if all > MOST_NAMED {
+        here.push(format!("And {} more.", all - MOST_NAMED));
+    }
+    here
+}
+
 /// On the smallest paper on which all that does not join is drawn apart. `ink` is for what has no
 /// colour of its own; `said` stands below the legend.
 fn picture(scene: Scene, head: &Head, ink: &str, said: Option<String>) -> Result<String, Unclear> {
-    let legend = Legend::of(&scene, said);
+    // Names for which there is no room stand in the legend, which then takes room itself.
+    let mut named = BTreeSet::new();
+    loop {
+        let legend = Legend::of(&scene, &named, said.clone());
+        let (svg, without) = with_legend(&scene, head, &legend, ink)?;
+        let before = named.len();
+        named.extend(without);
+        if named.len() == before {
+            return Ok(svg);
+        }
+    }
+}
+
+/// The same with this legend, and the nodes whose names have no room on the sheet.
+fn with_legend(
+    scene: &Scene,
+    head: &Head,
+    legend: &Legend,
+    ink: &str,
+) -> Result<(String, Vec<Id>), Unclear> {
     let mut what = String::new();
-    for paper in 0..PAPERS.len() {
-        let page = Page::of(
-            &scene,
-            paper,
-            |width| head.height(width),
-            |width| legend.height(width),
-        );
+    for (page, tunnels) in pages(scene, head, legend) {
         let mut scene = scene.clone().moved(|point| page.at(point));
         let mut pens = Pens::of(&scene);
-        let (strokes, miscounted) = strokes(&mut scene, &mut pens, paper >= TUNNELS);
+        let (strokes, miscounted) = strokes(&mut scene, &mut pens, tunnels);
         match miscounted.or_else(|| unclear(&scene, &strokes, &pens)) {
             None => {
                 return Ok(page_of(
                     &scene,
                     (&strokes, &pens),
-                    (head, &legend),
+                    (head, legend),
                     &page,
                     ink,
                 ));
@@ -170,8 +218,28 @@ fn picture(scene: Scene, head: &Head, ink: &str, said: Option<String>) -> Result
     Err(Unclear { what })
 }
 
-/// From this paper on, which is A0, a line may go under several others in one gap.
-const TUNNELS: usize = 4;
+/// How many times the room that lines need is tried: an arch may take more.
+const WIDE: [f64; 4] = [1.0, 1.15, 1.35, 1.6];
+
+/// The pages that are tried, in order: to scale up to A0, then stretched up to 4A0; then, to scale on
+/// larger ones, those on which a line may go under several others in one gap, of 4 mm at most.
+fn pages(scene: &Scene, head: &Head, legend: &Legend) -> impl Iterator<Item = (Page, bool)> {
+    let above = |width: f64| head.height(width);
+    let below = |width: f64| legend.height(width);
+    let to_scale = move |paper: usize| Page::of(scene, paper, above, below);
+    let ways = [Way::Upright, Way::Level];
+    // Worked out where the first pages do not do.
+    let needs = iter::once_with(move || ways.map(|way| Needs::of(scene, way)));
+    let needs = needs.filter(|_| is_straight(scene));
+    let stretched = needs.flat_map(move |needs| {
+        let papers = (0..=LARGEST).flat_map(|paper| WIDE.map(|wide| (paper, wide)));
+        papers.filter_map(move |(paper, wide)| Page::stretched(&needs, wide, paper, above, below))
+    });
+    let first = (0..=A0).map(to_scale).chain(stretched);
+    let tunnels = (A0..PAPERS.len()).map(to_scale);
+    let first = first.map(|page| (page, false));
+    first.chain(tunnels.map(|page| (page, true)))
+}
 
 /// All of a page.
 fn page_of(
@@ -180,7 +248,7 @@ fn page_of(
     (head, legend): (&Head, &Legend),
     page: &Page,
     ink: &str,
-) -> String {
+) -> (String, Vec<Id>) {
     let corner = |x: f64, y: f64| Point { x, y };
     let frame = (
         corner(MARGIN / 2.0, page.top - 6.0),
@@ -197,9 +265,12 @@ fn page_of(
     svg.push_str(&labels.svg);
     svg.push_str("</g>\n");
     svg.push_str(&marks(scene, page.width));
-    let note = note(scene, &labels.left_out, page);
+    if let Some(tried) = &scene.tried {
+        svg.push_str(&tried.draw(&scene.names, page.width - MARGIN / 2.0));
+    }
+    let note = note(scene, &labels, page);
     svg.push_str(&legend.draw(corner(MARGIN, page.bottom), inner, &note));
-    svg + "</svg>\n"
+    (svg + "</svg>\n", labels.nodes)
 }
 
 /// The start of the file, up to the white of the page.
@@ -214,16 +285,24 @@ fn opened(page: &Page, title: &str) -> String {
     )
 }
 
+/// The order of all places is kept, and no length.
+const NOT_TO_SCALE: &str =
+    "Not to scale: the sheet is stretched where lines are near to each other.";
+
 /// The last line of the page.
-fn note(scene: &Scene, left_out: &[String], page: &Page) -> String {
+fn note(scene: &Scene, labels: &Labels, page: &Page) -> String {
     let [across, down] = page.scale.map(|scale| number_of(1.0 / scale));
-    let mut note = if across == down {
+    let mut note = if !page.is_to_scale() {
+        NOT_TO_SCALE.to_string()
+    } else if across == down {
         format!("1 mm is {across} of the sheet.")
     } else {
         format!("1 mm is {across} of the sheet across, {down} down.")
     };
-    if !left_out.is_empty() {
-        note.push_str(&format!(" No room for the ids of {}.", left_out.join(", ")));
+    for (what, of) in [("ids", &labels.left_out), ("names", &labels.unnamed)] {
+        if !of.is_empty() {
+            note.push_str(&format!(" No room for the {what} of {}.", of.join(", ")));
+        }
     }
     if scene.left_out > 0 {
         let count = counted(scene.left_out, "part");

@@ -34,14 +34,8 @@ impl fmt::Display for Wrong {
 impl Error for Wrong {}
 
 // The settings, in the job's order.
-const OPTIONS: [&str; 5] = [
-    "port_stub",
-    "route_lane_gap",
-    "edge_node_clearance",
-    "minimum_parallel_wire_spacing",
-    "member_endpoint_reserve",
-];
-const GRANTS: [&str; 2] = ["tap_visits", "geometry_visits"];
+const OPTIONS: [&str; 5] = Options::NAMES;
+const GRANTS: [&str; 2] = Visits::NAMES;
 const FLAGS: [&str; 3] = ["separate_collectors", "permit_crossings", "grid"];
 
 const SIDES: [(&str, Side); 4] = [
@@ -113,13 +107,7 @@ pub fn read_all(text: &[u8]) -> Result<Text, Wrong> {
         });
     }
     let options = settings.options.map(Option::unwrap_or_default);
-    board.options = Options {
-        port_stub: options[0],
-        route_lane_gap: options[1],
-        edge_node_clearance: options[2],
-        minimum_parallel_wire_spacing: options[3],
-        member_endpoint_reserve: options[4],
-    };
+    board.options = Options::of_values(options);
     board.grants = Visits {
         tap: settings.grants[0].unwrap_or(Visits::MOST.tap),
         geometry: settings.grants[1].unwrap_or(Visits::MOST.geometry),
@@ -305,7 +293,7 @@ impl<'a> Words<'a> {
         self.word(&format!("`{key}`"), |word| (word == key).then_some(()))
     }
 
-    fn whole(&mut self, what: &str) -> Result<u32, String> {
+    fn whole<T: FromStr>(&mut self, what: &str) -> Result<T, String> {
         self.word(what, whole)
     }
 

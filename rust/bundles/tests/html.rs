@@ -201,17 +201,12 @@ fn a_refused_board() {
     }
 }
 
-/// The largest job that is stored cannot be drawn clearly: the page says so.
 #[test]
 fn the_stored_largest_board() {
     let bytes = file("stored/largest.bin");
     let (length, rest) = bytes.split_first_chunk().expect("a record");
     let job = &rest[..u32::from_be_bytes(*length) as usize];
-    let board = Board::from_bytes(job).expect("a board");
-    let sheet = board.draw().expect("a sheet");
-    let page = html(&board, &sheet, &Names::default(), "largest");
-    assert!(page.contains("no picture, as it would mislead: "));
-    assert!(!page.contains("<svg"));
+    followed("stored-largest", &Board::from_bytes(job).expect("a board"));
 }
 
 /// Those of the largest jobs in the folder that PICTURE_JOBS names whose picture is clear.
@@ -244,8 +239,8 @@ fn names_and_words() {
     let board = example("clock-board");
     let sheet = board.draw().expect("a sheet");
     let mut names = Names::default();
-    names.set_node(5, "time </script> & \"unit\"");
-    names.set_bundle(4, "time code");
+    names.set_node(Id::from(5), "time </script> & \"unit\"");
+    names.set_bundle(Id::from(4), "time code");
     let page = html(&board, &sheet, &names, "a < b");
     assert!(page.contains("<title>a &lt; b</title>"));
     assert_eq!(

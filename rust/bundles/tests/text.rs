@@ -4,7 +4,7 @@
 
 use std::fs;
 
-use bundle_stage::{Board, Flags, Visits};
+use bundle_stage::{Board, Flags, Id, Visits};
 use bundles::names::Names;
 use bundles::text::{number, read, read_all, write, write_named};
 
@@ -199,10 +199,10 @@ fn too_many_records_name_the_line() {
 fn names_come_back() {
     let mut names = Names::default();
     assert!(names.is_empty());
-    names.set_node(5, "timestamp \"unit\" # 1");
-    names.set_port(5, 11, "time \\ code");
-    names.set_edge(3, "Zeit über alles, 時");
-    names.set_bundle(4, "");
+    names.set_node(Id::from(5), "timestamp \"unit\" # 1");
+    names.set_port(Id::from(5), Id::from(11), "time \\ code");
+    names.set_edge(Id::from(3), "Zeit über alles, 時");
+    names.set_bundle(Id::from(4), "");
     let text = format!(
         "{SETTINGS}node 5 at 0,0 size 1,1\nport 5:11 east 0\nport 5:12 east 1\n\
          edge 3 from 5:11 to 5:11\nedge 4 from 5:11 to 5:11\nbundle 4 at 5:11 input width 0\n"

@@ -209,8 +209,8 @@ pub fn lone_without_x(shown: &Shown) -> bool {
 }
 
 /// Prints how many of each number every family gives, and what else the jobs show. False where a
-/// number from 1 to 15 but 2 is not reached, less than a third of the jobs is accepted, or no
-/// accepted job has a minus zero in some kind of field.
+/// number that `stage` tells, 1 to 15, but 2 is not reached, less than a third of the jobs is
+/// accepted, or no accepted job has a minus zero in some kind of field.
 pub fn distribution(seed: u64, percent: u64) -> bool {
     let mut all = Tally::default();
     let mut lines = Vec::new();

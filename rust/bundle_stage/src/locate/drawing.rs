@@ -1,4 +1,4 @@
-//! The bundle, the edge and the node at which a drawing is refused (10, 11, 12).
+//! The edge and the node at which a drawing is refused (10, 11, 12); the bundle is found in turn.rs.
 //!
 //! The stage says a number only. But it pays a geometry visit for each test, in an order that its
 //! contract fixes (`interior-tests` and `contact-tests`, crates/drawing/specs/Check.antt), and it can
@@ -8,10 +8,13 @@
 //! route in no bundle is tested twice at each bundle's turn, with the collector and with the spine; a
 //! node once with each run of a member's route.
 
-use crate::board::{Board, Edge, Endpoint, Id, Node, Point, Visits};
+use crate::board::{Board, Edge, Endpoint, Node, Point, Visits};
+use crate::id::Id;
 use crate::limits;
 use crate::place::{Item, Place, place};
 use crate::refusal::Refusal;
+
+use super::turn;
 
 /// Where the added records stand.
 const FAR: f64 = limits::COORDINATE;
@@ -30,20 +33,48 @@ fn is_far_away(board: &Board) -> bool {
 }
 
 pub(super) fn places(board: &Board, refusal: Refusal) -> Vec<Place> {
-    if !is_far_away(board) {
+    let Some(turn) = turn::refused_turn(board) else {
         return Vec::new();
+    };
+    if refusal == Refusal::TapUnreachable {
+        return not_led(board, turn);
+    }
+    let told = looked_at(board, refusal, turn);
+    vec![told.unwrap_or_else(|| roughly(board, refusal, turn))]
+}
+
+/// What the tests had come to. None where a board is at its limits, so that no record can be added, or
+/// has something near to where they stand.
+fn looked_at(board: &Board, refusal: Refusal, turn: usize) -> Option<Place> {
+    if !is_far_away(board) {
+        return None;
     }
     // A grant that is not too small for the records that are added. It changes nothing else.
     let mut board = board.clone();
     board.grants.geometry = Visits::MOST.geometry;
     // The flag refuses numbers and changes no sheet; the added records are off the grid.
     board.flags.on_grid = false;
-    let told = Told::of(&board, refusal).and_then(|base| match refusal {
-        Refusal::TapUnreachable => not_led(&base),
-        Refusal::ForbiddenContact => contact(&base),
-        _ => through_node(&base),
-    });
-    told.into_iter().collect()
+    let told = Told::of(&board, refusal)?;
+    match refusal {
+        Refusal::ForbiddenContact => contact(&told, turn),
+        _ => through_node(&told, turn),
+    }
+}
+
+fn roughly(board: &Board, refusal: Refusal, turn: usize) -> Place {
+    let bundle = board.bundle_items()[turn];
+    match refusal {
+        Refusal::ForbiddenContact => place!(
+            bundle,
+            ", or the route of one of its members, would touch what it must not, or come too close \
+             to it"
+        ),
+        _ => place!(
+            "the route of a member of ",
+            bundle,
+            " would run through a node that is none of its ends, or be slanted"
+        ),
+    }
 }
 
 /// A refused board, and the visits that were paid before its refusal.
@@ -125,10 +156,6 @@ impl Told<'_> {
         }
         Some(like)
     }
-
-    fn bundle(&self, place: usize) -> Option<Item> {
-        self.board.bundle_items().get(place).copied()
-    }
 }
 
 fn number(board: &Board, geometry: u32) -> Option<Refusal> {
@@ -155,7 +182,7 @@ fn paid(board: &Board, mut low: u32, mut high: u32) -> Option<u32> {
 
 /// An id that is free: there are more than a table can have.
 fn free(is_free: impl Fn(Id) -> bool) -> Option<Id> {
-    (0..=65_536).find(|&id| is_free(id))
+    (0..=65_536).map(Id::from).find(|&id| is_free(id))
 }
 
 /// One run of no length, far from everything, from a node to itself.
@@ -174,32 +201,41 @@ fn far_edge(board: &Board) -> Option<Edge> {
     })
 }
 
-/// 10: no test of this turn was made.
-fn not_led(told: &Told<'_>) -> Option<Place> {
-    let turn = told.added_by_edge(0)? as usize / 2;
-    let bundle = told.bundle(turn)?;
-    let mut place = place!("the members of ", bundle, " cannot be led to it");
-    for edge in members(told.board, turn) {
-        let points = told.board.edges[edge].points.len();
-        if points < 2 {
-            place.parts.push(", ".into());
-            place.parts.push(told.board.edge_items()[edge].into());
-            place
-                .parts
-                .push(format!(" having a route of {points} points").into());
-        }
+/// 10: a place for each member that cannot be led to its tap.
+fn not_led(board: &Board, turn: usize) -> Vec<Place> {
+    let bundle = board.bundle_items()[turn];
+    let members = turn::not_led(board, turn).into_iter();
+    let edges = members.filter_map(|member| {
+        let id = board.bundles[turn].members[member].edge;
+        board.edges.iter().position(|edge| edge.id == id)
+    });
+    let told = edges.map(|edge| {
+        let why = match board.edges[edge].points.len() {
+            0 => ": it has no points",
+            1 => ": it has one point",
+            _ => "",
+        };
+        let of = board.edge_items()[edge];
+        let led = format!(", cannot be led to its tap{why}");
+        place!("the route of ", of, ", a member of ", bundle, led)
+    });
+    let told = told.collect::<Vec<_>>();
+    if told.is_empty() {
+        return vec![place!("the members of ", bundle, " cannot be led to it")];
     }
-    Some(place)
+    told
 }
 
 /// 11: a route in no bundle that stands first was tested with this turn's collector, and with its spine
 /// too unless the tests ended at the collector.
-fn contact(told: &Told<'_>) -> Option<Place> {
+fn contact(told: &Told<'_>, turn: usize) -> Option<Place> {
     let edges = told.board.edges.len();
     let first = told.added_by_edge(0)?;
     let last = told.added_by_edge(edges)?;
-    let turn = first.checked_sub(1)? as usize / 2;
-    let bundle = told.bundle(turn)?;
+    if first.checked_sub(1)? as usize / 2 != turn {
+        return None;
+    }
+    let bundle = told.board.bundle_items()[turn];
     if first == last {
         return Some(with_earlier(told.board, turn, bundle));
     }
@@ -228,10 +264,9 @@ fn with_earlier(board: &Board, turn: usize, bundle: Item) -> Place {
     place
 }
 
-/// 12: no test of contacts was made at this turn.
-fn through_node(told: &Told<'_>) -> Option<Place> {
-    let turn = told.added_by_edge(0)? as usize / 2;
-    let bundle = told.bundle(turn)?;
+/// 12: the node at which the tests of this turn's routes ended.
+fn through_node(told: &Told<'_>, turn: usize) -> Option<Place> {
+    let bundle = told.board.bundle_items()[turn];
     let nodes = told.board.nodes.len();
     if told.added_by_node(0)? == told.added_by_node(nodes)? {
         return Some(slanted(told.board, turn, bundle));

@@ -1,7 +1,8 @@
 //! The first field of a job that is refused: 1, 3, and 4 to 7 and 15 by place.
 
-use crate::board::{Id, Visits};
+use crate::board::{Options, Visits};
 use crate::grid::is_on_grid;
+use crate::id::Id;
 use crate::limits;
 use crate::place::{Item, Part, Place, place};
 use crate::refusal::Refusal;
@@ -51,14 +52,6 @@ const OPTION: Range = Range {
     words: "options are 0 to 2^20",
 };
 
-const OPTIONS: [&str; 5] = [
-    "port_stub",
-    "route_lane_gap",
-    "edge_node_clearance",
-    "minimum_parallel_wire_spacing",
-    "member_endpoint_reserve",
-];
-
 /// A field's name: words, and mostly the record that it is of.
 type Field = Vec<Part>;
 
@@ -106,14 +99,11 @@ impl Walk<'_> {
     fn head(&mut self) -> Step<[usize; 4]> {
         let flags = self.listed(named("the flags"), 7)?;
         self.on_grid = flags & 4 != 0;
-        for name in OPTIONS {
+        for name in Options::NAMES {
             self.number(of("", Item::Setting { name }), OPTION)?;
         }
-        let grants = [
-            ("tap_visits", Visits::MOST.tap),
-            ("geometry_visits", Visits::MOST.geometry),
-        ];
-        for (name, most) in grants {
+        let most = [Visits::MOST.tap, Visits::MOST.geometry];
+        for (name, most) in Visits::NAMES.into_iter().zip(most) {
             let grant = self.bytes(of("", Item::Setting { name }))?;
             let field = of("", Item::Setting { name });
             self.at_most(4, field, u32::from_be_bytes(grant), most)?;
@@ -186,7 +176,8 @@ impl Walk<'_> {
         self.id(of("the node of ", bundle))?;
         self.id(of("the port of ", bundle))?;
         self.listed(of("the role of ", bundle), 1)?;
-        self.id(of("the width of ", bundle))?;
+        // Any number.
+        self.bytes::<4>(of("the width of ", bundle))?;
         let field = of("the count of members of ", bundle);
         let count = self.count(field, limits::BUNDLE_MEMBERS)?;
         *total += count;
@@ -216,9 +207,10 @@ impl Walk<'_> {
         }
     }
 
-    /// Ids and widths: any number.
+    /// Any number.
     fn id(&mut self, field: Field) -> Step<Id> {
-        self.bytes(field).map(u32::from_be_bytes)
+        self.bytes(field)
+            .map(|bytes| Id::from(u32::from_be_bytes(bytes)))
     }
 
     fn count(&mut self, field: Field, most: usize) -> Step<usize> {

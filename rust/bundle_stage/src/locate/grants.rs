@@ -42,9 +42,8 @@ impl Board {
 }
 
 pub(super) fn place(board: &Board) -> Place {
-    let setting = Item::Setting {
-        name: "geometry_visits",
-    };
+    let [_, name] = Visits::NAMES;
+    let setting = Item::Setting { name };
     let granted = board.grants.geometry;
     // The tap grant decides which sheet it is.
     let same_taps = Board {

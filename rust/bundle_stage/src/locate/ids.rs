@@ -1,6 +1,7 @@
 //! Ids that stand twice or are not there (8, 9), and the components that cannot be split (13).
 
-use crate::board::{Board, Bundle, Endpoint, Id, Role};
+use crate::board::{Board, Bundle, Endpoint, Role};
+use crate::id::Id;
 use crate::place::{Item, Place, place};
 use crate::refusal::Refusal;
 

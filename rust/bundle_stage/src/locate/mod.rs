@@ -4,6 +4,8 @@ mod drawing;
 mod fields;
 mod grants;
 mod ids;
+mod meeting;
+mod turn;
 
 use crate::board::Board;
 use crate::place::{Place, Refused, place};
@@ -11,6 +13,8 @@ use crate::refusal::Refusal;
 use crate::sheet::{Answer, Sheet};
 
 pub use grants::Forecast;
+pub(crate) use meeting::met;
+pub(crate) use turn::refused_turn;
 
 /// The refusal of a job's bytes with what it is about, or nothing where the job is drawn.
 ///
@@ -40,7 +44,7 @@ impl Board {
     /// ```
     /// use bundle_stage::*;
     ///
-    /// let node = |id| Node { id, x: 0.0, y: 0.0, width: 1.0, height: 1.0 };
+    /// let node = |id: u32| Node { id: id.into(), x: 0.0, y: 0.0, width: 1.0, height: 1.0 };
     /// let board = Board { nodes: vec![node(5), node(6), node(5)], ..Board::default() };
     /// let refused = board.draw_detailed().expect_err("an id twice");
     /// assert_eq!(refused.refusal, Refusal::DuplicateId);

@@ -9,9 +9,9 @@ pub fn at(x: f64, y: f64) -> Point {
     Point { x, y }
 }
 
-pub fn node(id: Id, x: f64, y: f64, width: f64, height: f64) -> Node {
+pub fn node(id: u32, x: f64, y: f64, width: f64, height: f64) -> Node {
     Node {
-        id,
+        id: id.into(),
         x,
         y,
         width,
@@ -19,18 +19,30 @@ pub fn node(id: Id, x: f64, y: f64, width: f64, height: f64) -> Node {
     }
 }
 
+pub fn end(node: u32, port: u32) -> Endpoint {
+    Endpoint {
+        node: node.into(),
+        port: port.into(),
+    }
+}
+
+pub fn member(edge: u32, lane: u16) -> Member {
+    let edge = edge.into();
+    Member { edge, lane }
+}
+
 /// Two wires from a port of node 1 to node 2, one bundle.
 pub fn board() -> Board {
-    let source = Endpoint { node: 1, port: 1 };
-    let wire = |id, y| Edge {
-        id,
+    let source = end(1, 1);
+    let wire = |id: u32, y| Edge {
+        id: id.into(),
         source,
-        target: Endpoint { node: 2, port: id },
+        target: end(2, id),
         points: vec![at(40.0, 50.0), at(60.0, 50.0), at(60.0, y), at(200.0, y)],
     };
-    let port = |node, id, side, offset| Port {
-        node,
-        id,
+    let port = |node: u32, id: u32, side, offset| Port {
+        node: node.into(),
+        id: id.into(),
         side,
         offset,
     };
@@ -52,11 +64,11 @@ pub fn board() -> Board {
         ],
         edges: vec![wire(1, 40.0), wire(2, 60.0)],
         bundles: vec![Bundle {
-            id: 1,
+            id: Id::from(1),
             endpoint: source,
             role: Role::Input,
             width: 2,
-            members: vec![Member { edge: 1, lane: 0 }, Member { edge: 2, lane: 1 }],
+            members: vec![member(1, 0), member(2, 1)],
         }],
         ..Board::default()
     }
@@ -84,8 +96,8 @@ pub fn split_board() -> Board {
     lanes.for_each(|member| member.lane = 0);
     let members = board.bundles[0].members.clone();
     board.bundles.push(Bundle {
-        id: 2,
-        endpoint: Endpoint { node: 2, port: 1 },
+        id: Id::from(2),
+        endpoint: end(2, 1),
         role: Role::Output,
         width: 2,
         members,

@@ -90,6 +90,15 @@ pub struct Spot {
     pub turned: bool,
     /// The height of its letters.
     pub size: f64,
+    pub anchor: Anchor,
+}
+
+/// Where the words begin or end.
+#[derive(Clone, Copy, PartialEq)]
+pub enum Anchor {
+    Left,
+    Middle,
+    Right,
 }
 
 impl Spot {
@@ -100,6 +109,7 @@ impl Spot {
             on: None,
             turned: false,
             size,
+            anchor: Anchor::Middle,
         }
     }
 }
@@ -124,6 +134,10 @@ pub struct Label {
     pub text: String,
     pub place: usize,
     pub spot: Spot,
+    /// The place of its wish in the list.
+    wish: usize,
+    /// The place of its rectangle in the field.
+    taken: usize,
 }
 
 /// Labels for as many wishes as can be, and as many of them inside a node, at the largest size that
@@ -137,12 +151,19 @@ pub fn placed(field: &mut Field, wishes: &[Wish], sizes: &[f64]) -> (Vec<Label>,
     let mut best: Vec<Label> = Vec::new();
     for size in sizes {
         let mut labels = Vec::new();
-        for Wish { text, place, spots } in wishes {
+        for (wish, Wish { text, place, spots }) in wishes.iter().enumerate() {
             let spot = spots(*size).into_iter().find(|spot| field.free(spot));
             if let Some(spot) = spot {
+                let taken = field.taken.len();
                 field.taken.push((spot.rect, None));
                 let (text, place) = (text.clone(), *place);
-                labels.push(Label { text, place, spot });
+                labels.push(Label {
+                    text,
+                    place,
+                    spot,
+                    wish,
+                    taken,
+                });
             }
         }
         field.taken.truncate(before);
@@ -154,6 +175,36 @@ pub fn placed(field: &mut Field, wishes: &[Wish], sizes: &[f64]) -> (Vec<Label>,
     field.taken.extend(rects);
     let left_out = wishes.len() - best.len();
     (best, left_out)
+}
+
+/// Replaces labels by longer ones of the same things, where there is room; `longer` has one, or none, for
+/// each wish that the labels were placed by. Says how many were replaced.
+pub fn lengthen(
+    field: &mut Field,
+    labels: &mut [Label],
+    longer: &[Option<Wish>],
+    sizes: &[f64],
+) -> usize {
+    let nowhere = Point {
+        x: f64::INFINITY,
+        y: f64::INFINITY,
+    };
+    let mut replaced = 0;
+    for label in labels {
+        let Some(Wish { text, spots, .. }) = &longer[label.wish] else {
+            continue;
+        };
+        // Its own place is free for it.
+        field.taken[label.taken].0 = Rect::of(nowhere, nowhere, 0.0);
+        let sizes = sizes.iter().filter(|size| **size <= label.spot.size);
+        let mut all = sizes.flat_map(|size| spots(*size));
+        if let Some(spot) = all.find(|spot| field.free(spot)) {
+            (label.text, label.spot) = (text.clone(), spot);
+            replaced += 1;
+        }
+        field.taken[label.taken].0 = label.spot.rect;
+    }
+    replaced
 }
 
 /// All that is drawn, on a page from one corner to the other.
@@ -175,7 +226,10 @@ pub fn field(scene: &Scene, strokes: &[Stroke], pens: &Pens, page: (Point, Point
     let ports = ports.map(|port| Rect::of(port.low, port.high, pens.port / 2.0 + 0.1));
     let marks = scene.marks.iter();
     let marks = marks.map(|mark| Rect::of(mark.at, mark.at, MARK));
-    taken.extend(dots.chain(ports).chain(marks).map(|rect| (rect, None)));
+    let tried = scene.tried.iter();
+    let tried = tried.flat_map(|tried| tried.taken(&scene.names, page.1.x));
+    let taken_too = dots.chain(ports).chain(marks).chain(tried);
+    taken.extend(taken_too.map(|rect| (rect, None)));
     let nodes = scene.nodes.iter().map(corners);
     Field {
         taken,

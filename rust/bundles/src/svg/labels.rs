@@ -1,327 +1,223 @@
-//! Ids, where they fit.
+//! Ids, where they fit, and names, where there is still room then.
 
-use bundle_stage::{Endpoint, Node, Point, Side};
+use bundle_stage::{Endpoint, Id, Point};
 
 use crate::explain::counted;
 
-use super::field::{Label, Rect, Spot, Wish, field, moved, placed};
+use super::field::{Anchor, Field, Label, Rect, Wish, field, lengthen, moved, placed};
 use super::palette::colour;
 use super::pens::Pens;
-use super::scene::{Port, Route, Scene, Trunk, corners};
-use super::spans::Way;
-use super::stroke::{Piece, Stroke};
-use super::xml::{mm, wide, wide_bold, words};
+use super::scene::Scene;
+use super::stroke::Stroke;
+use super::wishes::{bundle_wishes, edge_wish, name_wish, node_wish, port_wish};
+use super::xml::{mm, wide_bold, words};
 
 /// Heights of letters that are tried, in millimetres, one for all labels of a kind. Smaller ones
 /// would not be read on paper.
-const NODES: [f64; 6] = [4.6, 4.0, 3.4, 2.8, 2.2, 1.8];
+pub const NODES: [f64; 6] = [4.6, 4.0, 3.4, 2.8, 2.2, 1.8];
 const BUNDLES: [f64; 4] = [3.4, 3.0, 2.4, 1.8];
 const EDGES: [f64; 4] = [3.2, 2.8, 2.3, 1.8];
 const PORTS: [f64; 3] = [2.5, 2.2, 1.8];
-/// A node's id beside it is no larger.
-const OUTSIDE: f64 = 2.4;
-/// A bundle's id stands at both ends of a spine that is longer.
-const LONG: f64 = 90.0;
+const NAMES: [f64; 4] = [3.0, 2.6, 2.2, 1.8];
 
 /// All labels as SVG, and what is left out for want of room, in words.
 pub struct Labels {
     pub svg: String,
     pub left_out: Vec<String>,
+    /// Ports and edges whose names have no room, in words.
+    pub unnamed: Vec<String>,
+    /// Nodes whose names have no room.
+    pub nodes: Vec<Id>,
 }
 
-/// The routes' strokes come first among `strokes`, in the routes' order.
+/// The labels of a kind, and how many have no room.
+struct Kind {
+    labels: Vec<Label>,
+    missing: usize,
+    /// How many names have no room.
+    unnamed: usize,
+}
+
+/// The wishes for ids, each with that for id and name where there is one.
+struct Wishes {
+    ids: Vec<Wish>,
+    named: Vec<Option<Wish>>,
+    sizes: &'static [f64],
+}
+
+impl Wishes {
+    fn of(all: impl Iterator<Item = (Wish, Option<Wish>)>, sizes: &'static [f64]) -> Wishes {
+        let (ids, named) = all.unzip();
+        Wishes { ids, named, sizes }
+    }
+
+    fn placed(&self, field: &mut Field) -> Kind {
+        let (labels, missing) = placed(field, &self.ids, self.sizes);
+        Kind {
+            labels,
+            missing,
+            unnamed: 0,
+        }
+    }
+
+    /// Adds names where there is room.
+    fn name(&self, field: &mut Field, kind: &mut Kind) {
+        let named = self.named.iter().flatten().count();
+        kind.unnamed = named - lengthen(field, &mut kind.labels, &self.named, self.sizes);
+    }
+}
+
+/// The routes' strokes come first among `strokes`, in the routes' order. No name stands where an id could.
 pub fn labels(scene: &Scene, strokes: &[Stroke], pens: &Pens, page: (Point, Point)) -> Labels {
     let mut field = field(scene, strokes, pens, page);
-    let mut svg = String::new();
-    let mut left_out = Vec::new();
-    let mut note = |count: usize, what: &str| {
-        if count > 0 {
-            left_out.push(counted(count, what));
-        }
+    let all = [
+        bundle_ids(scene, pens),
+        node_ids(scene),
+        edge_ids(scene, strokes),
+        port_ids(scene, pens),
+    ];
+    let mut kinds = all.each_ref().map(|wishes| wishes.placed(&mut field));
+    let (names, nodes) = node_names(scene, &mut field, &kinds[1].labels);
+    // Ports last: their names are the longest, and there are most of them.
+    for turn in [1, 0, 2, 3] {
+        all[turn].name(&mut field, &mut kinds[turn]);
+    }
+    let what = ["bundle", "node", "edge", "port"];
+    let words = |count: fn(&Kind) -> usize, places: &[usize]| {
+        let counts = places.iter().map(|&at| (count(&kinds[at]), what[at]));
+        let counts = counts.filter(|(count, _)| *count > 0);
+        counts.map(|(count, what)| counted(count, what)).collect()
     };
-    let wishes = bundle_wishes(&scene.trunks, pens);
-    let (pills, missing) = placed(&mut field, &wishes, &BUNDLES);
-    note(missing, "bundle");
-    let wishes = scene.nodes.iter().enumerate().map(node_wish);
-    let (nodes, missing) = placed(&mut field, &wishes.collect::<Vec<_>>(), &NODES);
-    note(missing, "node");
-    let wishes = scene.routes.iter().zip(strokes).enumerate();
-    let wishes = wishes.map(|(place, (route, stroke))| edge_wish(place, route, stroke));
-    let (edges, missing) = placed(&mut field, &wishes.collect::<Vec<_>>(), &EDGES);
-    note(missing, "edge");
-    let wishes = scene.ports.iter().enumerate();
-    let wishes = wishes.filter_map(|(place, port)| {
-        let node = scene.nodes.iter().find(|node| node.id == port.name.node)?;
-        Some(port_wish(place, port, node, pens))
-    });
-    let (ports, missing) = placed(&mut field, &wishes.collect::<Vec<_>>(), &PORTS);
-    note(missing, "port");
+    Labels {
+        left_out: words(|kind| kind.missing, &[0, 1, 2, 3]),
+        unnamed: words(|kind| kind.unnamed, &[2, 3]),
+        svg: drawn(scene, &kinds, &names),
+        nodes,
+    }
+}
 
-    let text = |label: &Label, more: &str| {
-        let middle = label.spot.rect.middle();
-        let turned = if label.spot.turned {
-            format!(
-                " transform=\"rotate(-90 {} {})\"",
-                mm(middle.x),
-                mm(middle.y)
-            )
-        } else {
-            String::new()
-        };
-        let at = moved(middle, 0.0, 0.35 * label.spot.size);
-        words(at, label.spot.size, &format!("{more}{turned}"), &label.text)
-    };
-    for label in &ports {
+fn bundle_ids(scene: &Scene, pens: &Pens) -> Wishes {
+    let trunks = scene.trunks.iter().enumerate();
+    let wishes = trunks.flat_map(|(place, trunk)| {
+        let id = format!("B{}", trunk.id);
+        let name = scene.names.bundle(trunk.id);
+        let ids = bundle_wishes(place, trunk, pens, &id);
+        // Once is enough for the name.
+        let named = name.map(|name| bundle_wishes(place, trunk, pens, &format!("{id} {name}")));
+        let named = named.into_iter().flatten().take(1).map(Some);
+        ids.into_iter()
+            .zip(named.chain(std::iter::repeat_with(|| None)))
+    });
+    Wishes::of(wishes, &BUNDLES)
+}
+
+fn node_ids(scene: &Scene) -> Wishes {
+    let nodes = scene.nodes.iter().enumerate();
+    let wishes = nodes.map(|(place, node)| (node_wish(place, node, node.id.to_string()), None));
+    Wishes::of(wishes, &NODES)
+}
+
+fn edge_ids(scene: &Scene, strokes: &[Stroke]) -> Wishes {
+    let routes = scene.routes.iter().zip(strokes).enumerate();
+    let wishes = routes.map(|(place, (route, stroke))| {
+        let wish = |text: String| edge_wish(place, route, stroke, text);
+        let name = scene.names.edge(route.id);
+        let named = name.map(|name| wish(format!("{} {name}", route.id)));
+        (wish(route.id.to_string()), named)
+    });
+    Wishes::of(wishes, &EDGES)
+}
+
+fn port_ids(scene: &Scene, pens: &Pens) -> Wishes {
+    let ports = scene.ports.iter().enumerate();
+    let wishes = ports.filter_map(|(place, port)| {
+        let Endpoint { node, port: id } = port.name;
+        let name = scene.names.port(node, id);
+        let node = scene.nodes.iter().find(|of| of.id == node)?;
+        let wish = |text: String| port_wish(place, port, node, pens, text);
+        let named = name.map(|name| wish(format!("{id} {name}")));
+        Some((wish(id.to_string()), named))
+    });
+    Wishes::of(wishes, &PORTS)
+}
+
+/// The names of nodes, and the nodes whose names have no room.
+fn node_names(scene: &Scene, field: &mut Field, ids: &[Label]) -> (Vec<Label>, Vec<Id>) {
+    let wishes = ids.iter().filter_map(|id| {
+        let node = &scene.nodes[id.place];
+        let name = scene.names.node(node.id)?;
+        Some(name_wish(id.place, node, id.spot, name))
+    });
+    let wishes = wishes.collect::<Vec<_>>();
+    let (names, _) = placed(field, &wishes, &NAMES);
+    let nodes = scene.nodes.iter().enumerate();
+    let nodes = nodes.filter(|(place, node)| {
+        let shown = names.iter().any(|label| label.place == *place);
+        scene.names.node(node.id).is_some() && !shown
+    });
+    let without = nodes.map(|(_, node)| node.id).collect();
+    (names, without)
+}
+
+/// All labels as SVG.
+fn drawn(scene: &Scene, [pills, nodes, edges, ports]: &[Kind; 4], names: &[Label]) -> String {
+    let mut svg = String::new();
+    for label in &ports.labels {
         let Endpoint { node, port } = scene.ports[label.place].name;
         let of = format!("data-of=\"port-{node}-{port}\"");
         let more = format!("class=\"port-id\" {of} fill=\"#666666\"");
         svg.push_str(&text(label, &more));
     }
-    for label in &nodes {
-        let id = scene.nodes[label.place].id;
-        let more = format!("class=\"node-id\" data-of=\"node-{id}\" font-weight=\"bold\"");
+    for (labels, class) in [(&nodes.labels[..], "node-id"), (names, "node-name")] {
+        for label in labels {
+            let id = scene.nodes[label.place].id;
+            let bold = if class == "node-id" {
+                " font-weight=\"bold\""
+            } else {
+                ""
+            };
+            let more = format!("class=\"{class}\" data-of=\"node-{id}\"{bold}");
+            svg.push_str(&text(label, &more));
+        }
+    }
+    for label in &edges.labels {
+        let id = scene.routes[label.place].id;
+        let more = format!("class=\"edge-id\" data-of=\"route-{id}\"");
         svg.push_str(&text(label, &more));
     }
-    for label in &edges {
-        let id = scene.routes[label.place].id;
-        svg.push_str(&text(
-            label,
-            &format!("class=\"edge-id\" data-of=\"route-{id}\""),
-        ));
-    }
-    for label in &pills {
+    for label in &pills.labels {
         let Rect { low, high } = label.spot.rect;
         let rect = Rect::of(low, high, -AROUND);
         let id = scene.trunks[label.place].id;
         let pill = pill(&label.text, rect, label.place, label.spot.size);
         svg.push_str(&format!("<g data-of=\"bundle-{id}\">\n{pill}</g>\n"));
     }
-    Labels { svg, left_out }
+    svg
 }
 
-// ---- nodes
-
-/// Inside it as large as fits, else beside it.
-fn node_wish((place, node): (usize, &Node)) -> Wish {
-    let text = node.id.to_string();
-    let [low, high] = corners(node);
-    let around = Rect { low, high };
-    let spots = {
-        let text = text.clone();
-        move |size: f64| {
-            let size_of = |size: f64| (wide_bold(&text, size) + 0.4, size);
-            let smaller = NODES.into_iter().filter(|smaller| *smaller <= size);
-            let inside = smaller.flat_map(|size| within(&around, size_of(size), size));
-            let small = size.min(OUTSIDE);
-            let (width, height) = size_of(small);
-            let outside = beside(&around, width, height).map(|rect| Spot::new(rect, small));
-            inside.chain(outside).collect()
-        }
+fn text(label: &Label, more: &str) -> String {
+    let middle = label.spot.rect.middle();
+    let turned = if label.spot.turned {
+        format!(
+            " transform=\"rotate(-90 {} {})\"",
+            mm(middle.x),
+            mm(middle.y)
+        )
+    } else {
+        String::new()
     };
-    Wish {
-        text,
-        place,
-        spots: Box::new(spots),
-    }
-}
-
-/// Places inside a node, level ones first.
-fn within(around: &Rect, (width, height): (f64, f64), size: f64) -> Vec<Spot> {
-    let mut spots = Vec::new();
-    for (width, height, turned) in [(width, height, false), (height, width, true)] {
-        for (x, y) in [(0, 0), (0, -1), (0, 1), (-1, 0), (1, 0), (0, -2), (0, 2)] {
-            let part = |step: i32, size: f64| f64::from(step) * size / 5.0;
-            let x = part(x, around.high.x - around.low.x);
-            let y = part(y, around.high.y - around.low.y);
-            let rect = Rect::around(moved(around.middle(), x, y), width, height);
-            if rect.within(around) {
-                spots.push(Spot {
-                    inside: true,
-                    turned,
-                    ..Spot::new(rect, size)
-                });
-            }
-        }
-    }
-    spots
-}
-
-/// Above, below, to the right and to the left of something.
-fn beside(around: &Rect, width: f64, height: f64) -> impl Iterator<Item = Rect> {
-    let Rect { low, high } = *around;
-    let middle = around.middle();
-    let gap = 0.5;
-    let across = [middle.x, low.x + width / 2.0, high.x - width / 2.0];
-    let upright = [low.y - gap - height / 2.0, high.y + gap + height / 2.0];
-    let sides = [high.x + gap + width / 2.0, low.x - gap - width / 2.0];
-    let level = upright.map(|y| across.map(|x| Point { x, y }));
-    let sides = sides.map(|x| Point { x, y: middle.y });
-    let points = level.into_iter().flatten().chain(sides);
-    points.map(move |at| Rect::around(at, width, height))
-}
-
-/// Inside its node, in front of it.
-fn port_wish(place: usize, port: &Port, node: &Node, pens: &Pens) -> Wish {
-    let text = port.name.port.to_string();
-    let (at, side) = (port.at, port.side);
-    let [low, high] = corners(node);
-    let around = Rect { low, high };
-    let gap = pens.port / 2.0 + 0.5;
-    let spots = {
-        let text = text.clone();
-        move |size: f64| {
-            let (width, height) = (wide(&text, size), 0.8 * size);
-            let (x, y) = match side {
-                Side::North => (0.0, gap + height / 2.0),
-                Side::East => (-gap - width / 2.0, 0.0),
-                Side::South => (0.0, -gap - height / 2.0),
-                Side::West => (gap + width / 2.0, 0.0),
-            };
-            let spot = Spot {
-                inside: true,
-                ..Spot::new(Rect::around(moved(at, x, y), width, height), size)
-            };
-            let fits = spot.rect.within(&around);
-            fits.then_some(spot).into_iter().collect()
-        }
+    let Rect { low, high } = label.spot.rect;
+    let (x, anchor) = match label.spot.anchor {
+        Anchor::Left => (low.x, " text-anchor=\"start\""),
+        Anchor::Middle => (middle.x, ""),
+        Anchor::Right => (high.x, " text-anchor=\"end\""),
     };
-    Wish {
-        text,
-        place,
-        spots: Box::new(spots),
-    }
-}
-
-// ---- edges
-
-/// Beside its longest runs, those near the end that is in no bundle first.
-fn edge_wish(place: usize, route: &Route, stroke: &Stroke) -> Wish {
-    let text = route.id.to_string();
-    let mut pieces = stroke.pieces().collect::<Vec<_>>();
-    if route.input.is_some() || route.output.is_none() {
-        pieces.reverse();
-    }
-    let from_end = route.input.is_some() || route.output.is_none();
-    let spots = {
-        let text = text.clone();
-        let half = stroke.width / 2.0;
-        move |size: f64| {
-            let box_of = (wide(&text, size) + 0.4, 0.8 * size);
-            let level = pieces.iter().filter(|piece| way(piece) == Some(Way::Level));
-            let upright = pieces
-                .iter()
-                .filter(|piece| way(piece) == Some(Way::Upright));
-            let level = level.flat_map(|piece| along(piece, from_end, box_of, half));
-            let upright = upright.flat_map(|piece| along(piece, from_end, box_of, half));
-            let rects = level.chain(upright);
-            rects.map(|rect| Spot::new(rect, size)).collect()
-        }
+    let at = Point {
+        x,
+        y: middle.y + 0.35 * label.spot.size,
     };
-    Wish {
-        text,
-        place,
-        spots: Box::new(spots),
-    }
-}
-
-fn way(piece: &Piece) -> Option<Way> {
-    Way::of(piece.start, piece.end)
-}
-
-/// Places on both sides of a run, from the end that the reader comes from.
-fn along(piece: &Piece, from_end: bool, (width, height): (f64, f64), half: f64) -> Vec<Rect> {
-    let length = piece.length();
-    let (run, across) = match way(piece) {
-        Some(Way::Level) => (width, height),
-        _ => (height, width),
-    };
-    // A label that is longer than its run would hang over.
-    if run + 0.6 > length {
-        return Vec::new();
-    }
-    let far = half + 0.45 + across / 2.0;
-    let spare = length - run - 0.6;
-    let parts = [0.0, 0.06, 0.12, 0.2, 0.3, 0.35, 0.4, 0.5, 0.7, 0.85, 1.0];
-    let places = parts.map(|part| {
-        let at = 0.3 + run / 2.0 + part * spare;
-        if from_end { length - at } else { at }
-    });
-    // Above a level run first, to the right of an upright one.
-    let start = match way(piece) {
-        Some(Way::Level) if piece.end.x < piece.start.x => -1.0,
-        Some(Way::Upright) if piece.end.y < piece.start.y => -1.0,
-        _ => 1.0,
-    };
-    let both = places
-        .into_iter()
-        .flat_map(|at| [(at, start), (at, -start)]);
-    both.map(|(at, side)| Rect::around(piece.at(at, side * far), width, height))
-        .collect()
-}
-
-// ---- bundles
-
-/// One id for each bundle, a second one at the port where the spine is long.
-fn bundle_wishes(trunks: &[Trunk], pens: &Pens) -> Vec<Wish> {
-    let mut wishes = Vec::new();
-    for (place, trunk) in trunks.iter().enumerate() {
-        let spine = Piece {
-            start: trunk.spine.start,
-            end: trunk.spine.end,
-        };
-        wishes.push(bundle_wish(place, trunk, false, pens));
-        if spine.length() > LONG {
-            wishes.push(bundle_wish(place, trunk, true, pens));
-        }
-    }
-    wishes
-}
-
-fn bundle_wish(place: usize, trunk: &Trunk, port: bool, pens: &Pens) -> Wish {
-    let text = format!("B{}", trunk.id);
-    let [spine, collector] = [trunk.spine, trunk.collector].map(|part| Piece {
-        start: part.start,
-        end: part.end,
-    });
-    let half = pens.trunk / 2.0;
-    let spots = {
-        let text = text.clone();
-        move |size: f64| {
-            let (width, height) = pill_size(&text, size);
-            let (width, height) = (width + 2.0 * AROUND, height + 2.0 * AROUND);
-            let mut rects = Vec::new();
-            let near = width / 2.0 + 2.5 * half + 0.8;
-            let length = spine.length();
-            if length > width + 4.0 * half {
-                let places = [near, 0.25 * length, 0.5 * length, 0.75 * length];
-                let places = places.map(|at| at.min(length / 2.0).max(at.min(length - near)));
-                let places = places.map(|at| if port { at } else { length - at });
-                rects.extend(places.map(|at| Rect::around(spine.at(at, 0.0), width, height)));
-            }
-            let length = collector.length();
-            let parts = [0.5, 0.25, 0.75, 0.1, 0.9].map(|part| part * length);
-            if length > height + 1.0 {
-                rects.extend(parts.map(|at| Rect::around(collector.at(at, 0.0), width, height)));
-            }
-            for part in [trunk_box(&collector, half), trunk_box(&spine, half)] {
-                rects.extend(beside(&part, width, height));
-            }
-            let on = |rect| Spot {
-                on: Some(place),
-                ..Spot::new(rect, size)
-            };
-            rects.into_iter().map(on).collect()
-        }
-    };
-    Wish {
-        text,
-        place,
-        spots: Box::new(spots),
-    }
-}
-
-fn trunk_box(piece: &Piece, half: f64) -> Rect {
-    Rect::of(piece.start, piece.end, half + 0.4)
+    let more = format!("{more}{anchor}{turned}");
+    words(at, label.spot.size, &more, &label.text)
 }
 
 /// A frame around a bundle's id.
@@ -330,7 +226,7 @@ pub fn pill_size(text: &str, size: f64) -> (f64, f64) {
 }
 
 /// What is left free around a frame.
-const AROUND: f64 = 0.5;
+pub const AROUND: f64 = 0.5;
 
 /// A bundle's id in a frame of its colour.
 fn pill(text: &str, rect: Rect, place: usize, size: f64) -> String {

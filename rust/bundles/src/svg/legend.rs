@@ -1,12 +1,15 @@
 //! Words on the page: the title and what stands below it, the legend and what it explains.
 
-use bundle_stage::{Endpoint, Point, Role};
+use std::collections::BTreeSet;
+
+use bundle_stage::{Endpoint, Id, Point, Role};
 
 use super::labels::{pill_at, pill_size};
 use super::palette::{BLACK, WARNING, colour, mark};
 use super::paths::marked;
 use super::scene::{Route, Scene, Trunk};
 use super::shapes::ring;
+use super::tried::dashed;
 use super::xml::{mm, wide, wide_bold, words};
 
 const TITLE: f64 = 5.0;
@@ -95,7 +98,8 @@ pub struct Legend {
 }
 
 impl Legend {
-    pub fn of(scene: &Scene, said: Option<String>) -> Legend {
+    /// `named` are the nodes whose names have no room on the sheet.
+    pub fn of(scene: &Scene, named: &BTreeSet<Id>, said: Option<String>) -> Legend {
         let size = if scene.trunks.len() > MANY {
             SMALL
         } else {
@@ -103,8 +107,9 @@ impl Legend {
         };
         let bundles = scene.trunks.iter().enumerate();
         let bundles = bundles.map(|(place, trunk)| bundle(scene, place, trunk, size));
+        let named = named.iter().filter_map(|id| node(scene, *id));
         Legend {
-            signs: signs(scene),
+            signs: signs(scene).into_iter().chain(named).collect(),
             bundles: bundles.collect(),
             said,
         }
@@ -215,6 +220,26 @@ fn bundle(scene: &Scene, place: usize, trunk: &Trunk, size: f64) -> Sign {
     }
 }
 
+/// A node's id, and its name beside it.
+fn node(scene: &Scene, id: Id) -> Option<Sign> {
+    let name = scene.names.node(id)?;
+    let middle = Point {
+        x: SAMPLE / 2.0,
+        y: 0.35 * TEXT,
+    };
+    let more = "font-weight=\"bold\" text-anchor=\"middle\"";
+    let id = words(middle, TEXT, more, &id.to_string());
+    Some(Sign {
+        sample: BOX.to_string() + &id,
+        start: SAMPLE + GAP,
+        size: TEXT,
+        text: name.to_string(),
+    })
+}
+
+const BOX: &str = "<rect x=\"0\" y=\"-1.8\" width=\"10\" height=\"3.6\" fill=\"#eeeeee\" \
+                   stroke=\"#222222\" stroke-width=\"0.3\"/>\n";
+
 /// No more ports are named of one bundle.
 const MOST_PORTS: usize = 8;
 
@@ -269,6 +294,11 @@ fn signs(scene: &Scene) -> Vec<Sign> {
             "false joint, or a route in a node",
         ),
         (!scene.ports.is_empty(), SQUARE.to_string(), "port"),
+        (
+            scene.tried.is_some(),
+            dashed("M0 0H10", 0.7, WARNING),
+            "refused bundle as it was tried, on no sheet",
+        ),
     ];
     let there = all.into_iter().filter(|(there, ..)| *there);
     let signs = there.map(|(_, sample, text)| Sign {

@@ -4,6 +4,7 @@ use bundle_stage::Point;
 
 use super::scene::Scene;
 use super::spans::{Way, low, room};
+use super::stretch::{Needs, Stretch};
 
 /// Around the page.
 pub const MARGIN: f64 = 10.0;
@@ -21,6 +22,10 @@ pub const PAPERS: [(f64, f64); 9] = [
     (3364.0, 2378.0),
     (4756.0, 3364.0),
 ];
+/// The place of A0.
+pub const A0: usize = 4;
+/// The place of 4A0, the largest that is named.
+pub const LARGEST: usize = 6;
 /// Lines should lie so far from each other: level ones so that an id fits between them.
 const WANTED: [f64; 2] = [3.6, 1.8];
 
@@ -39,6 +44,8 @@ pub struct Page {
     /// is measured from it, so that no digits are lost.
     low: Point,
     corner: Point,
+    /// Where the sheet is stretched, and not to scale.
+    stretched: Option<[Stretch; 2]>,
 }
 
 struct Extent {
@@ -92,11 +99,57 @@ impl Page {
                 x: MARGIN + spare / 2.0,
                 y: top,
             },
+            stretched: None,
         }
+    }
+
+    /// The same with the sheet stretched where its lines need it, if they have room on the paper.
+    pub fn stretched(
+        needs: &[Needs; 2],
+        wide: f64,
+        paper: usize,
+        head: impl Fn(f64) -> f64,
+        foot: impl Fn(f64) -> f64,
+    ) -> Option<Page> {
+        let (long, short) = PAPERS[paper];
+        [(long, short), (short, long)]
+            .into_iter()
+            .find_map(|(width, height)| {
+                let inner = width - 2.0 * MARGIN;
+                let used = 2.0 * MARGIN + 2.0 * RIM + head(inner) + foot(inner);
+                let across = needs[0].stretch(wide, inner - 2.0 * RIM)?;
+                let down = needs[1].stretch(wide, height - used)?;
+                let top = MARGIN + head(inner) + RIM;
+                let bottom = top + down.length() + RIM;
+                let spare = inner - across.length();
+                Some(Page {
+                    width,
+                    height: bottom + foot(inner) + MARGIN,
+                    top,
+                    bottom,
+                    scale: [1.0; 2],
+                    low: Point { x: 0.0, y: 0.0 },
+                    corner: Point {
+                        x: MARGIN + spare / 2.0,
+                        y: top,
+                    },
+                    stretched: Some([across, down]),
+                })
+            })
+    }
+
+    pub fn is_to_scale(&self) -> bool {
+        self.stretched.is_none()
     }
 
     /// Where a point of the sheet is on the page.
     pub fn at(&self, point: Point) -> Point {
+        if let Some([across, down]) = &self.stretched {
+            return Point {
+                x: self.corner.x + across.at(point.x),
+                y: self.corner.y + down.at(point.y),
+            };
+        }
         Point {
             x: self.corner.x + (point.x - self.low.x) * self.scale[0],
             y: self.corner.y + (point.y - self.low.y) * self.scale[1],

@@ -9,6 +9,8 @@ use bundle_stage::{
 use crate::joints::{name, words};
 use crate::names::Names;
 
+use super::tried::Tried;
+
 #[derive(Clone)]
 pub struct Scene {
     pub nodes: Vec<Node>,
@@ -18,6 +20,7 @@ pub struct Scene {
     pub marks: Vec<Mark>,
     /// How often each bundle and route cross, by their places, if that is known.
     pub crossings: Option<HashMap<(usize, usize), Crossed>>,
+    pub tried: Option<Tried>,
     pub names: Names,
     /// How many nodes, ports, routes and bundles have a number that no page can show.
     pub left_out: usize,
@@ -184,7 +187,7 @@ impl Scene {
         let by_id = nodes.iter().rev().map(|node| (node.id, *node));
         let by_id = by_id.collect::<HashMap<_, _>>();
         let port = |port: &bundle_stage::Port| {
-            let at = port_point(by_id.get(&port.node)?, port);
+            let at = by_id.get(&port.node)?.port_point(port);
             let name = Endpoint {
                 node: port.node,
                 port: port.id,
@@ -207,6 +210,7 @@ impl Scene {
             trunks: Vec::new(),
             marks: Vec::new(),
             crossings: None,
+            tried: None,
             names: Names::default(),
         }
     }
@@ -268,7 +272,8 @@ impl Scene {
             ends.chain(trunk.taps.iter().map(|tap| tap.at))
         });
         let ports = self.ports.iter().map(|port| port.at);
-        nodes.chain(routes).chain(trunks).chain(ports)
+        let tried = self.tried.iter().flat_map(Tried::points);
+        nodes.chain(routes).chain(trunks).chain(ports).chain(tried)
     }
 
     /// The same with every point moved.
@@ -292,6 +297,7 @@ impl Scene {
         for mark in &mut self.marks {
             mark.at = to(mark.at);
         }
+        self.tried = self.tried.map(|tried| tried.moved(&to));
         for trunk in &mut self.trunks {
             trunk.collector = both(trunk.collector);
             trunk.spine = both(trunk.spine);
@@ -323,17 +329,6 @@ pub fn corners(node: &Node) -> [Point; 2] {
     [low, high]
 }
 
-/// Where a port stands: the Rust's port_point.
-fn port_point(node: &Node, port: &bundle_stage::Port) -> Point {
-    let (x, y) = match port.side {
-        Side::North => (node.x + port.offset, node.y),
-        Side::East => (node.x + node.width, node.y + port.offset),
-        Side::South => (node.x + port.offset, node.y + node.height),
-        Side::West => (node.x, node.y + port.offset),
-    };
-    Point { x, y }
-}
-
 fn holds(collector: Segment, at: Point) -> bool {
     let Segment { start, end } = collector;
     let (low, high) = (start.y.min(end.y), start.y.max(end.y));
@@ -342,7 +337,7 @@ fn holds(collector: Segment, at: Point) -> bool {
 
 /// A job that is refused, or an answer that is not the stage's, may hold any number. Those of an
 /// accepted sheet are below 2^34.
-fn shown(at: Point) -> bool {
+pub fn shown(at: Point) -> bool {
     let most = 2_f64.powi(40);
     at.x.abs() <= most && at.y.abs() <= most
 }

@@ -13,6 +13,8 @@ use super::stroke::{Piece, Stroke, apart};
 /// The white between two lines that do not join is never less, in millimetres: 0.2, and what the
 /// rounding of the file's numbers may take.
 pub const WHITE: f64 = 0.23;
+/// What lines may be nearer than what they are drawn for, by the rounding of sums.
+const NEARLY: f64 = 0.005;
 /// Between the trunks of two bundles on one line, which would otherwise look like one.
 const IN_LINE: f64 = 1.0;
 /// What a line keeps between two that go over it.
@@ -152,7 +154,7 @@ fn touching(scene: &Scene, strokes: &[Stroke]) -> Option<String> {
         let beside = beside.take_while(|b| b.rect.low.x < a.rect.high.x);
         for b in beside.filter(|b| b.owner != a.owner && b.rect.meets(&a.rect)) {
             let (distance, at) = a.white(b);
-            if distance < WHITE && !joined(scene, strokes, a.owner, b.owner, at) {
+            if distance < WHITE - NEARLY && !joined(scene, strokes, a.owner, b.owner, at) {
                 let names = [a.owner, b.owner].map(|owner| name(scene, owner));
                 return Some(format!("{} would touch {}", names[0], names[1]));
             }

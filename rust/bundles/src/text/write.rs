@@ -1,6 +1,6 @@
 //! A board's text.
 
-use bundle_stage::{Board, Endpoint, Flags, Options, Visits};
+use bundle_stage::{Board, Endpoint, Flags, Visits};
 
 use super::{ANSWERS, FLAGS, GRANTS, OPTIONS, ROLES, SIDES, number};
 use crate::names::Names;
@@ -68,21 +68,7 @@ fn quoted(name: Option<&str>) -> String {
 
 /// The settings.
 fn head(lines: &mut Vec<String>, board: &Board) {
-    let Options {
-        port_stub,
-        route_lane_gap,
-        edge_node_clearance,
-        minimum_parallel_wire_spacing,
-        member_endpoint_reserve,
-    } = board.options;
-    let options = [
-        port_stub,
-        route_lane_gap,
-        edge_node_clearance,
-        minimum_parallel_wire_spacing,
-        member_endpoint_reserve,
-    ];
-    settings(lines, OPTIONS, options, number);
+    settings(lines, OPTIONS, board.options.values(), number);
     let Visits { tap, geometry } = board.grants;
     settings(lines, GRANTS, [tap, geometry], |visits| visits.to_string());
     let Flags {

@@ -5,6 +5,8 @@ pub struct Element {
     pub name: String,
     pub attributes: Vec<(String, String)>,
     pub depth: usize,
+    /// The words right behind it.
+    pub words: String,
 }
 
 impl Element {
@@ -54,6 +56,7 @@ pub fn elements(picture: &str) -> Vec<Element> {
             name: name.to_string(),
             attributes: pairs(attributes),
             depth: open.len(),
+            words: tail.split('<').next().unwrap_or_default().to_string(),
         });
         if !closed {
             open.push(name.to_string());
