@@ -108,8 +108,12 @@ accepted.",
         long: "\
 The picture is an SVG file: open it with a browser, print it from there. The page is A4 where on it the
 white between two lines that do not join is at least 0.2 mm, each joint has its dot, and a line keeps
-enough between two that go over it; else the first larger paper (A3, A2, ..) where this is so. Where it
-is so on none, there is no picture, but words that say what would mislead, and the exit code is 2.
+enough between two that go over it; else the first larger paper up to A0 where this is so. Where it is so on
+none of these, the sheet is stretched where lines are near to each other, across and down, on papers up to
+4A0: the order of all places is kept, so that lines that cross still cross and no others do, but it is not to
+scale, and the last line of the page says so. Where that does not do either, papers up to 4756 by 3364 mm are
+tried on which a line may go under several others in one gap of 4 mm at most; else there is no picture, but
+words that say what would mislead, and the exit code is 2.
 
 Nodes are boxes with their ids, ports are squares, routes are thin lines and bundles heavy ones, each
 with a colour and a mark of its own. A dot is a joint: a tap on its collector. Where lines cross

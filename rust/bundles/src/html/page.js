@@ -179,7 +179,10 @@ if (svg) {
     event.preventDefault();
     zoom(event.deltaY > 0 ? 1.2 : 1 / 1.2, place(event.clientX, event.clientY));
   }, { passive: false });
-  svg.addEventListener("focusin", (event) => show(wayOf(event.target)));
+  // A finger may leave the focus on a neighbour of what it chose: only the keys lift by it.
+  svg.addEventListener("focusin", (event) => {
+    if (event.target.matches(":focus-visible")) show(wayOf(event.target));
+  });
   addEventListener("beforeprint", () => svg.setAttribute("viewBox", full.join(" ")));
   addEventListener("afterprint", look);
 }

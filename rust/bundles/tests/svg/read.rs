@@ -174,11 +174,18 @@ pub fn beside([a, b]: Line, side: f64) -> Line {
     [to(a), to(b)]
 }
 
-/// How near two lists of lines come to each other, and where, but for the places left out.
+/// How near two lists of lines come to each other, and where, but for the places left out. What is
+/// further than `FAR` is not told.
 pub fn nearest(one: &[Line], two: &[Line], but: impl Fn((f64, f64)) -> bool) -> (f64, (f64, f64)) {
     let mut least = (f64::INFINITY, (0.0, 0.0));
+    let (Some(of_one), Some(of_two)) = (around(one), around(two)) else {
+        return least;
+    };
+    let one = one.iter().filter(|line| far(line, &of_two) < FAR);
+    let two = two.iter().filter(|line| far(line, &of_one) < FAR);
+    let two = two.collect::<Vec<_>>();
     for a in one {
-        for b in two {
+        for b in &two {
             if far(a, b) >= least.0 {
                 continue;
             }
@@ -189,6 +196,20 @@ pub fn nearest(one: &[Line], two: &[Line], but: impl Fn((f64, f64)) -> bool) -> 
         }
     }
     least
+}
+
+const FAR: f64 = 3.0;
+
+/// Two corners of the box around lines.
+fn around(lines: &[Line]) -> Option<Line> {
+    let points = lines.iter().flatten();
+    points.fold(None, |box_of: Option<Line>, at| {
+        let [low, high] = box_of.unwrap_or([*at; 2]);
+        Some([
+            (low.0.min(at.0), low.1.min(at.1)),
+            (high.0.max(at.0), high.1.max(at.1)),
+        ])
+    })
 }
 
 /// A distance that two lines have at least.
