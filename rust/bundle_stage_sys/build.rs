@@ -1,6 +1,6 @@
 //! Finds the static library of the proved stage: in the folder that STAGE_LIB names; else in
 //! target/staticlib of the repository. Where it is not there, the build fails at once and says how to
-//! make it; with STAGE_PROVE=1 it has `rt staticlib stage` make it, which takes some ten minutes.
+//! make it; with STAGE_PROVE=1 it has `rt staticlib stage` make it, which proves every crate below it.
 
 #![forbid(unsafe_code)]
 
@@ -64,7 +64,7 @@ fn repository_s() -> PathBuf {
         if env::var_os("STAGE_PROVE").is_none_or(|value| value != "1") {
             fail(&format!(
                 "{LIBRARY}, the proved stage, is not in {}.\nEither run `rt staticlib stage` in {} \
-                 (from nothing some ten minutes), or `./run` there, which does so; or set STAGE_LIB \
+                 (from nothing it proves every crate below it), or `./run` there, which does so; or set STAGE_LIB \
                  to the absolute path of a folder that has {LIBRARY} in it; or set STAGE_PROVE=1, \
                  and this build runs `rt staticlib stage` itself.",
                 folder.display(),
