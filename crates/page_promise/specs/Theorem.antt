@@ -23,7 +23,7 @@ use Rattle.bundle_page.specs.AnswerPage.{answer_page}
 use Rattle.bundle_page.specs.PageReads.{PageReads}
 use Rattle.bundle_page.specs.PartsLaws.{chosen}
 use Rattle.bundle_page.specs.Exact.{answer_page_length, page_at_most}
-use Rattle.bundle_page.specs.Reads.{Prints, page-reads}
+use Rattle.bundle_page.specs.Reads.{Prints, page_reads}
 use Rattle.page_promise.specs.PageFits.{PageFits, page_fits}
 use Rattle.page_promise.specs.BundleIds.{bundle_ids}
 use Rattle.page_promise.specs.Upright.{answer_upright, answer_ids}
@@ -55,7 +55,7 @@ prints (t ∷ ts) h k =
     )
 
 pub reads_back : (s : Sheet) → PageFits s.bundles → Every (λ (t : Trunk). t.id < 2 ^ 32) s.bundles → PageReads id_columns (answer_page id_columns s) s.bundles
-reads_back s h k = page-reads id_columns s.bundles (lit< tt) (prints s.bundles h k)
+reads_back s h k = page_reads id_columns s.bundles (lit< tt) (prints s.bundles h k)
 
 -- ---- at the front of a buffer
 front : (buffer p : List ℕ) → length p ≤ length buffer → take (length p) (sets buffer 0 p) ≡ p
