@@ -3,6 +3,9 @@
 // Ported from cachanova/schemweave, commit c4a1a2c60a, crates/schemweave/src/boundary_bundles.rs
 // (Apache-2.0, see NOTICE). What the slices hold, and how the geometry visits are lent, is said in
 // crate checks.
+
+#![tactic(auto)]
+
 ghost use Rattle.std.specs.Prelude.{◌≡◌, false, [], ◌∷◌, ◌++◌, map, ◌+◌, ◌*◌, ◌≤◌, length, take};
 ghost use Rattle.limits.specs.Limits.{max_bundles};
 ghost use Rattle.geometry.specs.declared.Tap.TheVariants.{Absent};

@@ -4,6 +4,9 @@
 // (Apache-2.0, see NOTICE). The present routes are in slots (crate route). Member k of the table of
 // members has its edge at place k of edges, its tap lane at place k of lanes and its tap as x and y
 // at point k of taps; a bundle's members are count places from first on.
+
+#![tactic(auto)]
+
 ghost use Rattle.std.specs.Prelude.{◌≡◌, [], ◌+◌, ◌*◌, ◌≤◌, length, get_or};
 ghost use Rattle.geometry.specs.Points.{points_from};
 ghost use Rattle.route.specs.Slots.{routes_of};
@@ -24,7 +27,7 @@ use plan::Bound;
 use route::Crossing;
 
 // The lowest and the highest y of a bundle's taps and its endpoint.
-#[derive(Drop)]
+#[derive(Clone, Copy)]
 pub struct Reach {
     pub low: f64,
     pub high: f64,

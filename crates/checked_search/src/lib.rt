@@ -3,6 +3,9 @@
 //
 // Ported from cachanova/schemweave, commit c4a1a2c60a, crates/schemweave/src/boundary_bundles.rs
 // (Apache-2.0, see NOTICE); the refusals are added.
+
+#![tactic(auto)]
+
 ghost use Rattle.search_calls.specs.Entry.{bounds, collector_bounds, search_number, search_says, promotion_number, promotion_says, Replied, Untouched};
 
 use limits::{ENTRY_WORK, LARGEST_LIST, MOST_KEPT, PROMOTION_SCRATCH, SEARCH_SCRATCH};

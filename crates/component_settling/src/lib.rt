@@ -2,6 +2,9 @@
 //
 // Ported from cachanova/schemweave, commit c4a1a2c60a, crates/schemweave/src/boundary_bundles.rs
 // (Apache-2.0, see NOTICE): plan_interior_collectors, without its separation.
+
+#![tactic(auto)]
+
 ghost use Rattle.std.specs.Prelude.{◌≡◌, List, ◌≤◌, take};
 ghost use Rattle.limits.specs.Limits.{max_bundles};
 ghost use Rattle.geometry.specs.Points.{Route};

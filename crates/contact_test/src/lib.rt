@@ -5,6 +5,9 @@
 // (Apache-2.0, see NOTICE); names are those of that module where it has one. Every test compares
 // and rounds as the definition that its contract cites says: nothing here has a tolerance but
 // preserved_point_matches.
+
+#![tactic(auto)]
+
 ghost use Rattle.std.specs.Prelude.{◌≡◌};
 ghost use Rattle.geometry.specs.Contact.{matches, slanted, across, upright, place, in_line, crossing, meet, at_tap, strict};
 ghost use Rattle.geometry.specs.Kind.{kind_at, kind_of, kind, disallowed, number};

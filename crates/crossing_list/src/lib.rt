@@ -2,6 +2,9 @@
 //
 // An entry is the point as two f64, the bundle id and the edge id as u32: 24 bytes. With at most
 // 1,024 entries the list has at most 24,578 bytes. The rows are those that crate crossing_walk kept.
+
+#![tactic(auto)]
+
 ghost use Rattle.std.specs.Prelude.{◌≡◌, map, ◌+◌, ◌*◌, ◌<◌, ◌≤◌, length};
 ghost use Rattle.std.proofs.lemmas.List.Edits.{sets};
 ghost use Rattle.answer.specs.Answer.{all_bytes};

@@ -1,4 +1,7 @@
 // F-7's list of a finished sheet, before the last shift: counted, then written.
+
+#![tactic(auto)]
+
 ghost use Rattle.std.specs.Prelude.{◌≡◌, ◌*◌, ◌≤◌, ltb, length};
 ghost use Rattle.std.proofs.lemmas.List.Edits.{sets};
 ghost use Rattle.limits.specs.Limits.{max_edges, max_bundles, slot_numbers, max_crossings, crossings_room};

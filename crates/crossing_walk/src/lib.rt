@@ -4,6 +4,9 @@
 // the two ids of each crossing in lent slices: row i has its place at point i of places, its ids at
 // 2 i and 2 i + 1 of names. There is room for 1,024 rows; a count of 1,025 stands for any more. Most
 // runs are apart from a segment, and a few comparisons tell, as in the contact check.
+
+#![tactic(auto)]
+
 ghost use Rattle.std.specs.Prelude.{◌≡◌, [], ◌∷◌, map, ◌+◌, ◌*◌, ◌≤◌, length, take};
 ghost use Rattle.limits.specs.Limits.{max_edges, max_bundles, slot_numbers};
 ghost use Rattle.geometry.specs.declared.Tap.TheVariants.{Absent};

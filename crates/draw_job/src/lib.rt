@@ -3,6 +3,9 @@
 //
 // Ported from cachanova/schemweave, commit c4a1a2c60a, crates/schemweave/src/boundary_bundles.rs
 // (Apache-2.0, see NOTICE).
+
+#![tactic(auto)]
+
 ghost use Rattle.std.specs.Prelude.{◌≡◌, false, ℕ, ◌*◌, ◌≤◌, length};
 ghost use Rattle.limits.specs.Limits.{max_edges, max_members, page_room, crossings_room, candidate_room, search_work};
 ghost use Rattle.components.specs.Settled.{step_in};

@@ -1,4 +1,7 @@
 // Reading the table of bundles with their members: one loop for each, which looks every id up.
+
+#![tactic(auto)]
+
 ghost use Rattle.std.specs.Prelude.{◌≡◌, ◌<◌, ◌≤◌, length};
 ghost use Rattle.limits.specs.Limits.{max_bundles, key_room};
 ghost use Rattle.job.specs.Reads.{first-keys, BundlesTold};

@@ -3,6 +3,9 @@
 //
 // Ported from cachanova/schemweave, commit c4a1a2c60a, crates/schemweave/src/boundary_bundles.rs
 // (Apache-2.0, see NOTICE).
+
+#![tactic(auto)]
+
 ghost use Rattle.std.specs.Prelude.{◌≡◌, false, ◌≤◌, length};
 ghost use Rattle.limits.specs.Limits.{max_edges, max_members, answer_room, page_room, crossings_room, point_numbers, tap_numbers, slot_numbers, candidate_room};
 ghost use Rattle.plan_stage.specs.Entries.{told_with};

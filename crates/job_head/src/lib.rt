@@ -1,4 +1,7 @@
 // Reading the head of a job: flags, options, grants, counts.
+
+#![tactic(auto)]
+
 ghost use Rattle.std.specs.Prelude.{◌≡◌, List, ℕ, ◌+◌, ◌<◌, drop};
 ghost use Rattle.limits.specs.Limits.{job_room};
 ghost use Rattle.job.specs.Job.{flags_of, options, grants, counts, header};

@@ -1,4 +1,7 @@
 // Reading tables: a loop for each, which looks every id up.
+
+#![tactic(auto)]
+
 ghost use Rattle.std.specs.Prelude.{◌≡◌, ◌+◌, ◌*◌, ◌<◌, ◌≤◌, length, drop};
 ghost use Rattle.limits.specs.Limits.{max_nodes, max_ports, max_edges, max_route_points, max_points, key_room, point_numbers};
 ghost use Rattle.wire.specs.Read.{many};

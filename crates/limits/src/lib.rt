@@ -1,6 +1,8 @@
 // The limits of a job, from document 01's section "The job", and the sizes of lists and buffers that
 // follow from them. Each has the name of its definition in specs/Limits.antt.
 
+#![tactic(auto)]
+
 // ---- "Limits"
 
 pub const MAX_NODES: usize = 128;

@@ -4,6 +4,9 @@
 // (Apache-2.0, see NOTICE). The present routes are in slots (crate route). Member k of the table of
 // members has its edge at place k of edges, its tap lane at place k of lanes and its tap as x and y
 // at point k of taps; a bundle's members are count places from first on.
+
+#![tactic(auto)]
+
 ghost use Rattle.std.specs.Prelude.{◌≡◌, suc, ◌+◌, ◌*◌, ◌-◌, ◌<◌, ◌≤◌, length, get_or};
 ghost use Rattle.limits.specs.Limits.{max_lane, slot_points, slot_numbers};
 ghost use Rattle.geometry.specs.Points.{points_from};

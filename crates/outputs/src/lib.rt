@@ -1,11 +1,14 @@
 // What a call of stage_sheet is given and wants beside the job and the answer. What is written is in specs/Outputs.antt.
+
+#![tactic(auto)]
+
 ghost use Rattle.std.specs.Prelude.{◌≡◌};
 ghost use Rattle.outputs.specs.Outputs.{wants_of, lacks, too_short};
 
 use limits::{ANSWER_ROOM, CROSSINGS_ROOM, PAGE_ROOM};
 
 // Whether a plan is given, and the outputs that are wanted.
-#[derive(Drop)]
+#[derive(Clone, Copy)]
 pub struct Wants {
     pub plan: bool,
     pub page: bool,

@@ -1,5 +1,8 @@
 // The bundle page: decimal text in fixed columns. What is right stands in page_text/specs/Listing.antt.
 // Every write is a run of bytes stored from a place on, and nothing else changes.
+
+#![tactic(auto)]
+
 ghost use Rattle.std.specs.Prelude.{◌≡◌, ◌∷◌, [], ◌+◌, ◌*◌, ◌-◌, ◌<◌, ◌≤◌, length};
 ghost use Rattle.std.proofs.lemmas.List.Edits.{sets};
 ghost use Rattle.page_text.specs.Listing.{column, columns, right, number_field, letter, letter_field, cell, entry_line};

@@ -1,6 +1,9 @@
 // Prints lines of the bundle page for chosen ids and numbers of 128ths, and the page of three bundles.
 // The file stdout has what Python's exact decimals print for the same numbers:
 // f"{id:>10} {mark} {Decimal(x)/128:>20.7f} .."; three lines have the id in 20 columns.
+
+#![tactic(auto)]
+
 ghost use Rattle.std.specs.Prelude.{◌<◌, ◌≤◌};
 ghost use Rattle.bundle_page.specs.PageTables.{OnPage, Printable};
 

@@ -1,5 +1,8 @@
 // Writing the bundle page of an answer: one line per bundle. What is right stands in
 // bundle_page/specs/AnswerPage.antt.
+
+#![tactic(auto)]
+
 ghost use Rattle.std.specs.Prelude.{◌≡◌, ◌+◌, ◌*◌, ◌<◌, ◌≤◌, length, take};
 ghost use Rattle.std.proofs.lemmas.List.Edits.{sets};
 ghost use Rattle.limits.specs.Limits.{max_bundles, id_columns, page_room};

@@ -2,6 +2,9 @@
 //
 // Ported from cachanova/schemweave, commit c4a1a2c60a, crates/schemweave/src/boundary_bundles.rs
 // (Apache-2.0, see NOTICE).
+
+#![tactic(auto)]
+
 ghost use Rattle.std.specs.Prelude.{◌≡◌, List, ℕ, ◌+◌, ◌*◌, ◌≤◌, length, Float};
 ghost use Rattle.limits.specs.Limits.{max_edges, max_members};
 ghost use Rattle.geometry.specs.declared.Role.TheVariants.{Input, Output};

@@ -2,6 +2,9 @@
 //
 // Ported from cachanova/schemweave, commit c4a1a2c60a, crates/schemweave/src/boundary_bundles.rs
 // (Apache-2.0, see NOTICE).
+
+#![tactic(auto)]
+
 ghost use Rattle.std.specs.Prelude.{◌≡◌, List, map, ◌+◌, ◌*◌, ◌≤◌, length, take, Float};
 ghost use Rattle.plan.specs.Depths.{further, pitch_of};
 ghost use Rattle.board.specs.Board.{Board, window};

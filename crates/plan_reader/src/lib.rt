@@ -1,4 +1,7 @@
 // A plan's bytes, read (F-5): the plan that some bytes are for a job, or 17 or 18.
+
+#![tactic(auto)]
+
 ghost use Rattle.std.specs.Prelude.{◌≡◌, ◌+◌, ◌≤◌, ◌<◌, drop};
 ghost use Rattle.limits.specs.Limits.{max_bundles};
 ghost use Rattle.grid.specs.DraftingGrid.{on_plan_grid};
@@ -10,7 +13,7 @@ use plan::{Bound, Planned, Planning};
 use search::TapVisits;
 
 // An entry as it stands: neither mark, or cut off; none; a number's pattern.
-#[derive(Drop)]
+#[derive(Clone, Copy)]
 pub enum Entry {
     Bad,
     Empty,
@@ -45,7 +48,7 @@ fn entry_at(s: &[u8], at: usize) -> Entry
 }
 
 // A pattern's number, and whether 18 lets it pass; 0 where it is none.
-#[derive(Drop)]
+#[derive(Clone, Copy)]
 pub struct Judged {
     pub passes: bool,
     pub x: f64,
@@ -93,7 +96,7 @@ fn judged_number(b: u64, grid: bool) -> Judged
 
 // The entries of some bundles: whether each has its mark and its bytes, whether every number passes,
 // where they end.
-#[derive(Drop)]
+#[derive(Clone, Copy)]
 pub struct Entries {
     pub ok: bool,
     pub passes: bool,
@@ -146,7 +149,7 @@ fn read_entries(s: &[u8], from: usize, n: usize, grid: bool) -> Entries
 }
 
 // A plan that was read: 0, or 17 or 18; the plan says nothing then.
-#[derive(Drop)]
+#[derive(Clone, Copy)]
 pub struct PlanRead {
     pub number: u8,
     pub plan: Planning,

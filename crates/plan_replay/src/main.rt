@@ -1,6 +1,9 @@
 // Replays records of the Rust's plan: calls on standard input, results on standard output, in the
 // formats of rust/oracle/README.md, operations 31 to 35, 37 and 3B. A record that is too long, or the
 // end of the input, ends the program.
+
+#![tactic(auto)]
+
 ghost use Rattle.std.specs.Prelude.{◌≡◌, ℕ, ◌+◌, ◌≤◌, ◌<◌, length, get_or};
 ghost use Rattle.limits.specs.Limits.{max_edges, max_bundles, max_members, point_numbers};
 ghost use Rattle.plan.specs.BoardTables.{Sound, RoutesIn, no_member};
@@ -411,7 +414,7 @@ fn put_divergences(
 }
 
 // The places of the inputs, in job order.
-#[derive(Drop)]
+#[derive(Clone, Copy)]
 struct Inputs {
     rows: [usize; MAX_BUNDLES],
     count: usize,

@@ -1,4 +1,7 @@
 // A plan's bytes, written (F-5): what a plan's rows come to at the front of a buffer.
+
+#![tactic(auto)]
+
 ghost use Rattle.std.specs.Prelude.{◌≡◌, ◌+◌, ◌*◌, ◌≤◌, length, take};
 ghost use Rattle.std.proofs.lemmas.List.Edits.{sets};
 ghost use Rattle.limits.specs.Limits.{max_bundles, plan_room};

@@ -4,6 +4,9 @@
 // (Apache-2.0, see NOTICE): common_horizontal_collector_xs, common_horizontal_collector_x and
 // promotion_collector_candidates. The members' routes are windows of points in one lent slice of
 // coordinates, the route of member m being counts[m] points from point starts[m] on.
+
+#![tactic(auto)]
+
 ghost use Rattle.std.specs.Prelude.{◌+◌, ◌*◌, ◌≤◌, ◌<◌, length, take};
 ghost use Rattle.search.specs.Stretches.{members, routes, Windows, runs_in};
 ghost use Rattle.search.specs.Promotion.{with_adjacent, promotion_xs, Promotes};

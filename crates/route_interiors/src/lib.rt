@@ -3,6 +3,9 @@
 // Ported from cachanova/schemweave, commit c4a1a2c60a, crates/schemweave/src/boundary_bundles.rs
 // (Apache-2.0, see NOTICE). What the slices hold, and how the geometry visits are lent, is said in
 // crate checks.
+
+#![tactic(auto)]
+
 ghost use Rattle.std.specs.Prelude.{◌≡◌, ◌+◌, ◌*◌, ◌≤◌, length};
 ghost use Rattle.geometry.specs.Points.{points_from, runs};
 ghost use Rattle.drawing.specs.Check.{walk, inside_tests};

@@ -4,6 +4,9 @@
 // (Apache-2.0, see NOTICE); names are those of that module where it has one. A route is a window of
 // a lent slice of numbers: count points from point start on, point i having its x at 2 i and its y
 // at 2 i + 1. What is made is written from the start of another lent slice.
+
+#![tactic(auto)]
+
 ghost use Rattle.std.specs.Prelude.{◌≡◌, [], ◌∷◌, ◌+◌, ◌*◌, ◌-◌, ◌<◌, ◌≤◌, length};
 ghost use Rattle.geometry.specs.Points.{points_from};
 ghost use Rattle.route.specs.Push.{aligned, replaces, push_point};

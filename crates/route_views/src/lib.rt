@@ -4,6 +4,9 @@
 // (Apache-2.0, see NOTICE); names are those of that module where it has one. Every test compares
 // and rounds as the definition that its contract cites says: nothing here has a tolerance but
 // preserved_point_matches.
+
+#![tactic(auto)]
+
 ghost use Rattle.std.specs.Prelude.{◌≡◌, ◌+◌, ◌*◌, ◌-◌, ◌<◌, ◌≤◌, length};
 ghost use Rattle.geometry.specs.Points.{point_at, run_at, put_point};
 

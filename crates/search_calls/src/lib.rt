@@ -1,12 +1,14 @@
 // The calls of the public search entries: which are refused and what the others say (specs/Entry.antt), and
 // what a call answers.
 
+#![tactic(auto)]
+
 // What a public entry says: document 01's number of a refusal, or 0; the mark of the outcome (0
 // nothing common, 1 found or kept, 2 spent, 3 bounds absent, 4 the second search of a promotion
 // spent); the visits left; how many numbers stand at the front of the output, and the first of
 // them.
 #[repr(C)]
-#[derive(Drop)]
+#[derive(Clone, Copy)]
 pub struct SearchAnswer {
     pub number: u8,
     pub mark: u8,

@@ -1,5 +1,8 @@
 // The routes lent to a search, copied with plus zeros for minus zeros (F-1): what is lent is not
 // written to.
+
+#![tactic(auto)]
+
 ghost use Rattle.std.specs.Prelude.{◌≡◌, ◌+◌, ◌≤◌, length};
 ghost use Rattle.limits.specs.Limits.{member_numbers};
 ghost use Rattle.search_calls.specs.Copied.{windows_fit, Fitting, Put, Copied};

@@ -1,4 +1,7 @@
 // Which calls of the search get a number of document 01: places, counts, roles and numbers.
+
+#![tactic(auto)]
+
 ghost use Rattle.std.specs.Prelude.{◌≡◌, ◌&&◌, ◌+◌, ◌*◌, ◌≤◌, length};
 ghost use Rattle.limits.specs.Limits.{max_points};
 ghost use Rattle.binary64.specs.Accepted.{is_coordinate};

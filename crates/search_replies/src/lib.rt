@@ -1,4 +1,7 @@
 // What a call of the search says, and the list that it writes.
+
+#![tactic(auto)]
+
 ghost use Rattle.std.specs.Prelude.{◌≡◌, cond, ◌≤◌, ltb, length, take};
 ghost use Rattle.limits.specs.Limits.{most_kept};
 ghost use Rattle.search.specs.Search.{Fits, told, mark, first};

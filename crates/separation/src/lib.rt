@@ -2,6 +2,9 @@
 //
 // Ported from cachanova/schemweave, commit c4a1a2c60a, crates/schemweave/src/boundary_bundles.rs
 // (Apache-2.0, see NOTICE): the end of plan_interior_collectors, and collector_has_lane_separation.
+
+#![tactic(auto)]
+
 ghost use Rattle.std.specs.Prelude.{◌≡◌, cond, List, [], ◌∷◌, ◌++◌, map, ℕ, ◌+◌, ◌≤◌, ◌<◌, length, take};
 ghost use Rattle.limits.specs.Limits.{max_bundles};
 ghost use Rattle.binary64.specs.Order.{least, greatest};
@@ -20,14 +23,14 @@ use plan::{Bound, Planned, Planning, Range, Ranges};
 use search::{Bounds, CollectorBounds, Outcome, Searched, TapVisits};
 
 // The x taken so far by bundles of one role.
-#[derive(Drop)]
+#[derive(Clone, Copy)]
 pub struct Taken {
     pub xs: [f64; MAX_BUNDLES],
     pub count: usize,
 }
 
 // The same of both roles.
-#[derive(Drop)]
+#[derive(Clone, Copy)]
 pub struct Lanes {
     pub input: Taken,
     pub output: Taken,

@@ -4,6 +4,9 @@
 // (Apache-2.0, see NOTICE); names are those of that module where it has one. Every test compares
 // and rounds as the definition that its contract cites says: nothing here has a tolerance but
 // preserved_point_matches.
+
+#![tactic(auto)]
+
 ghost use Rattle.std.specs.Prelude.{◌≡◌};
 ghost use Rattle.geometry.specs.Enters.{inside, passes_inside, enters};
 ghost use Rattle.geometry.specs.Stretch.{stretch, holds, on_trunk};

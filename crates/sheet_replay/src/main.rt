@@ -1,6 +1,9 @@
 // Replays records of the Rust's sheet: calls on standard input, results on standard output, in the
 // formats of rust/oracle/README.md, operation 39: a job with its plan in, the sheet before the last shift
 // and after it out, or a refusal. A record that is too long, or the end of the input, ends the program.
+
+#![tactic(auto)]
+
 ghost use Rattle.std.specs.Prelude.{◌≡◌, ◌*◌, ◌≤◌, length};
 ghost use Rattle.limits.specs.Limits.{max_nodes, max_edges, max_bundles, max_members, point_numbers, slot_numbers, any_answer_room};
 ghost use Rattle.route.specs.Slots.{Held};

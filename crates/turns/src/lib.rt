@@ -6,6 +6,9 @@
 // members has its edge at place k of edges, its tap lane at place k of lanes and its tap as x and y
 // at point k of taps. The turns read nodes, edges and ports from slices of numbers, filled before the
 // first: boxes and ends (crate checks), and spots, whose point i is where the port of bundle i stands.
+
+#![tactic(auto)]
+
 ghost use Rattle.std.specs.Prelude.{◌≡◌, [], ◌∷◌, ◌++◌, map, ◌+◌, ◌*◌, ◌-◌, ◌<◌, ◌≤◌, length, get_or, take};
 ghost use Rattle.limits.specs.Limits.{max_nodes, max_bundles, max_members, slot_numbers};
 ghost use Rattle.route.specs.Slots.{routes_of, Held};
@@ -26,14 +29,14 @@ use limits::{MAX_BUNDLES, MAX_EDGES, MAX_NODES};
 use plan::{Bound, Offsets, Planned};
 
 // A bundle after its turn: its row counts if the verdict is clean.
-#[derive(Drop)]
+#[derive(Clone, Copy)]
 pub struct Turned {
     pub verdict: Verdict,
     pub row: DrawnBundle,
 }
 
 // The bundles drawn, and how the last turn ended.
-#[derive(Drop)]
+#[derive(Clone, Copy)]
 pub struct Drawing {
     pub verdict: Verdict,
     pub drawn: DrawnBundles,

@@ -1,0 +1,7 @@
+use Rattle.route.specs.Intersection.{meets, last_vertical_line_intersection}
+use borrow.Author.Rules.{rules}
+use Rattle.route_crossings.proofs.last_vertical_line_intersection.Goals as goal
+
+pub returns : goal.returns
+unfolding meets last_vertical_line_intersection
+returns c = c.last_crossing.ensures

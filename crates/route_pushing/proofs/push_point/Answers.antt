@@ -1,0 +1,23 @@
+use Rattle.route.specs.Window.{points_length}
+use Rattle.route.specs.WindowSteps.{replaces_some, in_place, after_it}
+use mathlib.Core.Path.{sym, ◌∙◌}
+use native.Mathlib.Omega.{arith}
+use borrow.Author.Rules.{rules}
+use Rattle.route_pushing.proofs.push_point.Goals as goal
+
+pub overflow_sub-count : goal.overflow_sub-count
+overflow_sub-count c =
+    let e = sym c.replaces_last.ensures ∙ c.if-replaces_last.true in
+    let k = replaces_some _ _ e in
+    let l = points_length c.args.points.now 0 c.args.count in
+    omega arith
+
+pub returns-then-replaces_last : goal.returns-then-replaces_last
+returns-then-replaces_last c =
+    let e = sym c.replaces_last.ensures ∙ c.if-replaces_last.true in
+    record { points = in_place _ _ _ _ c.requires e c.put_point.ensures; most = omega arith; }
+
+pub returns : goal.returns
+returns c =
+    let e = sym c.replaces_last.ensures ∙ c.if-replaces_last.false in
+    record { points = after_it _ _ _ _ c.requires e c.put_point-2.ensures; most = omega arith; }

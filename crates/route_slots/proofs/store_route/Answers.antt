@@ -1,0 +1,9 @@
+use Rattle.route.specs.WindowSteps.{stores}
+use native.Mathlib.Omega.{arith}
+use borrow.Author.Rules.{rules}
+use Rattle.route_slots.proofs.store_route.Goals as goal
+
+pub returns : goal.returns
+returns c =
+    let a = c.args in
+    stores a.points.now a.slots.now _ a.counts.now a.start a.count a.e (omega arith) (omega arith) (omega arith) c.copy_points.ensures

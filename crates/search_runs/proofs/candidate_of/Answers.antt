@@ -1,0 +1,43 @@
+-- `search_runs::candidate_of` meets its contract. Assumes nothing.
+use mathlib.Core.Path.{◌≡◌}
+use mathlib.Core.Bool.{true, false}
+use lib.Ieee.{Float, lt}
+use borrow.Author.Rules.{rules}
+use Rattle.binary64.specs.Order.{least, greatest}
+use Rattle.geometry.specs.declared.Role.{Role}
+use Rattle.geometry.specs.declared.Role.TheVariants.{Input, Output}
+use Rattle.geometry.specs.declared.Stretch.{Stretch}
+use Rattle.geometry.specs.declared.Stretch.TheVariants.{Of}
+use Rattle.search.specs.declared.Bounds.{Bounds}
+use Rattle.search.specs.declared.Candidate.TheVariants.{Missing, At}
+use Rattle.search.specs.Search.{candidate}
+use Rattle.search_runs.proofs.candidate_of.Goals as goal
+
+module _ (role : Role) (b : Bounds) (s : Stretch) (from to low high x : Float)
+    (hs : s ≡ Of from to) (hl : low ≡ greatest from b.minimum) (hh : high ≡ least to b.maximum) where
+  empty : lt high low ≡ true → Missing ≡ candidate role b s
+  empty t = rw (hs, ← hl, ← hh, t)
+
+  input : lt high low ≡ false → role ≡ Input → x ≡ least high b.desired → At x ≡ candidate role b s
+  input t hr hx = rw (hs, ← hl, ← hh, t, hr, hx)
+
+  output : lt high low ≡ false → role ≡ Output → x ≡ greatest low b.desired → At x ≡ candidate role b s
+  output t hr hx = rw (hs, ← hl, ← hh, t, hr, hx)
+
+pub returns-then-low-high : goal.returns-then-low-high
+returns-then-low-high c =
+    let a = c.args in
+    let g = c.s-1.given in
+    empty a.role a.b a.s g.0.0 g.0.1.0 c.max-low.result c.min-high.result c.min-high.result g.1 c.max-low.ensures c.min-high.ensures c.if-low-high.true
+
+pub returns-in-Input : goal.returns-in-Input
+returns-in-Input c =
+    let a = c.args in
+    let g = c.s-1.given in
+    input a.role a.b a.s g.0.0 g.0.1.0 c.max-low.result c.min-high.result c.min.result g.1 c.max-low.ensures c.min-high.ensures c.if-low-high.false c.in-Input.is c.min.ensures
+
+pub returns-in-Output : goal.returns-in-Output
+returns-in-Output c =
+    let a = c.args in
+    let g = c.s-1.given in
+    output a.role a.b a.s g.0.0 g.0.1.0 c.max-low.result c.min-high.result c.max.result g.1 c.max-low.ensures c.min-high.ensures c.if-low-high.false c.in-Output.is c.max.ensures

@@ -1,0 +1,5 @@
+use borrow.Author.Rules.{rules}
+use Rattle.shapes.proofs.run_enters.Goals as goal
+
+pub returns : goal.returns
+returns c = rw (← c.is_slanted-refused.ensures, ← c.run_passes_inside-passes.ensures)

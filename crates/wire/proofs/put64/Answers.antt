@@ -1,0 +1,34 @@
+use native.Mathlib.Omega.{arith}
+use lib.ListN.{length-set}
+use native.Mathlib.Numerals.{add-one, add-two, add-three, add-four, add_five, add_six, add_seven}
+use Rattle.wire.specs.Bytes.{bytes}
+use borrow.Author.Rules.{rules}
+use Rattle.wire.proofs.put64.Goals as goal
+
+pub bounds-out-at-2 : goal.bounds-out-at-2
+bounds-out-at-2 c = simp length-set (omega arith)
+
+pub bounds-out-at-3 : goal.bounds-out-at-3
+bounds-out-at-3 c = simp length-set (omega arith)
+
+pub bounds-out-at-4 : goal.bounds-out-at-4
+bounds-out-at-4 c = simp length-set (omega arith)
+
+pub bounds-out-at-5 : goal.bounds-out-at-5
+bounds-out-at-5 c = simp length-set (omega arith)
+
+pub bounds-out-at-6 : goal.bounds-out-at-6
+bounds-out-at-6 c = simp length-set (omega arith)
+
+pub bounds-out-at-7 : goal.bounds-out-at-7
+bounds-out-at-7 c = simp length-set (omega arith)
+
+pub bounds-out-at-8 : goal.bounds-out-at-8
+bounds-out-at-8 c = simp length-set (omega arith)
+
+pub shape_of-out : goal.shape_of-out
+shape_of-out c = simp length-set
+
+pub returns : goal.returns
+unfolding bytes
+returns c = simp (add-one, add-two, add-three, add-four, add_five, add_six, add_seven)
