@@ -27,17 +27,14 @@ module _ (role : Role) (b : Bounds) (s : Stretch) (from to low high x : Float)
 pub returns-then-low-high : goal.returns-then-low-high
 returns-then-low-high c =
     let a = c.args in
-    let g = c.s-1.given in
-    empty a.role a.b a.s g.0.0 g.0.1.0 c.max-low.result c.min-high.result c.min-high.result g.1 c.max-low.ensures c.min-high.ensures c.if-low-high.true
+    empty a.role a.b a.s c.in-Of.segment_low c.in-Of.segment_high c.max-low.result c.min-high.result c.min-high.result c.in-Of.is c.max-low.ensures c.min-high.ensures c.if-low-high.true
 
 pub returns-in-Input : goal.returns-in-Input
 returns-in-Input c =
     let a = c.args in
-    let g = c.s-1.given in
-    input a.role a.b a.s g.0.0 g.0.1.0 c.max-low.result c.min-high.result c.min.result g.1 c.max-low.ensures c.min-high.ensures c.if-low-high.false c.in-Input.is c.min.ensures
+    input a.role a.b a.s c.in-Of.segment_low c.in-Of.segment_high c.max-low.result c.min-high.result c.min.result c.in-Of.is c.max-low.ensures c.min-high.ensures c.if-low-high.false c.in-Input.is c.min.ensures
 
 pub returns-in-Output : goal.returns-in-Output
 returns-in-Output c =
     let a = c.args in
-    let g = c.s-1.given in
-    output a.role a.b a.s g.0.0 g.0.1.0 c.max-low.result c.min-high.result c.max.result g.1 c.max-low.ensures c.min-high.ensures c.if-low-high.false c.in-Output.is c.max.ensures
+    output a.role a.b a.s c.in-Of.segment_low c.in-Of.segment_high c.max-low.result c.min-high.result c.max.result c.in-Of.is c.max-low.ensures c.min-high.ensures c.if-low-high.false c.in-Output.is c.max.ensures

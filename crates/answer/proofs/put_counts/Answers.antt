@@ -1,0 +1,8 @@
+use Prim.Native.Nat.{◌-◌}
+use lib.ListN.{length}
+use Rattle.answer.specs.Stores.{counts_joined}
+use borrow.Author.Rules.{rules}
+use Rattle.answer.proofs.put_counts.Goals as goal
+
+pub returns : goal.returns
+returns c = rw (c.put_count-3.ensures, c.put_count-2.ensures, c.put_count.ensures) (counts_joined _ _ _ _ _)

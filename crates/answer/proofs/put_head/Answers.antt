@@ -1,0 +1,8 @@
+use Prim.Native.Nat.{◌-◌}
+use lib.ListN.{length}
+use Rattle.answer.specs.Stores.{head_joined}
+use borrow.Author.Rules.{rules}
+use Rattle.answer.proofs.put_head.Goals as goal
+
+pub returns : goal.returns
+returns c = rw (c.put_counts.ensures, c.put_number-2.ensures, c.put_number.ensures, c.put32-2.ensures, c.put32.ensures, c.put8-2.ensures, c.put8.ensures) (head_joined _ _ _ _ _ _ _ _ _)

@@ -1,0 +1,8 @@
+use Prim.Native.Nat.{◌-◌}
+use lib.ListN.{length}
+use Rattle.answer.specs.Stores.{point_joined}
+use borrow.Author.Rules.{rules}
+use Rattle.answer.proofs.put_point.Goals as goal
+
+pub returns : goal.returns
+returns c = rw (c.put_number-2.ensures, c.put_number.ensures) (point_joined _ _ _)

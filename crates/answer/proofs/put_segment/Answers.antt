@@ -1,0 +1,8 @@
+use Prim.Native.Nat.{◌-◌}
+use lib.ListN.{length}
+use Rattle.answer.specs.Stores.{segment_joined}
+use borrow.Author.Rules.{rules}
+use Rattle.answer.proofs.put_segment.Goals as goal
+
+pub returns : goal.returns
+returns c = rw (c.put_point-2.ensures, c.put_point.ensures) (segment_joined _ _ _)

@@ -1,0 +1,12 @@
+use Prim.Native.Nat.{◌-◌}
+use mathlib.Core.Path.{ap}
+use lib.ListN.{length}
+use Rattle.wire.specs.Bytes.{bytes}
+use Rattle.answer.specs.Answer.{tap_bytes}
+use Rattle.answer.specs.Stores.{point_joined, id_point_joined}
+use borrow.Author.Rules.{rules}
+use Rattle.answer.proofs.put_tap.Goals as goal
+
+pub returns : goal.returns
+unfolding tap_bytes
+returns c = rw (c.put_point.ensures, c.put_id.ensures) (id_point_joined _ _ _ _)

@@ -1,0 +1,9 @@
+use Prim.Native.Nat.{◌-◌}
+use mathlib.Core.Path.{refl}
+use lib.ListN.{length}
+use Rattle.answer.specs.Stores.{notice_joined}
+use borrow.Author.Rules.{rules}
+use Rattle.answer.proofs.write_notice.Goals as goal
+
+pub returns : goal.returns
+returns c = record { bytes = rw (c.put8-2.ensures, c.put8.ensures, c.put32.ensures) (notice_joined _ 0 _); place = refl; }

@@ -1,0 +1,21 @@
+use borrow.Author.Rules.{rules}
+use native.Mathlib.Omega.{arith}
+use mathlib.Core.Path.{◌≡◌, refl, sym, ap, ◌∙◌}
+use Prim.Native.Nat.{ℕ, suc, ◌≤◌, ◌<◌, ◌+◌, ◌-◌, ◌*◌}
+use lib.ListN.{length, get_or, take}
+use mathlib.Core.Bool.{Bool}
+use Rattle.geometry.specs.declared.Segment.{Segment}
+use Rattle.board.specs.declared.Bundle.{Bundle}
+use Rattle.board.specs.declared.DrawnBundle.{DrawnBundle}
+use Rattle.checks.specs.MemberSlices.{drawn_row}
+use Rattle.bundle_geometry.proofs.drawn_with.Goals as goal
+
+abbrev marked : Bundle → Segment → Segment → Bool → DrawnBundle
+marked u collector spine i = record { id = u.id; interior = i; collector = collector; spine = spine; first = u.first; count = u.count }
+
+pub returns : goal.returns
+unfolding drawn_row
+returns c =
+    let a = c.args in
+    let e = rw (c.pitch_of_bundle-pitch.ensures, c.boundary_bundle_rail_depth-depth.ensures) at c.counts_interior-interior.ensures in
+    ap (λ (i : Bool). marked a.u a.collector a.spine i) e

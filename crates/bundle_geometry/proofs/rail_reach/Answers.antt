@@ -1,0 +1,19 @@
+use borrow.Author.Rules.{rules}
+use native.Mathlib.Omega.{arith}
+use mathlib.Core.Path.{◌≡◌, refl, sym, ap, ◌∙◌}
+use Prim.Native.Nat.{ℕ, suc, ◌≤◌, ◌<◌, ◌+◌, ◌-◌, ◌*◌}
+use lib.ListN.{length, get_or, take}
+use mathlib.Core.List.{[]}
+use Rattle.bundle_geometry.proofs.Taps.{rail_none, rail_first, rail_last}
+use Rattle.bundle_geometry.proofs.rail_reach.Goals as goal
+
+pub returns-then-count-eq0 : goal.returns-then-count-eq0
+returns-then-count-eq0 c =
+    let a = c.args in
+    -- RECORD ['low', 'high']
+    rail_none [] a.taps.now a.y a.first a.count c.if-count-eq0.true
+
+pub returns : goal.returns
+returns c =
+    let a = c.args in
+    record { low = rw (c.min-low.ensures, c.point_at-a.ensures) (rail_first [] a.taps.now a.y a.first a.count c.if-count-eq0.false); high = rw (c.max-high.ensures, c.point_at-b.ensures) (rail_last [] a.taps.now a.y a.first a.count c.if-count-eq0.false); }

@@ -1,0 +1,8 @@
+-- `crossing_walk::walk_route` meets its contract. Assumes nothing.
+use Rattle.crossing_rows.specs.Walk.{route_grown}
+use Rattle.geometry.specs.Points.{points_from}
+use borrow.Author.Rules.{rules}
+use Rattle.crossing_walk.proofs.walk_route.Goals as goal
+
+pub returns : goal.returns
+returns c = let a = c.args in route_grown a.d a.edge (points_from a.points.now a.start a.long) _ _ _ _ _ _ _ _ _ c.walk_runs-k.ensures c.walk_runs.ensures

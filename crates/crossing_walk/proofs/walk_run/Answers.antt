@@ -1,0 +1,11 @@
+-- `crossing_walk::walk_run` meets its contract. Assumes nothing.
+use Rattle.crossing_rows.specs.Keep.{grown_none}
+use Rattle.crossing_rows.specs.Walk.{grown_as, row_hit, row_miss}
+use borrow.Author.Rules.{rules}
+use Rattle.crossing_walk.proofs.walk_run.Goals as goal
+
+pub returns-then-is_crossing : goal.returns-then-is_crossing
+returns-then-is_crossing c = let a = c.args in grown_as _ _ _ _ _ _ _ _ (row_hit a.bus a.bundle a.edge a.run _ _ c.is_crossing.ensures c.if-is_crossing.true c.crossing_point-p.ensures) c.keep.ensures
+
+pub returns : goal.returns
+returns c = let a = c.args in grown_as _ _ _ _ _ _ _ _ (row_miss a.bus a.bundle a.edge a.run _ c.is_crossing.ensures c.if-is_crossing.false) (grown_none _ _ _)

@@ -1,0 +1,6 @@
+use Rattle.wire.specs.AcceptLaws.{not_nan}
+use borrow.Author.Rules.{rules}
+use Rattle.records.proofs.f64_at.Goals as goal
+
+pub float_from_bits-result : goal.float_from_bits-result
+float_from_bits-result c = not_nan _ c.if-b-gt9218868437227405312.false

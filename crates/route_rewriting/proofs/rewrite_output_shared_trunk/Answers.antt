@@ -1,0 +1,20 @@
+use Rattle.route.specs.WindowSteps.{within_last}
+use Rattle.route.specs.Remade.{is_output_trunk}
+use Rattle.route.specs.Intersection.{meets, last_shared_trunk_intersection}
+use Rattle.geometry.specs.Points.{points_from}
+use Rattle.route.specs.declared.Line.TheVariants.{Trunk}
+use Rattle.geometry.specs.declared.Role.TheVariants.{Output}
+use native.Mathlib.Omega.{arith}
+use borrow.Author.Rules.{rules}
+use Rattle.route_rewriting.proofs.rewrite_output_shared_trunk.Goals as goal
+
+pub join-requires : goal.join-requires
+unfolding last_shared_trunk_intersection meets
+join-requires c =
+    let a = c.args in
+    (within_last (Trunk Output a.minimum-length) _ a.points.now a.start a.count _ c.last_shared_trunk_intersection-found.ensures, omega arith, omega arith)
+
+pub returns : goal.returns
+returns c =
+    let a = c.args in
+    rw (c.last_shared_trunk_intersection-found.ensures, is_output_trunk (points_from a.points.now a.start a.count) a.tap a.minimum-length) at c.join.ensures
