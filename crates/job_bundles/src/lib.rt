@@ -4,7 +4,7 @@
 
 ghost use Rattle.std.specs.Prelude.{◌≡◌, ◌<◌, ◌≤◌, length};
 ghost use Rattle.limits.specs.Limits.{max_bundles, key_room};
-ghost use Rattle.job.specs.Reads.{first-keys, BundlesTold};
+ghost use Rattle.job.specs.Reads.{first_keys, BundlesTold};
 
 use board::{Bundle, Bundles, Member, Members};
 use geometry::Role;
@@ -35,7 +35,7 @@ pub fn read_bundles(
     requires from_bound { (from < 60000) × (count ≤ max_bundles) × (n ≤ key_room) × (p ≤ key_room) × (e ≤ key_room) }
     requires node_ids_len { (length node_ids.now ≡ key_room) × (length port_nodes.now ≡ key_room) × (length port_ids.now ≡ key_room) × (length edge_ids.now ≡ key_room) × (length zeros.now ≡ key_room) }
     requires ids_len { (length ids.old ≡ key_room) × (length edges.old ≡ key_room) × (length roles.old ≡ key_room) }
-    ensures { BundlesTold s.now from count (first-keys node_ids.now zeros.now n) (first-keys port_nodes.now port_ids.now p) (first-keys edge_ids.now zeros.now e) ids.new edges.new roles.new result }
+    ensures { BundlesTold s.now from count (first_keys node_ids.now zeros.now n) (first_keys port_nodes.now port_ids.now p) (first_keys edge_ids.now zeros.now e) ids.new edges.new roles.new result }
 {
     let none = Bundle {
         id: 0,

@@ -7,7 +7,7 @@ ghost use Rattle.limits.specs.Limits.{max_nodes, max_ports, max_edges, max_route
 ghost use Rattle.wire.specs.Read.{many};
 ghost use Rattle.geometry.specs.Points.{points_from};
 ghost use Rattle.job.specs.Job.{point, push};
-ghost use Rattle.job.specs.Reads.{first-keys, ended-as, NodesTold, PortsTold, EdgesTold};
+ghost use Rattle.job.specs.Reads.{first_keys, ended_as, NodesTold, PortsTold, EdgesTold};
 
 use board::{Edge, PlacedNode, Port};
 use geometry::{Node, Point, Side};
@@ -71,7 +71,7 @@ pub fn read_ports(
 ) -> PortsRead
     requires from_bound { (from < 8192) × (count ≤ max_ports) × (n ≤ key_room) }
     requires node_ids_len { (length node_ids.now ≡ key_room) × (length zeros.now ≡ key_room) × (length nodes.old ≡ key_room) × (length ids.old ≡ key_room) }
-    ensures { PortsTold grid s.now from count (first-keys node_ids.now zeros.now n) nodes.new ids.new result }
+    ensures { PortsTold grid s.now from count (first_keys node_ids.now zeros.now n) nodes.new ids.new result }
 {
     let none = Port {
         node: 0,
@@ -129,7 +129,7 @@ fn read_points(
     grid: bool,
 ) -> Ended
     requires { (from < 60000) × (count ≤ max_route_points) × (total + count ≤ max_points) × (length points.old ≡ point_numbers) }
-    ensures { ended-as result (points_from points.new 0 (total + count)) (drop (from + 16 * count) s.now) ≡ many count (push (point grid)) (points_from points.old 0 total) (drop from s.now) }
+    ensures { ended_as result (points_from points.new 0 (total + count)) (drop (from + 16 * count) s.now) ≡ many count (push (point grid)) (points_from points.old 0 total) (drop from s.now) }
 {
     let mut at = from;
     let mut i: usize = 0;
@@ -161,7 +161,7 @@ pub fn read_edges(
 ) -> EdgesRead
     requires from_bound { (from < 16384) × (count ≤ max_edges) × (n ≤ key_room) × (length points.old ≡ point_numbers) }
     requires node_ids_len { (length node_ids.now ≡ key_room) × (length zeros.now ≡ key_room) × (length ids.old ≡ key_room) }
-    ensures { EdgesTold grid s.now from count (first-keys node_ids.now zeros.now n) points.new ids.new result }
+    ensures { EdgesTold grid s.now from count (first_keys node_ids.now zeros.now n) points.new ids.new result }
 {
     let none = Edge {
         id: 0,

@@ -14,7 +14,7 @@ use borrow.Author.Rules.{rules}
 use Rattle.bundle_contacts.proofs.verify_priors.Goals as goal
 use Rattle.bundle_contacts.proofs.verify_priors.Goals.{Start}
 
-rows : (s : Start) → length s.args.t4.rows ≡ max_bundles
+rows : (s : Start) → length s.args.priors.rows ≡ max_bundles
 rows s = search (rules, length_mapped)
 
 pub loop-i-init : goal.loop-i-init
@@ -26,25 +26,25 @@ verify_prior-f-requires c =
     let a = c.args in
     let l = c.loop-i in
     let r = rows (goal.at.verify_prior-f-requires c).Start in
-    (tabled_at a.t4.rows a.t4.count l.i _ a.edges.now a.taps.now l.invariant.2 c.loop-i-test.true (omega arith), l.invariant.3)
+    (tabled_at a.priors.rows a.priors.count l.i _ a.edges.now a.taps.now l.invariant.2 c.loop-i-test.true (omega arith), l.invariant.3)
 
 pub returns-in-Refused : goal.returns-in-Refused
 returns-in-Refused c =
     let a = c.args in
     let l = c.loop-i in
     let r = rows (goal.at.returns-in-Refused c).Start in
-    prior_off a.o a.allow a.new (chosen_by false a.changed.now) a.edges.now a.taps.now (routes_of a.points.now a.counts.now) a.t4.rows a.t4.count l.i _ l.left _ _ c.loop-i-test.true (omega arith) c.verify_prior-f.ensures _ c.in-Refused.is ∙ l.invariant.4
+    prior_off a.o a.allow a.new (chosen_by false a.changed.now) a.edges.now a.taps.now (routes_of a.points.now a.counts.now) a.priors.rows a.priors.count l.i _ l.left _ _ c.loop-i-test.true (omega arith) c.verify_prior-f.ensures _ c.in-Refused.is ∙ l.invariant.4
 
 pub loop-i-preserved : goal.loop-i-preserved
 loop-i-preserved c =
     let a = c.args in
     let l = c.loop-i in
     let r = rows (goal.at.loop-i-preserved c).Start in
-    (omega arith, l.invariant.1, l.invariant.2, l.invariant.3, prior_on a.o a.allow a.new (chosen_by false a.changed.now) a.edges.now a.taps.now (routes_of a.points.now a.counts.now) a.t4.rows a.t4.count l.i _ l.left _ _ c.loop-i-test.true (omega arith) c.verify_prior-f.ensures c.in_default.is ∙ l.invariant.4)
+    (omega arith, l.invariant.1, l.invariant.2, l.invariant.3, prior_on a.o a.allow a.new (chosen_by false a.changed.now) a.edges.now a.taps.now (routes_of a.points.now a.counts.now) a.priors.rows a.priors.count l.i _ l.left _ _ c.loop-i-test.true (omega arith) c.verify_prior-f.ensures c.in_default.is ∙ l.invariant.4)
 
 pub returns : goal.returns
 returns c =
     let a = c.args in
     let l = c.loop-i in
     let r = rows (goal.at.returns c).Start in
-    prior_end a.o a.allow a.new (chosen_by false a.changed.now) a.edges.now a.taps.now (routes_of a.points.now a.counts.now) a.t4.rows a.t4.count l.i l.left c.loop-i-test.false (omega arith) ∙ l.invariant.4
+    prior_end a.o a.allow a.new (chosen_by false a.changed.now) a.edges.now a.taps.now (routes_of a.points.now a.counts.now) a.priors.rows a.priors.count l.i l.left c.loop-i-test.false (omega arith) ∙ l.invariant.4

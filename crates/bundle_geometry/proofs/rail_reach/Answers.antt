@@ -10,8 +10,7 @@ use Rattle.bundle_geometry.proofs.rail_reach.Goals as goal
 pub returns-then-count-eq0 : goal.returns-then-count-eq0
 returns-then-count-eq0 c =
     let a = c.args in
-    -- RECORD ['low', 'high']
-    rail_none [] a.taps.now a.y a.first a.count c.if-count-eq0.true
+    let parts = rail_none [] a.taps.now a.y a.first a.count c.if-count-eq0.true in record { low = parts.0; high = parts.1; }
 
 pub returns : goal.returns
 returns c =

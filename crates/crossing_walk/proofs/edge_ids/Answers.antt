@@ -12,7 +12,7 @@ use borrow.Author.Rules.{rules}
 use Rattle.crossing_walk.proofs.edge_ids.Goals as goal
 use Rattle.crossing_walk.proofs.edge_ids.Goals.{Start}
 
-rows : (s : Start) → length s.args.t1.rows ≡ max_edges
+rows : (s : Start) → length s.args.table.rows ≡ max_edges
 rows s = search (rules, length_mapped)
 
 pub loop-i-init : goal.loop-i-init
@@ -23,10 +23,10 @@ loop-i-preserved c =
     let l = c.loop-i in
     let r = rows (goal.at.loop-i-preserved c).Start in
     let p = c.requires.1 in
-    (omega arith, length-set l.ids l.i _ ∙ l.invariant.1, ids_more l.ids c.args.t1.rows _ l.i _ refl (omega arith) (omega arith) l.invariant.2)
+    (omega arith, length-set l.ids l.i _ ∙ l.invariant.1, ids_more l.ids c.args.table.rows _ l.i _ refl (omega arith) (omega arith) l.invariant.2)
 
 pub returns : goal.returns
 returns c =
     let l = c.loop-i in
-    let e : l.i ≡ c.args.t1.count = omega arith in
-    ap (λ (k : ℕ). take k l.ids) (sym e) ∙ l.invariant.2 ∙ ap (λ (k : ℕ). map id_of (take k c.args.t1.rows)) e
+    let e : l.i ≡ c.args.table.count = omega arith in
+    ap (λ (k : ℕ). take k l.ids) (sym e) ∙ l.invariant.2 ∙ ap (λ (k : ℕ). map id_of (take k c.args.table.rows)) e

@@ -14,7 +14,7 @@ use borrow.Author.Rules.{rules}
 use Rattle.crossing_walk.proofs.walk_bundles.Goals as goal
 use Rattle.crossing_walk.proofs.walk_bundles.Goals.{Start}
 
-rows : (s : Start) → length s.args.t1.rows ≡ 32
+rows : (s : Start) → length s.args.drawn.rows ≡ 32
 rows s = search (rules, length_mapped)
 
 pub loop-i-init : goal.loop-i-init
@@ -37,8 +37,8 @@ loop-i-preserved c =
       f.auto.names ∙ l.invariant.5,
       l.invariant.6,
       l.invariant.7,
-      further _ _ _ _ _ _ _ _ _ _ _ _ _ l.invariant.8 f.ensures (bundles_step a.t1.rows a.t1.count a.ids.now (routes_of a.points.now a.counts.now) l.i _ (omega arith) (omega arith)),
+      further _ _ _ _ _ _ _ _ _ _ _ _ _ l.invariant.8 f.ensures (bundles_step a.drawn.rows a.drawn.count a.ids.now (routes_of a.points.now a.counts.now) l.i _ (omega arith) (omega arith)),
     )
 
 pub returns : goal.returns
-returns c = let a = c.args in let l = c.loop-i in let r = rows (goal.at.returns c).Start in kept_all _ _ _ _ _ _ (at_last _ _ _ _ _ _ _ _ l.invariant.8 (bundles_end a.t1.rows a.t1.count a.ids.now (routes_of a.points.now a.counts.now) l.i (omega arith) (omega arith)))
+returns c = let a = c.args in let l = c.loop-i in let r = rows (goal.at.returns c).Start in kept_all _ _ _ _ _ _ (at_last _ _ _ _ _ _ _ _ l.invariant.8 (bundles_end a.drawn.rows a.drawn.count a.ids.now (routes_of a.points.now a.counts.now) l.i (omega arith) (omega arith)))

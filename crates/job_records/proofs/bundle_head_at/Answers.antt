@@ -42,9 +42,6 @@ pub returns-in-Bad-r8 : goal.returns-in-Bad-r8
 unfolding told_bundle told_role told after
 returns-in-Bad-r8 c = rw (← c.word_at-r1.ensures, c.in-Good.is, ← c.word_at-r2.ensures, c.in-Good-r2.is, ← c.word_at-r3.ensures, c.in-Good-r3.is, ← c.byte_at-r4.ensures, c.in-Good-r4.is, ← c.role_of-r5.ensures, c.in-Good-r5.is, ← c.word_at-r6.ensures, c.in-Good-r6.is, ← c.half_at_most-r7.ensures, c.in-Good-r7.is, ← c.within_total-r8.ensures, c.in-Bad-r8.is)
 
-pub overflow_cast-result : goal.overflow_cast-result
-overflow_cast-result c = omega (arith, c.known_told-in-Good-1.given)
-
 pub returns : goal.returns
 unfolding told_bundle told_role told after
 returns c =

@@ -18,10 +18,10 @@ use borrow.Author.Rules.{rules}
 use Rattle.plan_corridors.proofs.fallback_corridors_by_edge.Goals as goal
 use Rattle.plan_corridors.proofs.fallback_corridors_by_edge.Goals.{Start}
 
-bundles-length : (s : Start) → length s.args.t3.rows ≡ max_bundles
+bundles-length : (s : Start) → length s.args.bundles.rows ≡ max_bundles
 bundles-length s = search (rules, laws.length_mapped)
 
-offsets_length : (s : Start) → length s.args.t7.rows ≡ max_bundles
+offsets_length : (s : Start) → length s.args.offsets.rows ≡ max_bundles
 offsets_length s = search (rules, laws.length_mapped)
 
 pub loop-i-init : goal.loop-i-init
@@ -55,7 +55,7 @@ pub loop-i-preserved-then-is_same_role : goal.loop-i-preserved-then-is_same_role
 loop-i-preserved-then-is_same_role c =
     let a = c.args in
     let l = c.loop-i in
-    let h : l.i < a.t3.count = c.loop-i-test.true in
+    let h : l.i < a.bundles.count = c.loop-i-test.true in
     let rail = c.boundary_bundle_rail_depth-rail in
     let same = c.is_same_role in
     let yes = c.if-is_same_role.true in
@@ -64,14 +64,14 @@ loop-i-preserved-then-is_same_role c =
     let f = c.add_corridors in
     let k = bundles-length (goal.at.loop-i-preserved-then-is_same_role c).Start in
     let ko = offsets_length (goal.at.loop-i-preserved-then-is_same_role c).Start in
-    let q : a.t3.count ≤ length a.t3.rows = omega (arith, c.requires.all_below.0.bundles_few) in
-    let qo : a.t3.count ≤ length a.t7.rows = omega (arith, c.requires.all_below.0.bundles_few) in
-    let u : Bundle = get_or a.t3.rows l.i no_bundle in (
+    let q : a.bundles.count ≤ length a.bundles.rows = omega (arith, c.requires.all_below.0.bundles_few) in
+    let qo : a.bundles.count ≤ length a.offsets.rows = omega (arith, c.requires.all_below.0.bundles_few) in
+    let u : Bundle = get_or a.bundles.rows l.i no_bundle in (
       omega (arith, h),
       f.auto.marks ∙ l.invariant.1,
       f.auto.xs ∙ l.invariant.2,
       λ b e w n.
-          among.from_turn b a.role e u (get_or a.t7.rows l.i nan) _ _ _ _ (laws.part_cons a.t3.rows a.t3.count l.i no_bundle h q) (laws.part_cons a.t7.rows a.t3.count l.i nan h qo)
+          among.from_turn b a.role e u (get_or a.offsets.rows l.i nan) _ _ _ _ (laws.part_cons a.bundles.rows a.bundles.count l.i no_bundle h q) (laws.part_cons a.offsets.rows a.bundles.count l.i nan h qo)
           (corridor_in l.marks l.xs e) _ (sym same.ensures ∙ yes)
           (f.ensures b e w (n.members_in l.i h)
           (tap.ensures ∙ ap (λ (z : Float). inward u.role z rail.result) (n.end_is l.i h) ∙ ap (inward u.role (endpoint_of b u).x) (rail.ensures ∙ ap rail_depth n.options_are))
@@ -83,17 +83,17 @@ pub loop-i-preserved : goal.loop-i-preserved
 loop-i-preserved c =
     let a = c.args in
     let l = c.loop-i in
-    let h : l.i < a.t3.count = c.loop-i-test.true in
+    let h : l.i < a.bundles.count = c.loop-i-test.true in
     let same = c.is_same_role in
     let k = bundles-length (goal.at.loop-i-preserved c).Start in
     let ko = offsets_length (goal.at.loop-i-preserved c).Start in
-    let q : a.t3.count ≤ length a.t3.rows = omega (arith, c.requires.all_below.0.bundles_few) in
-    let qo : a.t3.count ≤ length a.t7.rows = omega (arith, c.requires.all_below.0.bundles_few) in (
+    let q : a.bundles.count ≤ length a.bundles.rows = omega (arith, c.requires.all_below.0.bundles_few) in
+    let qo : a.bundles.count ≤ length a.offsets.rows = omega (arith, c.requires.all_below.0.bundles_few) in (
       omega (arith, h),
       l.invariant.1,
       l.invariant.2,
       λ b e w n.
-          among.from_skip b a.role e (get_or a.t3.rows l.i no_bundle) (get_or a.t7.rows l.i nan) _ _ _ _ (laws.part_cons a.t3.rows a.t3.count l.i no_bundle h q) (laws.part_cons a.t7.rows a.t3.count l.i nan h qo)
+          among.from_skip b a.role e (get_or a.bundles.rows l.i no_bundle) (get_or a.offsets.rows l.i nan) _ _ _ _ (laws.part_cons a.bundles.rows a.bundles.count l.i no_bundle h q) (laws.part_cons a.offsets.rows a.bundles.count l.i nan h qo)
           (corridor_in l.marks l.xs e) (sym same.ensures ∙ c.if-is_same_role.false)
           ∙ l.invariant.3 b e w n,
     )
@@ -109,7 +109,7 @@ returns c =
     let a = c.args in
     let l = c.loop-i in
     let k = bundles-length (goal.at.returns c).Start in
-    let q : a.t3.count ≤ length a.t3.rows = omega (arith, c.requires.all_below.0.bundles_few) in
+    let q : a.bundles.count ≤ length a.bundles.rows = omega (arith, c.requires.all_below.0.bundles_few) in
     λ b e w n.
-    among.from_end b a.role e _ _ (corridor_in l.marks l.xs e) (laws.part_none a.t3.rows a.t3.count l.i c.loop-i-test.false q)
+    among.from_end b a.role e _ _ (corridor_in l.marks l.xs e) (laws.part_none a.bundles.rows a.bundles.count l.i c.loop-i-test.false q)
     ∙ l.invariant.3 b e w n

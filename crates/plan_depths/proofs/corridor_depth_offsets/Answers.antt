@@ -16,27 +16,27 @@ use borrow.Author.Rules.{rules}
 use Rattle.plan_depths.proofs.corridor_depth_offsets.Goals as goal
 use Rattle.plan_depths.proofs.corridor_depth_offsets.Goals.{Start}
 
-bundles-length : (s : Start) → length s.args.t4.rows ≡ max_bundles
+bundles-length : (s : Start) → length s.args.bundles.rows ≡ max_bundles
 bundles-length s = search (rules, laws.length_mapped)
 
-ports-length : (s : Start) → length s.args.t3.rows ≡ max_ports
+ports-length : (s : Start) → length s.args.ports.rows ≡ max_ports
 ports-length s = search (rules, laws.length_mapped)
 
-nodes-length : (s : Start) → length s.args.t2.rows ≡ max_nodes
+nodes-length : (s : Start) → length s.args.nodes.rows ≡ max_nodes
 nodes-length s = search (rules, laws.length_mapped)
 
-members-length : (s : Start) → length s.args.t5.rows ≡ max_members
+members-length : (s : Start) → length s.args.members.rows ≡ max_members
 members-length s = search (rules, laws.length_mapped)
 
-abbrev bundle : tie.Start invariant-loop decreases-loop → ℕ → Bundle
-bundle s i = get_or s.args.t4.rows i no_bundle
+abbrev bundle : Start → ℕ → Bundle
+bundle s i = get_or s.args.bundles.rows i no_bundle
 
-node_in : (s : Start) (i : ℕ) → i < s.args.t4.count → (get_or s.args.t3.rows (bundle s i).port laws.null_port).node < s.args.t2.count
+node_in : (s : Start) (i : ℕ) → i < s.args.bundles.count → (get_or s.args.ports.rows (bundle s i).port laws.null_port).node < s.args.nodes.count
 node_in s i h =
     let r = s.requires.bundles_on i h in
     let k = ports-length s in
-    let q : (bundle s i).port < length s.args.t3.rows = omega (arith, r.port_in, s.requires.ports_few) in
-    subst (λ (p : Port). p.node < s.args.t2.count) (laws.get_d_any s.args.t3.rows (bundle s i).port no_port laws.null_port q) (s.requires.ports_on (bundle s i).port r.port_in)
+    let q : (bundle s i).port < length s.args.ports.rows = omega (arith, r.port_in, s.requires.ports_few) in
+    subst (λ (p : Port). p.node < s.args.nodes.count) (laws.get_d_any s.args.ports.rows (bundle s i).port no_port laws.null_port q) (s.requires.ports_on (bundle s i).port r.port_in)
 
 pub loop-i-init : goal.loop-i-init
 loop-i-init c = (omega arith, refl, λ edges. refl)
@@ -46,7 +46,7 @@ offset_bounds-ports-at c = let r = c.requires.bundles_on c.loop-i.i c.loop-i-tes
 
 pub bounds-ports-at : goal.bounds-ports-at
 bounds-ports-at c =
-    omega (arith, (c.requires.bundles_on c.loop-i.i c.loop-i-test.true).port-in, c.requires.ports_few)
+    omega (arith, (c.requires.bundles_on c.loop-i.i c.loop-i-test.true).port_in, c.requires.ports_few)
 
 pub offset_bounds-nodes-on : goal.offset_bounds-nodes-on
 offset_bounds-nodes-on c =
@@ -60,23 +60,23 @@ bounds-nodes-on c =
 
 pub overflow_add-u : goal.overflow_add-u
 overflow_add-u c =
-    let r = (c.requires.bundles_on c.loop-i.i c.loop-i-test.true).members-in in
+    let r = (c.requires.bundles_on c.loop-i.i c.loop-i-test.true).members_in in
     omega (arith, r, c.requires.members_few)
 
 pub offset_bounds-members-last : goal.offset_bounds-members-last
 offset_bounds-members-last c =
-    let r = (c.requires.bundles_on c.loop-i.i c.loop-i-test.true).members-in in
+    let r = (c.requires.bundles_on c.loop-i.i c.loop-i-test.true).members_in in
     let k = c.requires.members_few in
     let e = c.place_before-last.ensures in
     search rules
 
 pub bounds-members-last : goal.bounds-members-last
 bounds-members-last c =
-    omega (arith, (c.requires.bundles_on c.loop-i.i c.loop-i-test.true).members-in, c.requires.members_few, c.place_before-last.ensures)
+    omega (arith, (c.requires.bundles_on c.loop-i.i c.loop-i-test.true).members_in, c.requires.members_few, c.place_before-last.ensures)
 
 pub lane_count-lanes-requires : goal.lane_count-lanes-requires
 lane_count-lanes-requires c =
-    let r = (c.requires.bundles_on c.loop-i.i c.loop-i-test.true).members-in in
+    let r = (c.requires.bundles_on c.loop-i.i c.loop-i-test.true).members_in in
     λ h. c.requires.lanes_few c.place_before-last.result (omega (arith, r, c.place_before-last.ensures))
 
 pub loop-i-preserved : goal.loop-i-preserved
@@ -87,25 +87,25 @@ loop-i-preserved c =
     let m = c.lane_count-lanes in
     let place = c.place_before-last in
     let l = c.loop-i in
-    let h : l.i < a.t4.count = c.loop-i-test.true in
+    let h : l.i < a.bundles.count = c.loop-i-test.true in
     let rail = c.boundary_bundle_rail_depth-rail in
     let r = c.requires.bundles_on l.i h in
     let k = bundles-length (goal.at.loop-i-preserved c).Start in
     let kp = ports-length (goal.at.loop-i-preserved c).Start in
     let km = members-length (goal.at.loop-i-preserved c).Start in
     let kn = nodes-length (goal.at.loop-i-preserved c).Start in
-    let q : a.t4.count ≤ length a.t4.rows = omega (arith, c.requires.bundles_few) in
-    let qp : a.t3.count ≤ length a.t3.rows = omega (arith, c.requires.ports_few) in
-    let qn : a.t2.count ≤ length a.t2.rows = omega (arith, c.requires.nodes_few) in
+    let q : a.bundles.count ≤ length a.bundles.rows = omega (arith, c.requires.bundles_few) in
+    let qp : a.ports.count ≤ length a.ports.rows = omega (arith, c.requires.ports_few) in
+    let qn : a.nodes.count ≤ length a.nodes.rows = omega (arith, c.requires.nodes_few) in
     let g : l.i < length l.rows = omega (arith, c.requires.bundles_few) in (
       omega arith,
       length-set l.rows l.i d.result.offset ∙ l.invariant.1,
       λ edges.
-          let b : Board = board_of a.o a.t2 a.t3 edges a.t4 a.t5 in
-          let u = get_or a.t4.rows l.i no_bundle in
-          let n = laws.node_read b a.t3.rows a.t3.count refl qp u r.port_in a.t2.rows a.t2.count refl qn (c.requires.ports_on u.port r.port_in) in
-          laws.offsets_turn b a.t4.rows a.t4.count l.i l.rows l.w p.result _ m.result d.result h q g
-          p.ensures (laws.depth_is b u (get_or a.t2.rows (get_or a.t3.rows u.port laws.null_port).node laws.null_node) rail.result n rail.ensures) (m.ensures a.t5.rows a.t5.count u.first (omega (arith, c.requires.members_few)) r.members_in (ap (λ (j : ℕ). get_or a.t5.rows j no_member) (sym place.ensures))) d.ensures
+          let b : Board = board_of a.o a.nodes a.ports edges a.bundles a.members in
+          let u = get_or a.bundles.rows l.i no_bundle in
+          let n = laws.node_read b a.ports.rows a.ports.count refl qp u r.port_in a.nodes.rows a.nodes.count refl qn (c.requires.ports_on u.port r.port_in) in
+          laws.offsets_turn b a.bundles.rows a.bundles.count l.i l.rows l.w p.result _ m.result d.result h q g
+          p.ensures (laws.depth_is b u (get_or a.nodes.rows (get_or a.ports.rows u.port laws.null_port).node laws.null_node) rail.result n rail.ensures) (m.ensures a.members.rows a.members.count u.first (omega (arith, c.requires.members_few)) r.members_in (ap (λ (j : ℕ). get_or a.members.rows j no_member) (sym place.ensures))) d.ensures
           ∙ l.invariant.2 edges,
     )
 
@@ -114,9 +114,9 @@ returns c =
     let a = c.args in
     let l = c.loop-i in
     let k = bundles-length (goal.at.returns c).Start in
-    let q : a.t4.count ≤ length a.t4.rows = omega (arith, c.requires.bundles_few) in
-    let e : a.t4.count ≡ l.i = omega (arith, c.loop-i-test.false, l.invariant.0) in
+    let q : a.bundles.count ≤ length a.bundles.rows = omega (arith, c.requires.bundles_few) in
+    let e : a.bundles.count ≡ l.i = omega (arith, c.loop-i-test.false, l.invariant.0) in
     λ edges.
     ap (λ (j : ℕ). take j l.rows) e
-    ∙ laws.offsets_end (board_of a.o a.t2 a.t3 edges a.t4 a.t5) a.t4.rows a.t4.count l.i l.rows l.w c.loop-i-test.false q
+    ∙ laws.offsets_end (board_of a.o a.nodes a.ports edges a.bundles a.members) a.bundles.rows a.bundles.count l.i l.rows l.w c.loop-i-test.false q
     ∙ l.invariant.2 edges

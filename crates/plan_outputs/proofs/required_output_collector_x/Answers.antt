@@ -20,7 +20,7 @@ use borrow.Author.Rules.{rules}
 use Rattle.plan_outputs.proofs.required_output_collector_x.Goals as goal
 use Rattle.plan_outputs.proofs.required_output_collector_x.Goals.{Start}
 
-below : (s : Start) (k : ℕ) → k < s.args.count → get_or s.args.which.now k 0 < s.args.t5.count
+below : (s : Start) (k : ℕ) → k < s.args.count → get_or s.args.which.now k 0 < s.args.t.count
 below s k h = s.requires.listing.each k h
 
 low : (s : Start) (k : ℕ) → k < s.args.count → get_or s.args.which.now k 0 < max_bundles
@@ -59,10 +59,10 @@ loop-k-preserved c =
     let f = c.ask-a in (
       omega (arith, h),
       λ b given rail ranges t e.
-          laws.required_turn b given ranges i _ _ (rows.part_cons a.which.now a.count l.k 0 h c.requires.listing.count_in) (map x_of (take a.t5.count a.t8.rows)) l.r f.result c.further_of-r.result
-          (f.ensures b given (t.each i g).pitch-is (t.each i g).routed
-          ∙ ap (λ (z : Bundle). asked b given z (get_or a.t8.rows i no_planned).x) (sym (e.same i g))
-          ∙ ap (asked b given (ranged_at ranges i).bundle) (laws.x_at a.t8.rows a.t5.count i g))
+          laws.required_turn b given ranges i _ _ (rows.part_cons a.which.now a.count l.k 0 h c.requires.listing.count_in) (map x_of (take a.t.count a.p.rows)) l.r f.result c.further_of-r.result
+          (f.ensures b given (t.each i g).pitch_is (t.each i g).routed
+          ∙ ap (λ (z : Bundle). asked b given z (get_or a.p.rows i no_planned).x) (sym (e.same i g))
+          ∙ ap (asked b given (ranged_at ranges i).bundle) (laws.x_at a.p.rows a.t.count i g))
           c.further_of-r.ensures
           ∙ l.invariant.1 b given rail ranges t e,
     )
@@ -72,5 +72,5 @@ returns c =
     let a = c.args in
     let l = c.loop-k in
     λ b given rail ranges t e.
-    laws.required_end b given ranges (map x_of (take a.t5.count a.t8.rows)) l.r _ (rows.part_none a.which.now a.count l.k c.loop-k-test.false c.requires.listing.count_in)
+    laws.required_end b given ranges (map x_of (take a.t.count a.p.rows)) l.r _ (rows.part_none a.which.now a.count l.k c.loop-k-test.false c.requires.listing.count_in)
     ∙ l.invariant.1 b given rail ranges t e

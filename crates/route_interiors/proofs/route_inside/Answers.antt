@@ -7,6 +7,7 @@ use Rattle.drawing.specs.Check.{walk, inside_tests}
 use Rattle.checks.specs.CheckRows.{boxes_from, nodes_in}
 use Rattle.checks.specs.TestSteps.{nodes_at, node_start, node_own, node_spent, node_hit, node_clean, node_end, inside_at, inside_start, inside_slanted, inside_straight, inside_end}
 use borrow.Author.Rules.{rules}
+use Rattle.std.proofs.Common.{ap, not}
 use Rattle.route_interiors.proofs.route_inside.Goals as goal
 
 pub loop-i-init : goal.loop-i-init
@@ -56,7 +57,7 @@ returns-then-not-charge c =
     let p = c.route_run-run in
     let h = c.loop-j-test.true in
     let n = length a.boxes.now / 4 in
-    node_spent a.e p.result a.boxes.now n (inside_at (nodes_in a.boxes.now) a.e a.points.now a.start a.count (l.i + 1)) m.j m.left _ _ h (sym c.is_own.ensures ∙ c.if-is_own.false) c.charge.ensures c.if-not-charge.true ∙ m.invariant.4 ∙ l.invariant.3
+    node_spent a.e p.result a.boxes.now n (inside_at (nodes_in a.boxes.now) a.e a.points.now a.start a.count (l.i + 1)) m.j m.left _ _ h (sym c.is_own.ensures ∙ c.if-is_own.false) c.charge.ensures (ap not c.if-not-charge.true) ∙ m.invariant.4 ∙ l.invariant.3
 
 pub returns-then-run_passes_inside : goal.returns-then-run_passes_inside
 returns-then-run_passes_inside c =
@@ -67,7 +68,7 @@ returns-then-run_passes_inside c =
     let h = c.loop-j-test.true in
     let d = c.box_at in
     let n = length a.boxes.now / 4 in
-    node_hit a.e p.result a.boxes.now n (inside_at (nodes_in a.boxes.now) a.e a.points.now a.start a.count (l.i + 1)) m.j m.left _ _ h (sym c.is_own.ensures ∙ c.if-is_own.false) c.charge.ensures d.result d.ensures c.if-not-charge.false (sym c.run_passes_inside.ensures ∙ c.if-run_passes_inside.true) ∙ m.invariant.4 ∙ l.invariant.3
+    node_hit a.e p.result a.boxes.now n (inside_at (nodes_in a.boxes.now) a.e a.points.now a.start a.count (l.i + 1)) m.j m.left _ _ h (sym c.is_own.ensures ∙ c.if-is_own.false) c.charge.ensures d.result d.ensures (ap not c.if-not-charge.false) (sym c.run_passes_inside.ensures ∙ c.if-run_passes_inside.true) ∙ m.invariant.4 ∙ l.invariant.3
 
 pub loop-j-preserved : goal.loop-j-preserved
 loop-j-preserved c =
@@ -78,7 +79,7 @@ loop-j-preserved c =
     let h = c.loop-j-test.true in
     let d = c.box_at in
     let n = length a.boxes.now / 4 in
-    (m.invariant.0, m.invariant.1, m.invariant.2, omega arith, node_clean a.e p.result a.boxes.now n (inside_at (nodes_in a.boxes.now) a.e a.points.now a.start a.count (l.i + 1)) m.j m.left _ _ h (sym c.is_own.ensures ∙ c.if-is_own.false) c.charge.ensures d.result d.ensures c.if-not-charge.false (sym c.run_passes_inside.ensures ∙ c.if-run_passes_inside.false) ∙ m.invariant.4)
+    (m.invariant.0, m.invariant.1, m.invariant.2, omega arith, node_clean a.e p.result a.boxes.now n (inside_at (nodes_in a.boxes.now) a.e a.points.now a.start a.count (l.i + 1)) m.j m.left _ _ h (sym c.is_own.ensures ∙ c.if-is_own.false) c.charge.ensures d.result d.ensures (ap not c.if-not-charge.false) (sym c.run_passes_inside.ensures ∙ c.if-run_passes_inside.false) ∙ m.invariant.4)
 
 pub loop-i-preserved : goal.loop-i-preserved
 loop-i-preserved c =

@@ -12,9 +12,9 @@ pub join-requires : goal.join-requires
 unfolding first_shared_trunk_intersection meets
 join-requires c =
     let a = c.args in
-    (within_first (Trunk Input a.minimum-length) _ a.points.now a.start a.count _ c.first_shared_trunk_intersection-found.ensures, omega arith, omega arith)
+    (within_first (Trunk Input a.minimum_length) _ a.points.now a.start a.count _ c.first_shared_trunk_intersection-found.ensures, omega arith, omega arith)
 
 pub returns : goal.returns
 returns c =
     let a = c.args in
-    rw (c.first_shared_trunk_intersection-found.ensures, is_input_trunk (points_from a.points.now a.start a.count) a.tap a.minimum-length) at c.join.ensures
+    rw (c.first_shared_trunk_intersection-found.ensures, is_input_trunk (points_from a.points.now a.start a.count) a.tap a.minimum_length) at c.join.ensures

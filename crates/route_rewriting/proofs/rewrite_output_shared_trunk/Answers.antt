@@ -12,9 +12,9 @@ pub join-requires : goal.join-requires
 unfolding last_shared_trunk_intersection meets
 join-requires c =
     let a = c.args in
-    (within_last (Trunk Output a.minimum-length) _ a.points.now a.start a.count _ c.last_shared_trunk_intersection-found.ensures, omega arith, omega arith)
+    (within_last (Trunk Output a.minimum_length) _ a.points.now a.start a.count _ c.last_shared_trunk_intersection-found.ensures, omega arith, omega arith)
 
 pub returns : goal.returns
 returns c =
     let a = c.args in
-    rw (c.last_shared_trunk_intersection-found.ensures, is_output_trunk (points_from a.points.now a.start a.count) a.tap a.minimum-length) at c.join.ensures
+    rw (c.last_shared_trunk_intersection-found.ensures, is_output_trunk (points_from a.points.now a.start a.count) a.tap a.minimum_length) at c.join.ensures

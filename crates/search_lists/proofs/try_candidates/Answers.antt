@@ -1,0 +1,206 @@
+-- `search_lists::try_candidates` meets its contract. Each loop's invariant says that its definition from the loop's start is the one from here on. The common candidates stand at the front of the slice, before the one that is tried. Assumes nothing.
+use mathlib.Core.Path.{◌≡◌, refl, sym, ◌∙◌, ap}
+use mathlib.Core.Bool.{Bool, true, false}
+use mathlib.Core.List.{List, [], ◌∷◌, ◌++◌}
+use Prim.Native.Nat.{ℕ, ◌+◌, ◌-◌, ◌*◌, ◌≤◌, ◌<◌}
+use native.Mathlib.Omega.{arith}
+use borrow.Author.Rules.{rules}
+use lib.ListN.{length, get_or, take, drop, set, length-set}
+use lib.Seq.{drop-set-lt}
+use lib.Ieee.{Float, nan}
+use Rattle.geometry.specs.declared.Stretch.{Stretch}
+use Rattle.geometry.specs.Stretch.{holds}
+use Rattle.geometry.specs.Points.{point_at}
+use Rattle.search.specs.Stretches.{runs_in}
+use Rattle.search.specs.Kept.{spanned, members_from}
+use Rattle.search.specs.Search.{Tried, lacked, unpaid, after, or_else, tried_on, tried_on_all, tried}
+use Rattle.search_lists.proofs.Walk as walk
+use Rattle.search_lists.proofs.Walk.{K, N}
+use Rattle.search_lists.proofs.try_candidates.Goals as goal
+use Rattle.search_lists.proofs.try_candidates.Goals.{At-loop-at, At-members, In-loop-at, In-members}
+
+abbrev At-members : Type 0
+At-members = At-members
+
+abbrev In-members : Type 0
+In-members = In-members
+
+abbrev At-runs : Type 0
+At-runs = At-loop-at
+
+abbrev In-runs : Type 0
+In-runs = In-loop-at
+
+-- the whole pass, at the members' loop: what follows from the members that are left
+whole : (c : At-members)
+    → let s = c.before.before.before in
+    let a = s.before.before.before.before.args in
+    let ms = members_from a.kept.now 0 a.counts.now in
+    let x = get_or s.candidates.xs s.candidates.i nan in
+    tried ms a.xs.now [] a.granted.0
+    ≡ walk.next ms (take s.candidates.n s.candidates.xs) s.candidates.left (drop (s.candidates.i + 1) s.candidates.xs) x
+    (tried_on_all x (N a.kept.now a.counts.now c.members.at c.members.m) c.members.left)
+whole c =
+    let s = c.before.before.before in
+    let a = s.before.before.before.before.args in
+    let ms = members_from a.kept.now 0 a.counts.now in
+    let x = get_or s.candidates.xs s.candidates.i nan in
+    let h : s.candidates.i < length s.candidates.xs = omega (arith, s.candidates.invariant.1, s.candidates.invariant.2, c.before.before.if1.false) in
+    s.candidates.invariant.3
+    ∙ walk.candidate_next ms (take s.candidates.n s.candidates.xs) s.candidates.left s.candidates.xs s.candidates.i h
+    ∙ ap (walk.next ms (take s.candidates.n s.candidates.xs) s.candidates.left (drop (s.candidates.i + 1) s.candidates.xs) x) c.members.invariant.1
+
+-- the members from m on: what follows from the runs of the first of them
+member : (c : In-members)
+    → let s = c.before in
+    let t = s.before.before.before in
+    let a = t.before.before.before.before.args in
+    let x = get_or t.candidates.xs t.candidates.i nan in
+    let from = N a.kept.now a.counts.now in
+    let runs = get_or a.counts.now s.members.m 0 - 1 in
+    tried_on_all x (from s.members.at s.members.m) s.members.left
+    ≡ after (tried_on x (K a.kept.now s.members.at runs) s.members.left) (tried_on_all x (from (s.members.at + runs) (s.members.m + 1))) lacked unpaid
+member c =
+    let s = c.before in
+    let t = s.before.before.before in
+    let a = t.before.before.before.before.args in
+    let x = get_or t.candidates.xs t.candidates.i nan in
+    ap (λ (ms : List (List Stretch)). tried_on_all x ms s.members.left) (walk.kept_next a.kept.now a.counts.now s.members.at s.members.m c.members-test.true)
+    ∙ walk.try_member x _ _ s.members.left
+
+-- and from those of its runs that are left
+runs-left : (c : At-runs)
+    → let s = c.before.before.before.before in
+    let t = s.before.before.before in
+    let a = t.before.before.before.before.args in
+    let x = get_or t.candidates.xs t.candidates.i nan in
+    let from = N a.kept.now a.counts.now in
+    let end = s.members.at + (get_or a.counts.now s.members.m 0 - 1) in
+    tried_on_all x (from s.members.at s.members.m) s.members.left
+    ≡ after (tried_on x (K a.kept.now c.loop.at (end - c.loop.at)) c.loop.left) (tried_on_all x (from end (s.members.m + 1))) lacked unpaid
+runs-left c =
+    let s = c.before.before.before.before in
+    let t = s.before.before.before in
+    let a = t.before.before.before.before.args in
+    let x = get_or t.candidates.xs t.candidates.i nan in
+    let end = s.members.at + (get_or a.counts.now s.members.m 0 - 1) in
+    member c.before.before.before
+    ∙ ap (λ (o : Tried). after o (tried_on_all x (N a.kept.now a.counts.now end (s.members.m + 1))) lacked unpaid) c.loop.invariant.2
+
+-- a look at the first of these
+look : (c : In-runs) (h : Bool)
+    → let r = c.before in
+    let s = r.before.before.before.before in
+    let t = s.before.before.before in
+    let a = t.before.before.before.before.args in
+    let x = get_or t.candidates.xs t.candidates.i nan in
+    let end = s.members.at + (get_or a.counts.now s.members.m 0 - 1) in
+    let left = tried_on x (K a.kept.now (r.loop.at + 1) (end - (r.loop.at + 1))) (r.loop.left - 1) in
+    0 < r.loop.left → holds x (spanned (point_at a.kept.now r.loop.at)) ≡ h → tried_on x (K a.kept.now r.loop.at (end - r.loop.at)) r.loop.left ≡ or_else h (r.loop.left - 1) left
+look c h p e =
+    let r = c.before in
+    let s = r.before.before.before.before in
+    let t = s.before.before.before in
+    let a = t.before.before.before.before.args in
+    let x = get_or t.candidates.xs t.candidates.i nan in
+    let end = s.members.at + (get_or a.counts.now s.members.m 0 - 1) in
+    ap (λ (ss : List Stretch). tried_on x ss r.loop.left) (walk.kept_more a.kept.now r.loop.at end c.loop-test.true)
+    ∙ walk.try_look x _ _ r.loop.left h p e
+
+-- the kept pairs of member m lie in the slice
+room : (c : In-members)
+    → let s = c.before in
+    let a = s.before.before.before.before.before.before.before.args in
+    2 * (s.members.at + (get_or a.counts.now s.members.m 0 - 1)) ≤ length a.kept.now
+room c =
+    let s = c.before in
+    let a = s.before.before.before.before.before.before.before.args in
+    let n = walk.runs_next_kept a.kept.now a.counts.now s.members.at s.members.m c.members-test.true in
+    omega (arith, s.members.invariant.0)
+
+pub returns-then-i-xs : goal.returns-then-i-xs
+returns-then-i-xs c =
+    let a = c.args in
+    let ms = members_from a.kept.now 0 a.counts.now in
+    record {
+      within = omega arith;
+      are = sym (c.candidates.invariant.3 ∙ walk.candidates_end ms (take c.candidates.n c.candidates.xs) c.candidates.left c.candidates.xs c.candidates.i (omega (arith, c.if-i-xs.true)));
+    }
+
+pub candidates-preserved-then-count-eq0 : goal.candidates-preserved-then-count-eq0
+candidates-preserved-then-count-eq0 c =
+    let a = c.args in
+    let x = get_or c.candidates.xs c.candidates.i nan in
+    let e : get_or a.counts.now c.members.m 0 - 1 ≡ 0 = omega (arith, c.if-count-eq0.true) in (
+      omega arith,
+      omega arith,
+      c.candidates.invariant.2,
+      whole (goal.at.candidates-preserved-then-count-eq0 c).At-members ∙ rw (member (goal.at.candidates-preserved-then-count-eq0 c).In-members, walk.kept_none a.kept.now c.members.at (get_or a.counts.now c.members.m 0 - 1) e, walk.try_end x c.members.left),
+    )
+
+pub overflow_add-end : goal.overflow_add-end
+overflow_add-end c = search (rules, room (goal.at.overflow_add-end c).In-members)
+
+pub loop-at-init : goal.loop-at-init
+loop-at-init c =
+    let a = c.args in
+    let x = get_or c.candidates.xs c.candidates.i nan in
+    let runs = get_or a.counts.now c.members.m 0 - 1 in
+    let e : runs ≡ c.members.at + runs - c.members.at = omega arith in
+    (omega arith, room (goal.at.loop-at-init c).In-members, ap (λ (k : ℕ). tried_on x (K a.kept.now c.members.at k) c.members.left) e)
+
+pub members-preserved : goal.members-preserved
+members-preserved c =
+    let a = c.args in
+    let x = get_or c.candidates.xs c.candidates.i nan in
+    let end = c.members.at + (get_or a.counts.now c.members.m 0 - 1) in
+    let h : 0 < c.loop-at.left = omega arith in
+    let n = walk.runs_next_kept a.kept.now a.counts.now c.members.at c.members.m c.members-test.true in (
+      omega (arith, c.members.invariant.0),
+      c.members.invariant.1 ∙ runs-left (goal.at.members-preserved c).At-loop-at
+          ∙ ap (λ (o : Tried). after o (tried_on_all x (N a.kept.now a.counts.now end (c.members.m + 1))) lacked unpaid) (look (goal.at.members-preserved c).In-loop-at true h (sym c.kept_holds.ensures ∙ c.if-kept_holds.true)),
+    )
+
+pub loop-at-preserved : goal.loop-at-preserved
+loop-at-preserved c =
+    let h : 0 < c.loop-at.left = omega arith in
+    (omega arith, c.loop-at.invariant.1, c.loop-at.invariant.2 ∙ look (goal.at.loop-at-preserved c).In-loop-at false h (sym c.kept_holds.ensures ∙ c.if-kept_holds.false))
+
+pub candidates-preserved-in-members : goal.candidates-preserved-in-members
+candidates-preserved-in-members c =
+    let a = c.args in
+    let x = get_or c.candidates.xs c.candidates.i nan in
+    let end = c.members.at + (get_or a.counts.now c.members.m 0 - 1) in
+    let e : end - c.loop-at.at ≡ 0 = omega arith in (
+      omega arith,
+      omega arith,
+      c.candidates.invariant.2,
+      whole (goal.at.candidates-preserved-in-members c).At-members ∙ rw (runs-left (goal.at.candidates-preserved-in-members c).At-loop-at, walk.kept_none a.kept.now c.loop-at.at (end - c.loop-at.at) e, walk.try_end x c.loop-at.left),
+    )
+
+pub candidates-preserved : goal.candidates-preserved
+candidates-preserved c =
+    let a = c.args in
+    let x = get_or c.candidates.xs c.candidates.i nan in
+    let h : c.candidates.n < length c.candidates.xs = omega arith in
+    let h' : c.candidates.n < c.candidates.i + 1 = omega arith in (
+      omega arith,
+      omega arith,
+      length-set c.candidates.xs c.candidates.n x ∙ c.candidates.invariant.2,
+      whole (goal.at.candidates-preserved c).At-members
+          ∙ rw (walk.kept_end a.kept.now a.counts.now c.members.at c.members.m c.members-test.false, walk.try_members_end x c.members.left, walk.stored c.candidates.xs c.candidates.n x h, drop-set-lt (c.candidates.i + 1) c.candidates.xs c.candidates.n x h'),
+    )
+
+pub shape_of-xs : goal.shape_of-xs
+shape_of-xs c =
+    c.candidates.invariant.2
+
+pub returns : goal.returns
+returns c =
+    let a = c.args in
+    let x = get_or c.candidates.xs c.candidates.i nan in
+    let end = c.members.at + (get_or a.counts.now c.members.m 0 - 1) in
+    record {
+      within = tt;
+      are = sym (whole (goal.at.returns c).At-members ∙ rw (runs-left (goal.at.returns c).At-loop-at, walk.kept_more a.kept.now c.loop-at.at end c.loop-at-test.true, walk.try_unpaid x _ _ c.loop-at.left c.if-left-eq0.true));
+    }
