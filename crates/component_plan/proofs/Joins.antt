@@ -15,10 +15,10 @@ use Rattle.plan.specs.declared.Ranges.{Ranges}
 use Rattle.plan.specs.Plan.{Ranged, no_ranged, ranged_at, found?, Walk, push_all, Component, walk, joined, near_from, near, component_of, indices_from, Plan, Step, going, refused, then, treated, components, initial_x}
 use Rattle.plan.specs.Prepared.{Listing, range_at, ranged_from, passed, TabledTo}
 use Rattle.plan.specs.Stack.{row_from, row_of}
-use Rattle.plan.specs.TableReads.{length_part}
+use Rattle.plan.proofs.TableReads.{length_part}
 use Rattle.plan_neighbours.proofs.Walks.{Below, near_below, was_new, was_old}
 use Rattle.components.specs.Settled.{ranges_in, Neighboured, AllEdges, settled}
-use Rattle.components.specs.Turns.{range_read, below_listing}
+use Rattle.components.proofs.Turns.{range_read, below_listing}
 
 pub ranges_length : (n : ℕ) (t : Ranges) → n ≤ length t.rows → length (ranges_in n t) ≡ n
 ranges_length n t h = length-map (take n t.rows) ranged_from ∙ length_part t.rows n h

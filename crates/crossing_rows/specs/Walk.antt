@@ -14,14 +14,14 @@ use Rattle.geometry.specs.declared.Tap.TheVariants.{Absent}
 use Rattle.geometry.specs.Points.{Route, runs, run_at, points_from}
 use Rattle.geometry.specs.declared.Trunk.{Trunk}
 use Rattle.geometry.specs.Apart.{trunk, apart}
-use Rattle.geometry.specs.Clear.{apart_contact}
+use Rattle.geometry.proofs.Clear.{apart_contact}
 use Rattle.route.specs.Window.{runs_next, runs_none}
 use Rattle.route.specs.Slots.{routes_of, routes_from}
 use Rattle.geometry.specs.declared.Contact.{Contact}
 use Rattle.geometry.specs.declared.Contact.TheVariants as kinds
 use Rattle.geometry.specs.Kind.{kind, disallowed}
 use Rattle.geometry.specs.Crossing.{is_strict, crossing_place}
-use Rattle.geometry.specs.KindContact.{kind_contact}
+use Rattle.geometry.proofs.KindContact.{kind_contact}
 use Rattle.board.specs.declared.DrawnBundle.{DrawnBundle}
 use Rattle.board.specs.declared.DrawnBundles.{DrawnBundles}
 use Rattle.board.specs.declared.Edge.{Edge}

@@ -1,5 +1,2 @@
 pub mod List
 pub mod Words
-pub mod Each
-pub mod Keys
-pub mod Order

@@ -25,7 +25,7 @@ use Rattle.limits.specs.Limits.{max_crossings}
 use Rattle.crossing_rows.specs.Rows.{Row, rows_met}
 use Rattle.crossing_bytes.specs.Bytes.{list_bytes}
 use Rattle.crossing_bytes.specs.RowBytes.{row_key, rows_bytes, written_rows}
-use Rattle.crossing_bytes.specs.Link.{rows_many, bytes_same}
+use Rattle.crossing_bytes.proofs.Link.{rows_many, bytes_same}
 use Rattle.crossing_promise.specs.SheetList.{list_of}
 use Rattle.outputs.specs.declared.Wants.{Wants}
 use Rattle.outputs.specs.Outputs.{too_many}

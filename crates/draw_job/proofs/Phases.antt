@@ -39,23 +39,23 @@ use Rattle.plan.specs.Plan.{plan_of}
 use Rattle.components.specs.declared.Step.{Step}
 use Rattle.components.specs.Settled.{step_in}
 use Rattle.answer.specs.Answer.{Sheet, answer_bytes, notice_bytes}
-use Rattle.answer.specs.Stores.{notice_length}
+use Rattle.answer.proofs.Stores.{notice_length}
 use Rattle.answer.specs.declared.Frame.{Frame}
 use Rattle.answer.specs.SheetTables as answer
 use Rattle.promise.specs.Stage.{Finished, answer_of, Told, refused, drawn, planned, sheet_drawn, after_sheet, told_bytes}
 use Rattle.bundle_page.specs.AnswerPage.{answer_page}
 use Rattle.bundle_page.specs.PageTables.{Printables}
-use Rattle.page_promise.specs.PageFits.{PageFits, page_fits, printables}
+use Rattle.page_promise.proofs.PageFits.{PageFits, page_fits, printables}
 use Rattle.plan_bytes.specs.PlanBytes.{rejected, taken, read_plan}
 use Rattle.plan_reader.specs.declared.PlanRead.{PlanRead}
 use Rattle.plan_reader.specs.Reading.{told_plan}
 use Rattle.plan_stage.specs.Entries.{after_search, plan_for, plan_phase, after_taking, with_plan, told_with}
-use Rattle.plan_stage.specs.EitherPlan.{told_size, phase_whole}
+use Rattle.plan_stage.proofs.EitherPlan.{told_size, phase_whole}
 use Rattle.outputs.specs.declared.Wants.{Wants}
 use Rattle.crossing_bytes.specs.Bytes.{list_bytes}
 use Rattle.crossing_promise.specs.SheetList.{list_of}
 use Rattle.outputs.specs.Outputs.{Outputs, notice, too_many, after_all, outputs_told}
-use Rattle.job_tables.specs.Ready.{read_accepted, tables_sound, routes_in, given_same}
+use Rattle.job_tables.proofs.Ready.{read_accepted, tables_sound, routes_in, given_same}
 use Rattle.job_tables.specs.Came.{Sizes, job_in, Came}
 use Rattle.draw_job.specs.JobTables.{Writes, TapsOf, OnSheet, Lent, finished}
 use Rattle.draw_job.proofs.Answers.{sheet_same}

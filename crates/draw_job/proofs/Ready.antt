@@ -8,13 +8,13 @@ use lib.ListN.{length, get_or, take, drop}
 use lib.Seq.{length-take-le}
 use lib.Ieee.{Float}
 use Rattle.board.specs.declared.Bundle.{Bundle}
-use Rattle.wire.specs.All.{All}
+use Rattle.wire.proofs.All.{All}
 use Rattle.job.specs.declared.Job as code
-use Rattle.job.specs.GoodRecords.{GoodBundle}
-use Rattle.job.specs.GoodTables.{starts}
+use Rattle.job.proofs.GoodRecords.{GoodBundle}
+use Rattle.job.proofs.GoodTables.{starts}
 use Rattle.turns.specs.TurnTables.{Follow, Once}
 use Rattle.draw_job.specs.Lengths.{once}
-use Rattle.job_tables.specs.Ready.{good, members_in}
+use Rattle.job_tables.proofs.Ready.{good, members_in}
 use Rattle.job_tables.specs.Came.{job_in, Came, Sizes}
 
 -- windows that start one behind the other

@@ -1,10 +1,2 @@
 pub mod On
 pub mod DraftingGrid
-pub mod GridArithmetic
-pub mod OnLaws
-pub mod Operations
-pub mod Lanes
-pub mod SamePlace
-pub mod DraftingLaws
-pub mod Exactly
-pub mod Raising

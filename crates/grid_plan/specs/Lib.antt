@@ -4,16 +4,6 @@ pub mod Search
 pub mod Bounds
 pub mod Plan
 pub mod Sizes
-pub mod Sized
-pub mod Keys
 pub mod Image
 pub mod InnerImage
 pub mod OnGrid
-pub mod Searching
-pub mod Deep
-pub mod BoundSteps
-pub mod Bounding
-pub mod PlanSteps
-pub mod PlanSearches
-pub mod PlanComponents
-pub mod Planning

@@ -7,11 +7,3 @@ pub mod InnerImage
 pub mod Sizes
 pub mod Whole
 pub mod Numbers
-pub mod Touching
-pub mod Rerouting
-pub mod SheetSteps
-pub mod Building
-pub mod Drawing
-pub mod Paging
-pub mod WholeSheet
-pub mod AllNumbers

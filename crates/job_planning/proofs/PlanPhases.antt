@@ -21,9 +21,9 @@ use Rattle.plan.specs.Plan as planning
 use Rattle.components.specs.declared.Step.{Step}
 use Rattle.components.specs.Settled.{step_in}
 use Rattle.answer.specs.Answer.{notice_bytes}
-use Rattle.answer.specs.Stores.{notice_length}
+use Rattle.answer.proofs.Stores.{notice_length}
 use Rattle.plan_bytes.specs.PlanBytes.{plan_bytes, Taken, rejected, taken}
-use Rattle.job_tables.specs.Ready.{read_accepted, given_same}
+use Rattle.job_tables.proofs.Ready.{read_accepted, given_same}
 use Rattle.job_tables.specs.Came.{Sizes, job_in, Came}
 use Rattle.promise.specs.Stage.{planned}
 use Rattle.plan_stage.specs.Entries.{after_search, plan_after_reading, plan_told, plan_told_bytes, plan_written, planner_of}

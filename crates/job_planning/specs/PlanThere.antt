@@ -3,16 +3,16 @@ use Rattle.std.specs.Prelude.{ℕ, ◌≤◌, ◌≡◌, refl, Bool, true, false
 use Rattle.std.proofs.Common.{sym, ap, ◌∙◌, arith, le-ltb, ltb-false}
 use Rattle.std.proofs.lemmas.List.Edits.{sets}
 use Rattle.limits.specs.Limits.{plan_room}
-use Rattle.answer.specs.Stores.{notice_length}
+use Rattle.answer.proofs.Stores.{notice_length}
 use Rattle.job.specs.Job.{Job, read_job}
 use Rattle.job.specs.Job as job
 use Rattle.plan.specs.Plan.{Step}
 use Rattle.plan.specs.Plan as planning
 use Rattle.plan_bytes.specs.PlanBack.{plan_at_most}
 use Rattle.promise.specs.Stage.{planned}
-use Rattle.promise.specs.Size.{over}
+use Rattle.promise.proofs.Size.{over}
 use Rattle.plan_stage.specs.Entries.{after_search, plan_after_reading, plan_told, plan_told_bytes, plan_written, planner_of}
-use Rattle.plan_stage.specs.OwnPlan.{own_written}
+use Rattle.plan_stage.proofs.OwnPlan.{own_written}
 
 told_fits : (bytes : List ℕ) → length (plan_told_bytes (plan_told bytes)) ≤ plan_room
 unfolding after_search plan_after_reading plan_told_bytes

@@ -1,12 +1,2 @@
-pub mod Fractions
 pub mod Shift
-pub mod Carry
-pub mod Nodes
-pub mod Moved
-pub mod Grid
-pub mod Close
-pub mod Still
-pub mod Axes
 pub mod InAnswer
-pub mod Answered
-pub mod Cases

@@ -2,9 +2,9 @@
 use Rattle.std.specs.Prelude.{ℕ, zero, suc, ◌+◌, ◌*◌, ◌-◌, ◌/◌, ◌%◌, ◌<◌, ◌≡◌, refl, Bool, true, false, cond, List, [], ◌∷◌, ◌++◌, T, eqb, set}
 use Rattle.std.proofs.Common.{sym, ap, ◌∙◌, arith, eqb→eq}
 use Rattle.std.proofs.Math.Seq.{sets}
-use Rattle.answer.specs.Stores.{sets_then, sets_before}
+use Rattle.answer.proofs.Stores.{sets_then, sets_before}
 use Rattle.page_text.specs.Listing.{column, columns, right, number_field, Entry, letter, letter_field, cell, entry_line}
-use Rattle.page_text.specs.Laws.{columns_length, right_length, field_length, cell_length}
+use Rattle.page_text.proofs.Laws.{columns_length, right_length, field_length, cell_length}
 
 pub column_none : (fill n : ℕ) → n ≡ 0 → fill ≡ column fill n
 column_none fill n e = rw e

@@ -6,8 +6,8 @@ use Rattle.std.specs.Float.Ieee.{of_bits, lt}
 use Rattle.limits.specs.Limits.{max_bundles, id_columns, page_room}
 use Rattle.board.specs.declared.DrawnBundle.{DrawnBundle}
 use Rattle.bundle_page.specs.PageTables.{OnPage, page_bytes, Printable, Printables}
-use Rattle.bundle_page.specs.PartsLaws.{chosen}
-use Rattle.bundle_page.specs.Exact.{page_length}
+use Rattle.bundle_page.proofs.PartsLaws.{chosen}
+use Rattle.bundle_page.proofs.Exact.{page_length}
 
 pub zero_fits : OnPage (of_bits binary64 0)
 unfolding of_bits

@@ -1,6 +1,1 @@
 pub mod PageReadsBack
-pub mod Forward
-pub mod PageFits
-pub mod BundleIds
-pub mod Upright
-pub mod Theorem

@@ -1,6 +1,2 @@
 pub mod Listing
 pub mod Reading
-pub mod Laws
-pub mod Back
-pub mod Places
-pub mod Cases

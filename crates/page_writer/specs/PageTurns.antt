@@ -8,11 +8,11 @@ use Rattle.binary64.specs.Order.{least, greatest}
 use Rattle.geometry.specs.declared.Point.{Point}
 use Rattle.geometry.specs.declared.Segment.{Segment}
 use Rattle.board.specs.declared.DrawnBundle.{DrawnBundle}
-use Rattle.answer.specs.Stores.{shorter, written_as}
+use Rattle.answer.proofs.Stores.{shorter, written_as}
 use Rattle.page_text.specs.Listing.{entry_line}
 use Rattle.bundle_page.specs.Parts.{parts_of}
 use Rattle.bundle_page.specs.PageTables.{bundle_line, page_bytes}
-use Rattle.bundle_page.specs.Exact.{bundle_line_length, page_length}
+use Rattle.bundle_page.proofs.Exact.{bundle_line_length, page_length}
 
 -- ---- one line written
 pub entry_written : (w : ℕ) (b : DrawnBundle) (o o' : List ℕ) (at x low high : ℕ) (lo hi : Float) → x ≡ parts_of b.collector.start.x

@@ -8,14 +8,14 @@ use Rattle.std.specs.Float.Ieee.Bits.{of_bits-to_bits, of_bits-fits, to_bits-lt}
 use Rattle.limits.specs.Limits.{max_bundles, plan_room}
 use Rattle.sorting.specs.Lists.{Every}
 use Rattle.wire.specs.Bytes.{number, bytes, number_bytes}
-use Rattle.wire.specs.BytesLaws.{bytes_length, number_back}
+use Rattle.wire.proofs.BytesLaws.{bytes_length, number_back}
 use Rattle.wire.specs.Read.{Read, refused, got, Reader, after, read, give, field, list_of}
 use Rattle.answer.specs.Answer.{all_bytes}
-use Rattle.answer.specs.Back.{Real, field_back}
+use Rattle.answer.proofs.Back.{Real, field_back}
 use Rattle.plan.specs.declared.Bound.{Bound}
 use Rattle.plan.specs.declared.Bound.TheVariants.{None, At}
 use Rattle.plan.specs.Plan.{Plan}
-use Rattle.plan.specs.CarriedNumbers.{OfBound}
+use Rattle.plan.proofs.CarriedNumbers.{OfBound}
 use Rattle.plan_bytes.specs.PlanNumbers.{both}
 use Rattle.plan_bytes.specs.PlanBytes.{entry_bytes, body_bytes, plan_bytes, marked, entry, versioned, body, Taken, rejected, taken, every_planned, plannable, settled, length_fits, read_plan}
 

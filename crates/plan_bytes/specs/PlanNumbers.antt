@@ -8,20 +8,20 @@ use Rattle.std.specs.Float.Ieee.Positive.{num, den}
 use Rattle.std.specs.Float.Ieee.Scale.{finite}
 use Rattle.binary64.specs.Accepted.{zero64, is_coordinate, minus_zero, plus_zero, two_to}
 use Rattle.binary64.specs.ExactOnGrid.{at_size}
-use Rattle.binary64.specs.Kind.{Between, within, by_tests, plus_zero_plain, finite_between}
-use Rattle.binary64.specs.Plain.{Plain}
+use Rattle.binary64.proofs.Kind.{Between, within, by_tests, plus_zero_plain, finite_between}
+use Rattle.binary64.proofs.Plain.{Plain}
 use Rattle.binary64.specs.Range.{Within}
 use Rattle.binary64.specs.Value.{over, under, num_parts, at_most→le, eq→same}
 use Rattle.grid.specs.DraftingGrid.{on_plan_grid, parts_of}
-use Rattle.grid.specs.DraftingLaws.{at_parts, parts_small}
-use Rattle.grid.specs.Exactly.{near_is_planned}
+use Rattle.grid.proofs.DraftingLaws.{at_parts, parts_small}
+use Rattle.grid.proofs.Exactly.{near_is_planned}
 use Rattle.grid.specs.On.{on}
-use Rattle.grid.specs.OnLaws.{on_at, on_plain}
-use Rattle.grid.specs.Operations.{is_on}
+use Rattle.grid.proofs.OnLaws.{on_at, on_plain}
+use Rattle.grid.proofs.Operations.{is_on}
 use Rattle.sorting.specs.Lists.{Every}
 use Rattle.plan.specs.declared.Bound.{Bound}
 use Rattle.plan.specs.declared.Bound.TheVariants.{None, At}
-use Rattle.plan.specs.CarriedNumbers.{OfBound}
+use Rattle.plan.proofs.CarriedNumbers.{OfBound}
 use Rattle.plan_bytes.specs.PlanBytes.{plannable, every_planned}
 
 abbrev pub lowest : Float

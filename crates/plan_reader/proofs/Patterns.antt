@@ -9,9 +9,9 @@ use lib.Ieee.{Float, nan, inf, fin, binary64, of_bits, to_bits, fits, is_nan, na
 use lib.Ieee.Bits.{nan_bits_is, nan_bits_above, to_bits-of_bits, of_bits-fits}
 use borrow.Author.Tests.{eqb-true, not-true, not-false}
 use Rattle.binary64.specs.Accepted.{minus_zero, plus_zero, is_coordinate, accepted}
-use Rattle.binary64.specs.Sign.{no_exponent}
+use Rattle.binary64.proofs.Sign.{no_exponent}
 use Rattle.grid.specs.DraftingGrid.{on_plan_grid}
-use Rattle.wire.specs.AcceptLaws.{not_nan}
+use Rattle.wire.proofs.AcceptLaws.{not_nan}
 use Rattle.plan_bytes.specs.PlanBytes.{plannable}
 use Rattle.plan_bytes.specs.PlanNumbers.{lowest, highest, coordinate_tests}
 use Rattle.plan_reader.specs.Reading.{JudgedAs}

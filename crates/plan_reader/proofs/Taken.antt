@@ -11,7 +11,7 @@ use lib.Seq.{take-suc-set}
 use lib.ListN.{length, get_or, take, drop, set, length-drop}
 use borrow.Author.Tests.{eq-eqb, ne_eqb, le-leb, leb-true, leb-false, not-true, not-false}
 use Rattle.wire.specs.Bytes.{number}
-use Rattle.wire.specs.BytesLaws.{number_one}
+use Rattle.wire.proofs.BytesLaws.{number_one}
 use Rattle.wire.specs.Read.{Read, refused, got, after, read, give, field, list_of}
 use Rattle.wire.specs.ReadLaws.{field_at, field_past}
 use Rattle.plan.specs.declared.Bound.{Bound}

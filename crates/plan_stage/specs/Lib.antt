@@ -1,6 +1,2 @@
 pub mod Entries
 pub mod PlanDemand3
-pub mod OwnPlan
-pub mod InTurn
-pub mod EitherPlan
-pub mod EveryPlan

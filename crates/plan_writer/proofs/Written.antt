@@ -7,9 +7,9 @@ use lib.ListN.{length, get_or, take, drop, length-append, length-take}
 use lib.Seq.{sets}
 use lib.Ieee.{Float}
 use Rattle.wire.specs.Bytes.{bytes, number_bytes}
-use Rattle.wire.specs.BytesLaws.{bytes_length}
+use Rattle.wire.proofs.BytesLaws.{bytes_length}
 use Rattle.answer.specs.Answer.{all_bytes}
-use Rattle.answer.specs.Stores.{sets_then, sets_before, number_length, all_map, shorter, written}
+use Rattle.answer.proofs.Stores.{sets_then, sets_before, number_length, all_map, shorter, written}
 use Rattle.plan.specs.declared.Bound.{Bound}
 use Rattle.plan.specs.declared.Bound.TheVariants.{None, At}
 use Rattle.plan.specs.declared.Planned.{Planned}

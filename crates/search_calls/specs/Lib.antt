@@ -1,7 +1,2 @@
 pub mod Entry
-pub mod Cases
-pub mod Sizes
-pub mod RefusalSteps
 pub mod Copied
-pub mod Copies
-pub mod SameCalls

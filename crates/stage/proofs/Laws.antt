@@ -9,13 +9,13 @@ use Rattle.page_promise.specs.PageReadsBack.{PageReadsBack}
 use Rattle.crossing_promise.specs.Demand7.{Demand7}
 use Rattle.promise.specs.Stage.{Told, told}
 use Rattle.plan_stage.specs.Entries.{told_with, draw_told}
-use Rattle.plan_stage.specs.InTurn.{own_told}
+use Rattle.plan_stage.proofs.InTurn.{own_told}
 use Rattle.outputs.specs.declared.Wants.{Wants}
 use Rattle.outputs.specs.Outputs.{Outputs, nothing, wants_of, too_short, after_all, outputs_told, outputs_of}
 use Rattle.outputs.specs.Promises.{Promised, PromisedWith, CrossingsOnSheet}
-use Rattle.outputs.specs.Front.{refusal_untouched, promised_in}
-use Rattle.outputs.specs.PageFront.{page_promised}
-use Rattle.outputs.specs.ListThere.{crossings_in, demand_7}
+use Rattle.outputs.proofs.Front.{refusal_untouched, promised_in}
+use Rattle.outputs.proofs.PageFront.{page_promised}
+use Rattle.outputs.proofs.ListThere.{crossings_in, demand_7}
 use Rattle.draw_job.specs.JobTables.{Writes}
 
 module _ (mask : ℕ) (bytes plan answer page crossings answer' page' crossings' : List ℕ) (n : ℕ) (all : (i : ℕ) → i < length bytes → get_or bytes i 0 < 256) where

@@ -4,7 +4,7 @@ use mathlib.Core.Path.{◌≡◌, ap}
 use lib.ListN.{length}
 use Rattle.board.specs.Lengths.{length_mapped}
 use Rattle.limits.specs.Limits.{max_members}
-use Rattle.answer.specs.Stores.{trunk_joined}
+use Rattle.answer.proofs.Stores.{trunk_joined}
 use borrow.Author.Rules.{rules}
 use Rattle.answer.proofs.put_bundle.Goals as goal
 use Rattle.answer.proofs.put_bundle.Goals.{Start}

@@ -7,7 +7,7 @@ use Rattle.board.specs.Lengths.{length_mapped}
 use Rattle.limits.specs.Limits.{max_bundles, max_members}
 use Rattle.wire.specs.Bytes.{bytes}
 use Rattle.answer.specs.Answer.{all_bytes}
-use Rattle.answer.specs.Stores.{bundle_room, bundle_written, nothing_left}
+use Rattle.answer.proofs.Stores.{bundle_room, bundle_written, nothing_left}
 use Rattle.answer.specs.SheetTables.{drawn_bytes}
 use borrow.Author.Rules.{rules}
 use Rattle.answer.proofs.put_bundles.Goals as goal

@@ -3,7 +3,7 @@ use Prim.Native.Nat.{◌+◌, ◌-◌}
 use mathlib.Core.Path.{◌≡◌}
 use lib.ListN.{length}
 use Rattle.route.specs.Window.{points_length}
-use Rattle.answer.specs.Stores.{line_joined}
+use Rattle.answer.proofs.Stores.{line_joined}
 use borrow.Author.Rules.{rules}
 use Rattle.answer.proofs.put_line.Goals as goal
 

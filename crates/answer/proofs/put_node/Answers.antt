@@ -2,7 +2,7 @@ use Prim.Native.Nat.{◌-◌}
 use lib.ListN.{length}
 use Rattle.wire.specs.Bytes.{bytes}
 use Rattle.answer.specs.Answer.{spot_bytes}
-use Rattle.answer.specs.Stores.{point_joined, id_point_joined}
+use Rattle.answer.proofs.Stores.{point_joined, id_point_joined}
 use borrow.Author.Rules.{rules}
 use Rattle.answer.proofs.put_node.Goals as goal
 

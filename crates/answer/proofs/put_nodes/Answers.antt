@@ -8,7 +8,7 @@ use Rattle.limits.specs.Limits.{max_nodes}
 use Rattle.wire.specs.Bytes.{bytes}
 use Rattle.answer.specs.Answer.{all_bytes}
 use Rattle.answer.specs.SheetTables.{node_bytes}
-use Rattle.answer.specs.Stores.{written_as, nothing_left, spot_length}
+use Rattle.answer.proofs.Stores.{written_as, nothing_left, spot_length}
 use borrow.Author.Rules.{rules}
 use Rattle.answer.proofs.put_nodes.Goals as goal
 use Rattle.answer.proofs.put_nodes.Goals.{Start}

@@ -1,6 +1,6 @@
 use Prim.Native.Nat.{◌-◌}
 use lib.ListN.{length}
-use Rattle.answer.specs.Stores.{point_joined}
+use Rattle.answer.proofs.Stores.{point_joined}
 use borrow.Author.Rules.{rules}
 use Rattle.answer.proofs.put_point.Goals as goal
 

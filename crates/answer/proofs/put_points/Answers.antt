@@ -7,7 +7,7 @@ use lib.Seq.{sets}
 use Rattle.wire.specs.Bytes.{bytes}
 use Rattle.geometry.specs.Points.{point_at, points_from}
 use Rattle.answer.specs.Answer.{all_bytes, point_bytes}
-use Rattle.answer.specs.Stores.{points_turn, points_done}
+use Rattle.answer.proofs.Stores.{points_turn, points_done}
 use borrow.Author.Rules.{rules}
 use Rattle.answer.proofs.put_points.Goals as goal
 

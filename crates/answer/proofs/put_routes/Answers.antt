@@ -7,7 +7,7 @@ use Rattle.board.specs.Lengths.{length_mapped}
 use Rattle.limits.specs.Limits.{max_edges}
 use Rattle.wire.specs.Bytes.{bytes}
 use Rattle.answer.specs.Answer.{all_bytes, lines_of, line_bytes}
-use Rattle.answer.specs.Stores.{some_edge, line_turn, line_room, lines_done}
+use Rattle.answer.proofs.Stores.{some_edge, line_turn, line_room, lines_done}
 use Rattle.route.specs.Slots.{routes_from, routes_of}
 use borrow.Author.Rules.{rules}
 use Rattle.answer.proofs.put_routes.Goals as goal

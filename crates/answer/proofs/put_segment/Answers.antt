@@ -1,6 +1,6 @@
 use Prim.Native.Nat.{◌-◌}
 use lib.ListN.{length}
-use Rattle.answer.specs.Stores.{segment_joined}
+use Rattle.answer.proofs.Stores.{segment_joined}
 use borrow.Author.Rules.{rules}
 use Rattle.answer.proofs.put_segment.Goals as goal
 

@@ -3,7 +3,7 @@ use mathlib.Core.Path.{ap}
 use lib.ListN.{length}
 use Rattle.wire.specs.Bytes.{bytes}
 use Rattle.answer.specs.Answer.{tap_bytes}
-use Rattle.answer.specs.Stores.{point_joined, id_point_joined}
+use Rattle.answer.proofs.Stores.{point_joined, id_point_joined}
 use borrow.Author.Rules.{rules}
 use Rattle.answer.proofs.put_tap.Goals as goal
 

@@ -7,7 +7,7 @@ use Rattle.board.specs.Lengths.{length_mapped}
 use Rattle.limits.specs.Limits.{max_members}
 use Rattle.wire.specs.Bytes.{bytes}
 use Rattle.answer.specs.Answer.{all_bytes, tap_bytes}
-use Rattle.answer.specs.Stores.{written_as, nothing_left, tap_length}
+use Rattle.answer.proofs.Stores.{written_as, nothing_left, tap_length}
 use borrow.Author.Rules.{rules}
 use Rattle.answer.proofs.put_taps.Goals as goal
 use Rattle.answer.proofs.put_taps.Goals.{Start}

@@ -1,7 +1,7 @@
 use Prim.Native.Nat.{◌-◌}
 use lib.ListN.{length}
 use Rattle.answer.specs.Answer.{mark}
-use Rattle.answer.specs.Stores.{trunk_head_joined, head_joined}
+use Rattle.answer.proofs.Stores.{trunk_head_joined, head_joined}
 use borrow.Author.Rules.{rules}
 use Rattle.answer.proofs.put_trunk_head.Goals as goal
 

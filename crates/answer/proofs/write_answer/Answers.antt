@@ -4,8 +4,8 @@ use mathlib.Core.Path.{◌≡◌, sym, ap, ◌∙◌}
 use lib.ListN.{length}
 use Rattle.board.specs.Lengths.{length_mapped}
 use Rattle.limits.specs.Limits.{max_nodes, max_edges, max_bundles}
-use Rattle.answer.specs.Stores.{head_length}
-use Rattle.answer.specs.WholeAnswer.{heads, nodes_part, routes_part, bundles_part, answer_joined, answer_is, answer_size, nodes_size}
+use Rattle.answer.proofs.Stores.{head_length}
+use Rattle.answer.proofs.WholeAnswer.{heads, nodes_part, routes_part, bundles_part, answer_joined, answer_is, answer_size, nodes_size}
 use borrow.Author.Rules.{rules}
 use Rattle.answer.proofs.write_answer.Goals as goal
 use Rattle.answer.proofs.write_answer.Goals.{Start}

@@ -1,7 +1,7 @@
 -- `binary64::abs` meets its contract, by the laws of specs/Sign.antt at each arm. Assumes nothing.
 use lib.Ieee.{of_bits, fits, binary64}
 use denote.Floats.{passes}
-use Rattle.binary64.specs.Sign.{magnitude_below, magnitude_zero, magnitude_else}
+use Rattle.binary64.proofs.Sign.{magnitude_below, magnitude_zero, magnitude_else}
 use Rattle.binary64.proofs.abs.Goals as goal
 
 pub returns-then-x : goal.returns-then-x

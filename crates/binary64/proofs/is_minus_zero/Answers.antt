@@ -3,7 +3,7 @@ use mathlib.Core.Path.{sym}
 use mathlib.Core.Bool.{true, false}
 use lib.Ieee.{of_bits, fits, binary64, is_nan, to_bits}
 use denote.Floats.{passes}
-use Rattle.binary64.specs.Kind.{minus_zero_bits, minus_zero_other, zero_number}
+use Rattle.binary64.proofs.Kind.{minus_zero_bits, minus_zero_other, zero_number}
 use Rattle.binary64.proofs.is_minus_zero.Goals as goal
 
 pub float_to_bits-result : goal.float_to_bits-result

@@ -5,7 +5,7 @@ use lib.IntN.{pos}
 use lib.Ieee.{fin, neg, le, of_bits}
 use borrow.Author.Rules.{rules}
 use Rattle.binary64.specs.Accepted.{zero64, two_to}
-use Rattle.binary64.specs.Kind.{by_tests}
+use Rattle.binary64.proofs.Kind.{by_tests}
 use Rattle.binary64.proofs.is_size.Goals as goal
 
 pub returns : goal.returns

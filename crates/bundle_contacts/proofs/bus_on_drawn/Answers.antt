@@ -1,5 +1,5 @@
 use mathlib.Core.Path.{◌∙◌}
-use Rattle.checks.specs.TestSteps.{then_on, then_off}
+use Rattle.checks.proofs.TestSteps.{then_on, then_off}
 use borrow.Author.Rules.{rules}
 use Rattle.bundle_contacts.proofs.bus_on_drawn.Goals as goal
 

@@ -9,7 +9,7 @@ use Rattle.geometry.specs.Apart.{trunk}
 use Rattle.drawing.specs.Build.{tap_of}
 use Rattle.drawing.specs.Check.{due, walk, clash, run_tests}
 use Rattle.checks.specs.CheckRows.{taps_from, Tabled}
-use Rattle.checks.specs.TestSteps.{tests_at, walk_start, walk_off_at, walk_next, walk_end}
+use Rattle.checks.proofs.TestSteps.{tests_at, walk_start, walk_off_at, walk_next, walk_end}
 use borrow.Author.Rules.{rules}
 use Rattle.bundle_contacts.proofs.bus_on_route.Goals as goal
 

@@ -4,7 +4,7 @@ use Rattle.geometry.specs.declared.Trunk.{Trunk}
 use Rattle.geometry.specs.declared.Tap.{Tap}
 use Rattle.geometry.specs.Apart.{apart}
 use Rattle.drawing.specs.Check.{clash}
-use Rattle.checks.specs.TestSteps.{due_spent, due_hit, due_clean, walk_done, apart_clean}
+use Rattle.checks.proofs.TestSteps.{due_spent, due_hit, due_clean, walk_done, apart_clean}
 use borrow.Author.Tests.{not-true, not-false}
 use borrow.Author.Rules.{rules}
 use Rattle.std.proofs.Common.{not}

@@ -6,7 +6,7 @@ use Rattle.geometry.specs.Apart.{trunk}
 use Rattle.route.specs.Slots.{routes_of}
 use Rattle.drawing.specs.Check.{walk, over_routes, route_tests}
 use Rattle.checks.specs.CheckRows.{taps_from, chosen_by, Tabled, Slotted}
-use Rattle.checks.specs.TestSteps.{rest_of, over_skip, over_on, over_off, over_end}
+use Rattle.checks.proofs.TestSteps.{rest_of, over_skip, over_on, over_off, over_end}
 use borrow.Author.Rules.{rules}
 use Rattle.bundle_contacts.proofs.bus_on_routes.Goals as goal
 

@@ -1,6 +1,6 @@
 use mathlib.Core.Path.{sym, ◌∙◌}
 use mathlib.Core.List.{[]}
-use Rattle.checks.specs.TestSteps.{due_spent, due_hit, due_clean, walk_done}
+use Rattle.checks.proofs.TestSteps.{due_spent, due_hit, due_clean, walk_done}
 use borrow.Author.Rules.{rules}
 use Rattle.std.proofs.Common.{ap, not}
 use Rattle.bundle_contacts.proofs.bus_on_run.Goals as goal

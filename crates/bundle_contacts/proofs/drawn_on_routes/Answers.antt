@@ -1,6 +1,6 @@
 use mathlib.Core.Path.{◌∙◌}
 use Rattle.drawing.specs.Check.{drawn_tests}
-use Rattle.checks.specs.TestSteps.{then_on, then_off}
+use Rattle.checks.proofs.TestSteps.{then_on, then_off}
 use borrow.Author.Rules.{rules}
 use Rattle.bundle_contacts.proofs.drawn_on_routes.Goals as goal
 

@@ -9,7 +9,7 @@ use Rattle.limits.specs.Limits.{max_bundles}
 use Rattle.route.specs.Slots.{routes_of}
 use Rattle.drawing.specs.Check.{walk, prior_tests}
 use Rattle.checks.specs.CheckRows.{drawn_of, chosen_by, AllTabled, Slotted}
-use Rattle.checks.specs.TestSteps.{tabled_at, priors_at, prior_on, prior_off, prior_end}
+use Rattle.checks.proofs.TestSteps.{tabled_at, priors_at, prior_on, prior_off, prior_end}
 use borrow.Author.Rules.{rules}
 use Rattle.bundle_contacts.proofs.verify_priors.Goals as goal
 use Rattle.bundle_contacts.proofs.verify_priors.Goals.{Start}

@@ -13,7 +13,7 @@ use Rattle.limits.specs.Limits.{most_kept, promotion_scratch}
 use Rattle.geometry.specs.declared.Role.{Role}
 use Rattle.search.specs.Stretches.{members, routes}
 use Rattle.search_calls.specs.Entry.{refusal, role_of, Said, bounds, collector_bounds, promotion_room, promotion_number, promoted, Replied}
-use Rattle.search_calls.specs.RefusalSteps as laws
+use Rattle.search_calls.proofs.RefusalSteps as laws
 use Rattle.checked_search.proofs.promotion_checked.Statement.{statement}
 use Rattle.checked_search.proofs.promotion_checked.Tie as tie
 

@@ -13,7 +13,7 @@ use Rattle.geometry.specs.declared.Role.{Role}
 use Rattle.search.specs.Stretches.{members, routes}
 use Rattle.search.specs.Search.{common_xs}
 use Rattle.search_calls.specs.Entry.{refusal, role_of, Said, said, bounds, search_room, search_number, Replied}
-use Rattle.search_calls.specs.RefusalSteps as laws
+use Rattle.search_calls.proofs.RefusalSteps as laws
 use Rattle.checked_search.proofs.search_checked.Statement.{statement}
 use Rattle.checked_search.proofs.search_checked.Tie as tie
 

@@ -2,7 +2,7 @@
 use mathlib.Core.Path.{◌≡◌}
 use native.Mathlib.Omega.{arith}
 use borrow.Author.Rules.{rules}
-use Rattle.search.specs.Parts as parts
+use Rattle.search.proofs.Parts as parts
 use Rattle.collector_xs.proofs.common_horizontal_collector_x.Statement.{statement}
 use Rattle.collector_xs.proofs.common_horizontal_collector_x.Tie as tie
 

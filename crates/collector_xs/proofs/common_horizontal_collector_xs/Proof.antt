@@ -11,8 +11,8 @@ use Rattle.search.specs.declared.Listed.{Listed}
 use Rattle.search.specs.Stretches.{members, routes, all_runs}
 use Rattle.search.specs.Search.{told, then_tried, Lists}
 use Rattle.search.specs.Kept.{Keeps}
-use Rattle.search.specs.Parts as parts
-use Rattle.search.specs.KeptLaws as laws
+use Rattle.search.proofs.Parts as parts
+use Rattle.search.proofs.KeptLaws as laws
 use Rattle.collector_xs.proofs.common_horizontal_collector_xs.Statement.{statement}
 use Rattle.collector_xs.proofs.common_horizontal_collector_xs.Tie as tie
 

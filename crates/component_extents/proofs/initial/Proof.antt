@@ -9,9 +9,9 @@ use Rattle.limits.specs.Limits.{max_bundles}
 use Rattle.plan.specs.declared.Bound.{Bound}
 use Rattle.plan.specs.Plan.{initial_x}
 use Rattle.plan.specs.Prepared.{x_of}
-use Rattle.plan.specs.TableReads as rows
+use Rattle.plan.proofs.TableReads as rows
 use Rattle.components.specs.Settled.{ranges_in}
-use Rattle.components.specs.Turns as laws
+use Rattle.components.proofs.Turns as laws
 use Rattle.component_extents.proofs.initial.Statement.{statement}
 use Rattle.component_extents.proofs.initial.Tie as tie
 

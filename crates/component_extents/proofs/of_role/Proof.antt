@@ -8,10 +8,10 @@ use lib.ListN.{length, get_or, take, drop, length-set}
 use Rattle.limits.specs.Limits.{max_bundles}
 use Rattle.plan.specs.Plan.{Ranged, of_role}
 use Rattle.plan.specs.Prepared.{Listing, range_at}
-use Rattle.plan.specs.TableReads as rows
+use Rattle.plan.proofs.TableReads as rows
 use Rattle.plan_neighbours.proofs.Walks.{Below}
 use Rattle.components.specs.Settled.{ranges_in}
-use Rattle.components.specs.Turns as laws
+use Rattle.components.proofs.Turns as laws
 use Rattle.component_extents.proofs.of_role.Statement.{statement}
 use Rattle.component_extents.proofs.of_role.Tie as tie
 

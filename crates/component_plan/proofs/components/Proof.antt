@@ -13,10 +13,10 @@ use Rattle.search.specs.Search.{search_of}
 use Rattle.plan.specs.Plan.{Ranged, ranged_at, found?, indices_from, components}
 use Rattle.plan.specs.Prepared.{range_at, plan_in}
 use Rattle.plan.specs.Stack.{component_from}
-use Rattle.plan.specs.TableReads as rows
+use Rattle.plan.proofs.TableReads as rows
 use Rattle.components.specs.Settled.{ranges_in, step_in, Known, Neighboured}
-use Rattle.components.specs.Turns as turns
-use Rattle.components.specs.Settles as settles
+use Rattle.components.proofs.Turns as turns
+use Rattle.components.proofs.Settles as settles
 use Rattle.component_plan.proofs.Joins as laws
 use Rattle.component_plan.proofs.components.Statement.{statement}
 use Rattle.component_plan.proofs.components.Tie as tie

@@ -7,7 +7,7 @@ use lib.ListN.{length}
 use Rattle.limits.specs.Limits.{max_bundles}
 use Rattle.plan.specs.Plan.{components}
 use Rattle.plan.specs.Prepared.{plan_in}
-use Rattle.plan.specs.TableReads as rows
+use Rattle.plan.proofs.TableReads as rows
 use Rattle.components.specs.Settled.{step_in}
 use Rattle.component_plan.proofs.Joins as laws
 use Rattle.component_plan.proofs.settle_components.Statement.{statement}

@@ -2,7 +2,7 @@
 use borrow.Author.Rules.{rules}
 use lib.ListN.{take}
 use Rattle.plan.specs.Prepared.{plan_in}
-use Rattle.components.specs.Settles as laws
+use Rattle.components.proofs.Settles as laws
 use Rattle.component_settling.proofs.limited.Statement.{statement}
 use Rattle.component_settling.proofs.limited.Tie as tie
 

@@ -5,7 +5,7 @@ use lib.ListN.{take}
 use Rattle.limits.specs.Limits.{max_bundles}
 use Rattle.plan.specs.Prepared.{plan_in}
 use Rattle.components.specs.Settled.{step_in}
-use Rattle.components.specs.Settles as laws
+use Rattle.components.proofs.Settles as laws
 use Rattle.component_settling.proofs.settle.Statement.{statement}
 use Rattle.component_settling.proofs.settle.Tie as tie
 

@@ -5,9 +5,9 @@ use borrow.Author.Rules.{rules}
 use lib.ListN.{get_or, take, drop}
 use Rattle.limits.specs.Limits.{max_bundles}
 use Rattle.plan.specs.Prepared.{plan_in}
-use Rattle.plan.specs.TableReads as rows
+use Rattle.plan.proofs.TableReads as rows
 use Rattle.components.specs.Settled.{step_in, ranges_in}
-use Rattle.components.specs.Settles as laws
+use Rattle.components.proofs.Settles as laws
 use Rattle.component_settling.proofs.treat.Statement.{statement}
 use Rattle.component_settling.proofs.treat.Tie as tie
 

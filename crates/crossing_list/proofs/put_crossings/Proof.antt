@@ -2,7 +2,7 @@
 use mathlib.Core.Path.{◌≡◌, sym}
 use native.Mathlib.Omega.{arith}
 use lib.Seq.{length-take-le}
-use Rattle.crossing_bytes.specs.Laws.{front_fits, front_written}
+use Rattle.crossing_bytes.proofs.Laws.{front_fits, front_written}
 use borrow.Author.Rules.{rules}
 use Rattle.crossing_list.proofs.put_crossings.Statement.{statement}
 use Rattle.crossing_list.proofs.put_crossings.Tie as tie

@@ -2,7 +2,7 @@
 use mathlib.Core.Path.{◌≡◌, sym}
 use lib.ListN.{length-map}
 use Rattle.crossing_rows.specs.Rows.{row_at}
-use Rattle.crossing_bytes.specs.Laws.{list_joined}
+use Rattle.crossing_bytes.proofs.Laws.{list_joined}
 use borrow.Author.Rules.{rules}
 use Rattle.crossing_list.proofs.put_list.Statement.{statement}
 use Rattle.crossing_list.proofs.put_list.Tie as tie

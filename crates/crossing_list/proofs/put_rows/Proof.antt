@@ -1,5 +1,5 @@
 -- `crossing_list::put_rows` meets its contract. Assumes nothing.
-use Rattle.crossing_bytes.specs.Laws.{entries_at, entry_next, entry_end}
+use Rattle.crossing_bytes.proofs.Laws.{entries_at, entry_next, entry_end}
 use Rattle.crossing_bytes.specs.RowBytes.{row_bytes}
 use Rattle.limits.specs.Limits.{max_crossings, crossing_bytes, crossing_numbers}
 use Rattle.crossing_rows.specs.Rows.{row_at}

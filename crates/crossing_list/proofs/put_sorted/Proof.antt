@@ -1,5 +1,5 @@
 -- `crossing_list::put_sorted` meets its contract. Assumes nothing.
-use Rattle.crossing_bytes.specs.Laws.{order_below, order_written, order_length}
+use Rattle.crossing_bytes.proofs.Laws.{order_below, order_written, order_length}
 use lib.Seq.{sets}
 use lib.ListN.{length}
 use mathlib.Core.Path.{◌≡◌, refl, sym, ap, ◌∙◌}

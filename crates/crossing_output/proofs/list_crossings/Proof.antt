@@ -1,6 +1,6 @@
 -- `crossing_output::list_crossings` meets its contract. Assumes nothing.
 use native.Mathlib.Omega.{arith}
-use Rattle.crossing_bytes.specs.Counted.{refused, held_back, put}
+use Rattle.crossing_bytes.proofs.Counted.{refused, held_back, put}
 use borrow.Author.Rules.{rules}
 use Rattle.crossing_output.proofs.list_crossings.Statement.{statement}
 use Rattle.crossing_output.proofs.list_crossings.Tie as tie

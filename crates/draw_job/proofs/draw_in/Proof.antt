@@ -13,12 +13,12 @@ use Rattle.job_tables.specs.Came.{Sizes, job_in}
 use Rattle.plan_reader.specs.declared.PlanRead.{PlanRead}
 use Rattle.plan_reader.specs.Reading.{told_plan}
 use Rattle.plan_stage.specs.Entries.{plan_phase}
-use Rattle.job_tables.specs.Ready.{bundles_in, tables_sound, routes_in}
+use Rattle.job_tables.proofs.Ready.{bundles_in, tables_sound, routes_in}
 use Rattle.normalize.proofs.Shift.{windows_kept}
 use Rattle.normalize.specs.PageTables.{Windows}
-use Rattle.plan.specs.TableReads as rows
-use Rattle.bundle_page.specs.Exact.{page_of_tables}
-use Rattle.outputs.specs.Front.{on_the_grid, wanted_room}
+use Rattle.plan.proofs.TableReads as rows
+use Rattle.bundle_page.proofs.Exact.{page_of_tables}
+use Rattle.outputs.proofs.Front.{on_the_grid, wanted_room}
 use Rattle.draw_job.specs.JobTables.{OnSheet, finished}
 use Rattle.draw_job.proofs.Listing as listing
 use Rattle.draw_job.proofs.Listing.{Listed}

@@ -4,7 +4,7 @@ use mathlib.Core.Path.{◌≡◌, sym, ◌∙◌}
 use lib.ListN.{length, drop}
 use Rattle.job.specs.Keys.{twice}
 use Rattle.job.specs.LoopSteps.{twice_next, twice_none, placed, unplaced}
-use Rattle.job.specs.Lookups.{known_good, known_bad}
+use Rattle.job.proofs.Lookups.{known_good, known_bad}
 use Rattle.job.specs.Reads.{first_keys}
 use borrow.Author.Rules.{rules}
 use Rattle.job_keys.proofs.has_twice.Goals as goal

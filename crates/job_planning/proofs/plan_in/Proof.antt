@@ -1,8 +1,8 @@
 -- `job_planning::plan_in` meets its contract. Assumes nothing.
 use native.Mathlib.Omega.{arith}
-use Rattle.plan.specs.TableReads as rows
+use Rattle.plan.proofs.TableReads as rows
 use Rattle.job_tables.specs.Came.{Sizes}
-use Rattle.job_tables.specs.Ready.{tables_sound, routes_in}
+use Rattle.job_tables.proofs.Ready.{tables_sound, routes_in}
 use Rattle.job_planning.proofs.PlanPhases as laws
 use borrow.Author.Rules.{rules}
 use Rattle.job_planning.proofs.plan_in.Statement.{statement}

@@ -4,7 +4,7 @@ use native.Mathlib.Omega.{arith}
 use lib.ListN.{length}
 use borrow.Author.Tests.{not-true, not-false}
 use Rattle.limits.specs.Limits.{point_numbers}
-use Rattle.job_tables.specs.Ready.{came}
+use Rattle.job_tables.proofs.Ready.{came}
 use Rattle.job_planning.proofs.PlanPhases as laws
 use borrow.Author.Rules.{rules}
 use Rattle.job_planning.proofs.read_and_plan.Statement.{statement}

@@ -1,4 +1,4 @@
-use Rattle.checks.specs.TestSteps.{charge_none, charge_one}
+use Rattle.checks.proofs.TestSteps.{charge_none, charge_one}
 use borrow.Author.Rules.{rules}
 use Rattle.looks.proofs.charge.Goals as goal
 

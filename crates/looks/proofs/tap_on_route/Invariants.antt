@@ -7,7 +7,7 @@ use Rattle.geometry.specs.declared.Point.{Point}
 use Rattle.geometry.specs.declared.Tap.TheVariants.{At}
 use Rattle.drawing.specs.Build.{tap_of}
 use Rattle.checks.specs.CheckRows.{taps_from}
-use Rattle.checks.specs.TestSteps.{tap_at, tap_start, tap_here, tap_next, tap_none}
+use Rattle.checks.proofs.TestSteps.{tap_at, tap_start, tap_here, tap_next, tap_none}
 use Rattle.looks.proofs.tap_on_route.Given as goal
 
 abbrev pub invariant-loop-i : goal.invariant-loop-i

@@ -1,5 +1,5 @@
 use Rattle.std.proofs.Common.{◌∙◌}
-use Rattle.bundle_page.specs.PartsLaws.{above_minus_one, below_2_64, truncated}
+use Rattle.bundle_page.proofs.PartsLaws.{above_minus_one, below_2_64, truncated}
 use Rattle.page_writer.proofs.parts_of.Statement.{statement}
 use Rattle.page_writer.proofs.parts_of.Tie as tie
 

@@ -2,7 +2,7 @@ use Rattle.std.proofs.Common.{◌≡◌, ℕ, ◌+◌, ◌-◌, ◌≤◌, lengt
 use lib.Seq.{sets}
 use Rattle.limits.specs.Limits.{max_bundles, id_columns, page_room}
 use Rattle.board.specs.Lengths.{length_mapped}
-use Rattle.answer.specs.Stores.{nothing_left}
+use Rattle.answer.proofs.Stores.{nothing_left}
 use Rattle.bundle_page.specs.PageTables.{bundle_line, page_bytes}
 use Rattle.page_writer.specs.PageTurns.{line_room, line_written, table_room}
 use Rattle.page_writer.proofs.put_page.Statement.{statement}

@@ -6,7 +6,7 @@ use lib.ListN.{length}
 use Rattle.route.specs.Slots.{routes_of}
 use Rattle.drawing.specs.Check.{walk, over_routes}
 use Rattle.checks.specs.CheckRows.{chosen_by, inside_route, Slotted}
-use Rattle.checks.specs.TestSteps.{rest_of, over_skip, over_on, over_off, over_end, edge_tests}
+use Rattle.checks.proofs.TestSteps.{rest_of, over_skip, over_on, over_off, over_end, edge_tests}
 use borrow.Author.Rules.{rules}
 use Rattle.paid_checks.proofs.node_interiors.Statement.{statement}
 use Rattle.paid_checks.proofs.node_interiors.Tie as tie

@@ -1,6 +1,6 @@
 use mathlib.Core.Path.{◌∙◌}
 use Rattle.drawing.specs.Check.{contact_tests}
-use Rattle.checks.specs.TestSteps.{then_on, then_off}
+use Rattle.checks.proofs.TestSteps.{then_on, then_off}
 use borrow.Author.Rules.{rules}
 use Rattle.paid_checks.proofs.route_contacts.Statement.{statement}
 use Rattle.paid_checks.proofs.route_contacts.Tie as tie

@@ -14,7 +14,7 @@ use Rattle.plan.specs.Bounds.{reach_all}
 use Rattle.plan.specs.Depths.{members_in, corridor_of}
 use Rattle.plan.specs.BoardTables.{no_member}
 use Rattle.plan.specs.Prepared.{other, end_x, Rowed, Windowed, Cornered}
-use Rattle.plan.specs.TableReads as rows
+use Rattle.plan.proofs.TableReads as rows
 use Rattle.plan_bounds.proofs.Bounding as laws
 use borrow.Author.Rules.{rules}
 use Rattle.plan_bounds.proofs.reach_all.Given as goal

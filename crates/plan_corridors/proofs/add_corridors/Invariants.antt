@@ -14,7 +14,7 @@ use Rattle.board.specs.Board.{Board, rail_depth}
 use Rattle.plan.specs.Depths.{◌⊕◌, number, inward, first_of, endpoint_of, members_in, pitch_of, corridor_x, corridor_among}
 use Rattle.plan.specs.BoardTables.{corridor_in, no_member}
 use Rattle.plan.specs.Prepared.{Rowed}
-use Rattle.plan.specs.TableReads as laws
+use Rattle.plan.proofs.TableReads as laws
 use Rattle.plan_corridors.proofs.Among as among
 use borrow.Author.Rules.{rules}
 use borrow.Author.Tests.{not-true, not-false}

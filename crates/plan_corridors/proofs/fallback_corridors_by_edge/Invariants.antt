@@ -11,7 +11,7 @@ use Rattle.board.specs.Board.{Board, bundle_pitch, rail_depth}
 use Rattle.plan.specs.Depths.{inward, first_of, endpoint_of, corridor_from}
 use Rattle.plan.specs.BoardTables.{corridor_in, no_bundle}
 use Rattle.plan.specs.Prepared.{Rowed, Ended}
-use Rattle.plan.specs.TableReads as laws
+use Rattle.plan.proofs.TableReads as laws
 use Rattle.plan_corridors.proofs.Among as among
 use borrow.Author.Rules.{rules}
 use Rattle.plan_corridors.proofs.fallback_corridors_by_edge.Given as goal

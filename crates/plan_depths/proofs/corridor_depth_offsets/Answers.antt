@@ -11,7 +11,7 @@ use Rattle.board.specs.declared.Port.{Port}
 use Rattle.board.specs.Board.{Board}
 use Rattle.plan.specs.Depths.{offsets_from, no_port}
 use Rattle.plan.specs.BoardTables.{board_of, Resolved, no_bundle, no_member}
-use Rattle.plan.specs.TableReads as laws
+use Rattle.plan.proofs.TableReads as laws
 use borrow.Author.Rules.{rules}
 use Rattle.plan_depths.proofs.corridor_depth_offsets.Goals as goal
 use Rattle.plan_depths.proofs.corridor_depth_offsets.Goals.{Start}

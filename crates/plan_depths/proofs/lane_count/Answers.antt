@@ -6,7 +6,7 @@ use native.Mathlib.Omega.{arith}
 use lib.ListN.{length, get_or, take, drop}
 use Rattle.board.specs.declared.Member.{Member}
 use Rattle.plan.specs.Depths.{lane_count}
-use Rattle.plan.specs.TableReads as laws
+use Rattle.plan.proofs.TableReads as laws
 use borrow.Author.Rules.{rules}
 use Rattle.plan_depths.proofs.lane_count.Goals as goal
 

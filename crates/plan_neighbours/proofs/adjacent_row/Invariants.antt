@@ -9,7 +9,7 @@ use Rattle.geometry.specs.Points.{Route}
 use Rattle.board.specs.Board.{Board}
 use Rattle.plan.specs.Plan.{joined}
 use Rattle.plan.specs.Prepared.{EdgesOf, range_at, no_range, ranged_from, TabledTo}
-use Rattle.plan.specs.TableReads as rows
+use Rattle.plan.proofs.TableReads as rows
 use Rattle.plan_neighbours.proofs.Neighbours as laws
 use borrow.Author.Rules.{rules}
 use Rattle.plan_neighbours.proofs.adjacent_row.Given as goal

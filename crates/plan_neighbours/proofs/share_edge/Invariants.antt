@@ -5,7 +5,7 @@ use native.Mathlib.Omega.{arith}
 use lib.ListN.{length, get_or, take, drop}
 use Rattle.board.specs.Board.{window}
 use Rattle.plan.specs.Over.{meet}
-use Rattle.plan.specs.Ends as laws
+use Rattle.plan.proofs.Ends as laws
 use borrow.Author.Rules.{rules}
 use Rattle.plan_neighbours.proofs.share_edge.Given as goal
 

@@ -7,7 +7,7 @@ use Rattle.board.specs.Board.{window}
 use Rattle.search.specs.Stretches.{routes}
 use Rattle.geometry.specs.Points.{points_from}
 use Rattle.plan.specs.Over.{divergence_over}
-use Rattle.plan.specs.Ends as laws
+use Rattle.plan.proofs.Ends as laws
 use borrow.Author.Rules.{rules}
 use Rattle.plan_outputs.proofs.input_shared_trunk_divergence_x.Given as goal
 

@@ -13,8 +13,8 @@ use Rattle.plan.specs.declared.Bound.{Bound}
 use Rattle.plan.specs.declared.Bound.TheVariants.{None}
 use Rattle.plan.specs.Plan.{Ranged, Plan, ranged_at, asked, required, seek, found_x, again}
 use Rattle.plan.specs.Prepared.{AllTell, SameBundles, x_of, no_planned, reached_at, plan_in, upper_at}
-use Rattle.plan.specs.TableReads as rows
-use Rattle.plan.specs.Agains as laws
+use Rattle.plan.proofs.TableReads as rows
+use Rattle.plan.proofs.Agains as laws
 use borrow.Author.Rules.{rules}
 use Rattle.plan_outputs.proofs.required_output_collector_x.Given as goal
 

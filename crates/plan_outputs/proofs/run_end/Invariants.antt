@@ -5,7 +5,7 @@ use native.Mathlib.Omega.{arith}
 use lib.ListN.{length, get_or, take, drop}
 use Rattle.geometry.specs.Points.{point_at, points_from}
 use Rattle.plan.specs.Plan.{diverges_at}
-use Rattle.plan.specs.Ends as laws
+use Rattle.plan.proofs.Ends as laws
 use borrow.Author.Rules.{rules}
 use Rattle.plan_outputs.proofs.run_end.Given as goal
 

@@ -3,7 +3,7 @@ use mathlib.Core.Path.{sym, ◌∙◌, ap}
 use mathlib.Core.Bool.{Bool, false, cond}
 use lib.Ieee.{binary64, of_bits, neg, fits, eq, add, sub}
 use denote.Floats.{passes}
-use Rattle.grid.specs.Raising.{by_raising, to_a_128th, raise}
+use Rattle.grid.proofs.Raising.{by_raising, to_a_128th, raise}
 use Rattle.plan_reader.proofs.is_on_plan_grid.Statement.{statement}
 use Rattle.plan_reader.proofs.is_on_plan_grid.Tie as tie
 

@@ -1,5 +1,5 @@
 -- `plan_reader::judged_number` meets its contract. Assumes nothing.
-use Rattle.wire.specs.AcceptLaws.{not_nan}
+use Rattle.wire.proofs.AcceptLaws.{not_nan}
 use Rattle.plan_reader.proofs.Patterns as laws
 use borrow.Author.Rules.{rules}
 use Rattle.plan_reader.proofs.judged_number.Statement.{statement}

@@ -12,7 +12,7 @@ use Rattle.search.specs.Search.{search_of}
 use Rattle.plan.specs.declared.Reached.{Reached}
 use Rattle.plan.specs.Plan.{first_pass}
 use Rattle.plan.specs.Prepared.{bundle_of, no_reached, reached_at, ranged_from, passed, AllTell}
-use Rattle.plan.specs.TableReads as rows
+use Rattle.plan.proofs.TableReads as rows
 use Rattle.plan_searches.proofs.Passes as laws
 use borrow.Author.Rules.{rules}
 use Rattle.plan_searches.proofs.first_pass.Statement.{statement}

@@ -5,7 +5,7 @@ use mathlib.Core.Path.{◌≡◌, sym, ap, ◌∙◌}
 use lib.ListN.{length, take, drop}
 use lib.Seq.{sets}
 use Rattle.answer.specs.Answer.{all_bytes}
-use Rattle.answer.specs.Stores.{nothing_left}
+use Rattle.answer.proofs.Stores.{nothing_left}
 use Rattle.board.specs.Lengths.{length_mapped}
 use Rattle.plan_writer.specs.Rows.{row_bytes}
 use Rattle.plan_writer.proofs.Written as laws

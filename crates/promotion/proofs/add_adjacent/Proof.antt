@@ -12,7 +12,7 @@ use Rattle.search.specs.declared.Listed.{Listed}
 use Rattle.search.specs.Stretches.{members, routes}
 use Rattle.search.specs.Search.{told, in_order}
 use Rattle.search.specs.Promotion.{kept, second_spent, joined}
-use Rattle.search.specs.Parts as parts
+use Rattle.search.proofs.Parts as parts
 use Rattle.promotion.proofs.add_adjacent.Statement.{statement}
 use Rattle.promotion.proofs.add_adjacent.Tie as tie
 

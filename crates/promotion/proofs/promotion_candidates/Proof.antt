@@ -8,7 +8,7 @@ use Rattle.search.specs.declared.Listed.{Listed}
 use Rattle.search.specs.Stretches.{members, routes}
 use Rattle.search.specs.Search.{told}
 use Rattle.search.specs.Promotion.{then_adjacent}
-use Rattle.search.specs.Parts as parts
+use Rattle.search.proofs.Parts as parts
 use Rattle.promotion.proofs.promotion_candidates.Statement.{statement}
 use Rattle.promotion.proofs.promotion_candidates.Tie as tie
 

@@ -1,4 +1,4 @@
-use Rattle.wire.specs.AcceptLaws.{not_nan}
+use Rattle.wire.proofs.AcceptLaws.{not_nan}
 use borrow.Author.Rules.{rules}
 use Rattle.records.proofs.f64_at.Goals as goal
 

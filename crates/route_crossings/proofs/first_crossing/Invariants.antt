@@ -1,4 +1,4 @@
-use Rattle.route.specs.WindowSteps.{later, first_start, first_hit, first_miss, first_end}
+use Rattle.route.proofs.WindowSteps.{later, first_start, first_hit, first_miss, first_end}
 use Rattle.route.specs.Intersection.{meets, first_met}
 use Rattle.geometry.specs.Points.{points_from, runs}
 use lib.ListN.{length}

@@ -1,4 +1,4 @@
-use Rattle.route.specs.WindowSteps.{last_hit, last_miss, last_end}
+use Rattle.route.proofs.WindowSteps.{last_hit, last_miss, last_end}
 use Rattle.route.specs.Intersection.{meets, last_met}
 use Rattle.geometry.specs.Points.{points_from, runs}
 use lib.ListN.{length}

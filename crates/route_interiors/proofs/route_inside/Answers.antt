@@ -5,7 +5,7 @@ use lib.ListN.{length}
 use Rattle.geometry.specs.Points.{runs, points_from}
 use Rattle.drawing.specs.Check.{walk, inside_tests}
 use Rattle.checks.specs.CheckRows.{boxes_from, nodes_in}
-use Rattle.checks.specs.TestSteps.{nodes_at, node_start, node_own, node_spent, node_hit, node_clean, node_end, inside_at, inside_start, inside_slanted, inside_straight, inside_end}
+use Rattle.checks.proofs.TestSteps.{nodes_at, node_start, node_own, node_spent, node_hit, node_clean, node_end, inside_at, inside_start, inside_slanted, inside_straight, inside_end}
 use borrow.Author.Rules.{rules}
 use Rattle.std.proofs.Common.{ap, not}
 use Rattle.route_interiors.proofs.route_inside.Goals as goal

@@ -1,5 +1,5 @@
 use Rattle.route.specs.Window.{points_length}
-use Rattle.route.specs.WindowSteps.{replaces_some, in_place, after_it}
+use Rattle.route.proofs.WindowSteps.{replaces_some, in_place, after_it}
 use mathlib.Core.Path.{sym, ◌∙◌}
 use native.Mathlib.Omega.{arith}
 use borrow.Author.Rules.{rules}

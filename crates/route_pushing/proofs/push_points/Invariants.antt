@@ -1,4 +1,4 @@
-use Rattle.route.specs.WindowSteps.{push_step}
+use Rattle.route.proofs.WindowSteps.{push_step}
 use Rattle.route.specs.Window.{points_none, points_length}
 use Rattle.route.specs.Push.{push_points}
 use Rattle.geometry.specs.Points.{point_at, points_from}

@@ -1,4 +1,4 @@
-use Rattle.route.specs.WindowSteps.{replaces_is}
+use Rattle.route.proofs.WindowSteps.{replaces_is}
 use borrow.Author.Tests.{lt-ltb, le-ltb, eq-eqb, ne_eqb}
 use borrow.Author.Rules.{rules}
 use Rattle.route_pushing.proofs.replaces_last.Goals as goal

@@ -1,4 +1,4 @@
-use Rattle.route.specs.WindowSteps.{within_run, pushed_new, pushed_window, left_nowhere, left_missed, made_input, made_output}
+use Rattle.route.proofs.WindowSteps.{within_run, pushed_new, pushed_window, left_nowhere, left_missed, made_input, made_output}
 use lib.ListN.{length}
 use Prim.Native.Nat.{◌≤◌, ◌+◌, ◌-◌, ◌*◌}
 use native.Mathlib.Omega.{arith}

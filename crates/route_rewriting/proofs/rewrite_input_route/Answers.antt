@@ -1,4 +1,4 @@
-use Rattle.route.specs.WindowSteps.{within_first}
+use Rattle.route.proofs.WindowSteps.{within_first}
 use mathlib.Core.Bool.{true, false}
 use Rattle.route.specs.Remade.{is_input_route}
 use Rattle.route.specs.Rewrite.{corridor_x}

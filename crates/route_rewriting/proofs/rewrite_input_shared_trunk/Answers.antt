@@ -1,4 +1,4 @@
-use Rattle.route.specs.WindowSteps.{within_first}
+use Rattle.route.proofs.WindowSteps.{within_first}
 use Rattle.route.specs.Remade.{is_input_trunk}
 use Rattle.route.specs.Intersection.{meets, first_shared_trunk_intersection}
 use Rattle.geometry.specs.Points.{points_from}

@@ -1,4 +1,4 @@
-use Rattle.route.specs.WindowSteps.{within_last}
+use Rattle.route.proofs.WindowSteps.{within_last}
 use mathlib.Core.Bool.{true, false}
 use Rattle.route.specs.Remade.{is_output_route}
 use Rattle.route.specs.Rewrite.{corridor_x}

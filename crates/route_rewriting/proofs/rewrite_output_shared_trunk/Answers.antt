@@ -1,4 +1,4 @@
-use Rattle.route.specs.WindowSteps.{within_last}
+use Rattle.route.proofs.WindowSteps.{within_last}
 use Rattle.route.specs.Remade.{is_output_trunk}
 use Rattle.route.specs.Intersection.{meets, last_shared_trunk_intersection}
 use Rattle.geometry.specs.Points.{points_from}

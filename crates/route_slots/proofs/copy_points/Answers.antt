@@ -1,4 +1,4 @@
-use Rattle.route.specs.WindowSteps.{copied_on, copy_start, copy_step, copy_end}
+use Rattle.route.proofs.WindowSteps.{copied_on, copy_start, copy_step, copy_end}
 use Rattle.route.specs.Slots.{put_points}
 use Rattle.geometry.specs.Points.{points_from}
 use lib.ListN.{length}

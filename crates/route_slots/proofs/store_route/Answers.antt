@@ -1,4 +1,4 @@
-use Rattle.route.specs.WindowSteps.{stores}
+use Rattle.route.proofs.WindowSteps.{stores}
 use native.Mathlib.Omega.{arith}
 use borrow.Author.Rules.{rules}
 use Rattle.route_slots.proofs.store_route.Goals as goal

@@ -5,7 +5,7 @@ use native.Mathlib.Omega.{arith}
 use borrow.Author.Rules.{rules}
 use lib.ListN.{length, length-set}
 use Rattle.search_calls.specs.Copied.{Put}
-use Rattle.search_calls.specs.Copies.{put_none, put_more, put_all}
+use Rattle.search_calls.proofs.Copies.{put_none, put_more, put_all}
 use Rattle.search_copies.proofs.copy_numbers.Statement.{statement}
 use Rattle.search_copies.proofs.copy_numbers.Tie as tie
 

@@ -6,7 +6,7 @@ use borrow.Author.Rules.{rules}
 use lib.ListN.{length, get_or, length-set}
 use Rattle.limits.specs.Limits.{max_route_points}
 use Rattle.search_calls.specs.Copied.{Copied}
-use Rattle.search_calls.specs.Copies.{copied_none, copied_more, copied_all}
+use Rattle.search_calls.proofs.Copies.{copied_none, copied_more, copied_all}
 use Rattle.search_copies.proofs.copy_routes.Statement.{statement}
 use Rattle.search_copies.proofs.copy_routes.Tie as tie
 

@@ -15,7 +15,7 @@ use Rattle.search.specs.Stretches.{members, routes, all_runs}
 use Rattle.geometry.specs.Points.{points_from}
 use Rattle.search.specs.Kept.{kept}
 use Rattle.search.specs.Search.{Listing, candidate, onto, gathered_onto}
-use Rattle.search.specs.KeptLaws as laws
+use Rattle.search.proofs.KeptLaws as laws
 use Rattle.search_lists.proofs.Walk as walk
 use Rattle.search_lists.proofs.Walk.{R, run}
 use Rattle.search_lists.proofs.gather.Goals as goal

@@ -6,7 +6,7 @@ use lib.ListN.{length, get_or, drop}
 use borrow.Author.Tests.{le-leb, lt-leb}
 use Rattle.limits.specs.Limits.{max_route_points, max_points}
 use Rattle.search_calls.specs.Entry.{counts_fit}
-use Rattle.search_calls.specs.RefusalSteps as laws
+use Rattle.search_calls.proofs.RefusalSteps as laws
 use borrow.Author.Rules.{rules}
 use Rattle.search_refusals.proofs.counts_fit.Goals as goal
 

@@ -6,7 +6,7 @@ use lib.Dec.{leb}
 use lib.ListN.{length, get_or, drop}
 use borrow.Author.Tests.{le-leb, lt-leb}
 use Rattle.search_calls.specs.Entry.{places_fit}
-use Rattle.search_calls.specs.RefusalSteps as laws
+use Rattle.search_calls.proofs.RefusalSteps as laws
 use borrow.Author.Rules.{rules}
 use Rattle.search_refusals.proofs.places_fit.Given as goal
 

@@ -6,7 +6,7 @@ use native.Mathlib.Nat.{add-zero}
 use lib.ListN.{length}
 use Rattle.geometry.specs.Points.{points_from, point_at}
 use Rattle.search_calls.specs.Entry.{points_fit}
-use Rattle.search_calls.specs.RefusalSteps as laws
+use Rattle.search_calls.proofs.RefusalSteps as laws
 use borrow.Author.Rules.{rules}
 use Rattle.search_refusals.proofs.points_fit.Given as goal
 

@@ -5,7 +5,7 @@ use borrow.Author.Rules.{rules}
 use lib.ListN.{length, drop}
 use Rattle.search.specs.Stretches.{routes}
 use Rattle.search_calls.specs.Entry.{routes_fit}
-use Rattle.search_calls.specs.RefusalSteps as laws
+use Rattle.search_calls.proofs.RefusalSteps as laws
 use Rattle.search_refusals.proofs.routes_fit.Given as goal
 
 abbrev pub invariant-loop-m : goal.invariant-loop-m

@@ -1,5 +1,5 @@
 use borrow.Author.Rules.{rules}
-use Rattle.wire.specs.AcceptLaws.{not_nan}
+use Rattle.wire.proofs.AcceptLaws.{not_nan}
 use Rattle.search_replay.proofs.number_at.Statement.{statement}
 use Rattle.search_replay.proofs.number_at.Tie as tie
 

@@ -1,6 +1,6 @@
 -- `search_replies::mark_of` meets its contract. Assumes nothing.
 use native.Mathlib.Omega.{arith}
-use Rattle.search_calls.specs.RefusalSteps as laws
+use Rattle.search_calls.proofs.RefusalSteps as laws
 use Rattle.search_replies.proofs.mark_of.Goals as goal
 
 pub returns-then-n-eq0 : goal.returns-then-n-eq0

@@ -6,7 +6,7 @@ use native.Mathlib.Omega.{arith}
 use lib.ListN.{length}
 use borrow.Author.Rules.{rules}
 use Rattle.search_calls.specs.Entry.{Said, Replied}
-use Rattle.search_calls.specs.RefusalSteps as laws
+use Rattle.search_calls.proofs.RefusalSteps as laws
 use Rattle.search_replies.proofs.promotion_reply.Goals as goal
 use Rattle.search_replies.proofs.promotion_reply.Goals.{In-All, In-SecondSpent}
 

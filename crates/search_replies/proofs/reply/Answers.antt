@@ -4,7 +4,7 @@ use native.Mathlib.Omega.{arith}
 use lib.Seq.{length-take-le}
 use lib.Ieee.{of_bits}
 use borrow.Author.Rules.{rules}
-use Rattle.search_calls.specs.RefusalSteps as laws
+use Rattle.search_calls.proofs.RefusalSteps as laws
 use Rattle.search_replies.proofs.reply.Goals as goal
 
 pub returns-then-n-eq0 : goal.returns-then-n-eq0

@@ -2,9 +2,9 @@
 use mathlib.Core.Path.{subst}
 use lib.ListN.{length}
 use borrow.Author.Rules.{rules}
-use Rattle.search.specs.Parts.{count_within}
+use Rattle.search.proofs.Parts.{count_within}
 use Rattle.search_calls.specs.Entry.{Said, Replied}
-use Rattle.search_calls.specs.RefusalSteps as laws
+use Rattle.search_calls.proofs.RefusalSteps as laws
 use Rattle.search_replies.proofs.search_reply.Goals as goal
 
 pub mark_of-requires : goal.mark_of-requires

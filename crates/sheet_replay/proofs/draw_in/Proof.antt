@@ -1,8 +1,8 @@
 -- `sheet_replay::draw_in` is safe and ends. Assumes nothing.
 use mathlib.Core.Path.{◌≡◌}
 use Rattle.job_tables.specs.Came.{Sizes}
-use Rattle.job_tables.specs.Ready.{tables_sound, routes_in}
-use Rattle.plan.specs.TableReads as rows
+use Rattle.job_tables.proofs.Ready.{tables_sound, routes_in}
+use Rattle.plan.proofs.TableReads as rows
 use Rattle.draw_job.proofs.Ready as ready
 use Rattle.draw_job.proofs.Phases as laws
 use borrow.Author.Rules.{rules}

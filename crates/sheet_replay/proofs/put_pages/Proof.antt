@@ -3,7 +3,7 @@ use mathlib.Core.Path.{◌≡◌, sym, ◌∙◌}
 use native.Mathlib.Omega.{arith}
 use lib.ListN.{length}
 use Rattle.job_tables.specs.Came.{Sizes}
-use Rattle.plan.specs.TableReads as rows
+use Rattle.plan.proofs.TableReads as rows
 use Rattle.normalize.proofs.Shift.{windows_kept}
 use Rattle.draw_job.proofs.Answers as answers
 use borrow.Author.Rules.{rules}

@@ -2,8 +2,8 @@
 use mathlib.Core.Path.{◌≡◌, ◌∙◌, ap}
 use lib.ListN.{length}
 use lib.Seq.{sets}
-use Rattle.plan_stage.specs.EveryPlan.{promised_in_from}
-use Rattle.outputs.specs.Front.{plan_given}
+use Rattle.plan_stage.proofs.EveryPlan.{promised_in_from}
+use Rattle.outputs.proofs.Front.{plan_given}
 use Rattle.stage.proofs.Laws as laws
 use borrow.Author.Rules.{rules}
 use Rattle.stage.proofs.stage_draw.Statement.{statement}

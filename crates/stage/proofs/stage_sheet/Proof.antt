@@ -2,7 +2,7 @@
 use mathlib.Core.Path.{◌≡◌, refl, sym, ◌∙◌, ap}
 use native.Mathlib.Omega.{arith}
 use lib.ListN.{length}
-use Rattle.outputs.specs.Front.{rooms}
+use Rattle.outputs.proofs.Front.{rooms}
 use Rattle.stage.proofs.Laws as laws
 use borrow.Author.Rules.{rules}
 use Rattle.stage.proofs.stage_sheet.Statement.{statement}

@@ -14,7 +14,7 @@ use Rattle.board.specs.Board.{Board}
 use Rattle.plan.specs.declared.Bound.{Bound}
 use Rattle.plan.specs.BoardTables.{no_bundle}
 use Rattle.plan.specs.Prepared.{no_planned}
-use Rattle.plan.specs.TableReads.{length_mapped, part_cons}
+use Rattle.plan.proofs.TableReads.{length_mapped, part_cons}
 use Rattle.drawing.specs.Sheet.{Turn, turn, sheet_of}
 use Rattle.checks.specs.CheckRows.{drawn_of}
 use Rattle.checks.specs.MemberSlices.{Row}

@@ -5,7 +5,7 @@ use Prim.Native.Nat.{◌≤◌, ◌-◌}
 use lib.ListN.{length}
 use Rattle.limits.specs.Limits.{max_nodes}
 use Rattle.plan.specs.Depths.{no_node}
-use Rattle.plan.specs.TableReads.{length_mapped, null_node, get_d_any}
+use Rattle.plan.proofs.TableReads.{length_mapped, null_node, get_d_any}
 use Rattle.turns.specs.TurnTables.{Boxed}
 use Rattle.turns.proofs.Filling.{boxed_next}
 use Rattle.turns.proofs.node_boxes.Statement.{statement}

@@ -7,7 +7,7 @@ use Rattle.limits.specs.Limits.{max_ports}
 use Rattle.board.specs.declared.Port.{Port}
 use Rattle.plan.specs.Depths.{no_port}
 use Rattle.plan.specs.BoardTables.{no_bundle}
-use Rattle.plan.specs.TableReads.{length_mapped, null_port, get_d_any}
+use Rattle.plan.proofs.TableReads.{length_mapped, null_port, get_d_any}
 use Rattle.turns.specs.TurnTables.{Spotted}
 use Rattle.turns.proofs.Filling.{spotted_next}
 use Rattle.turns.proofs.port_spots.Statement.{statement}

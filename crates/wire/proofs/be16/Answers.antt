@@ -1,7 +1,7 @@
 use native.Mathlib.Omega.{arith}
 use mathlib.Core.Path.{sym}
 use Prim.Native.Nat.{◌+◌}
-use Rattle.wire.specs.BytesLaws.{number_two}
+use Rattle.wire.proofs.BytesLaws.{number_two}
 use borrow.Author.Rules.{rules}
 use Rattle.wire.proofs.be16.Goals as goal
 

@@ -1,5 +1,5 @@
 use native.Mathlib.Omega.{arith}
-use Rattle.wire.specs.BytesLaws.{number_parts}
+use Rattle.wire.proofs.BytesLaws.{number_parts}
 use borrow.Author.Rules.{rules}
 use Rattle.wire.proofs.be64.Goals as goal
 

@@ -1,4 +1,4 @@
-use Rattle.wire.specs.Bits.{no_nan, nan_bits}
+use Rattle.wire.proofs.Bits.{no_nan, nan_bits}
 use borrow.Author.Rules.{rules}
 use Rattle.wire.proofs.bits_of.Goals as goal
 

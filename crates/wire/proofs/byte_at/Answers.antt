@@ -1,6 +1,6 @@
 use native.Mathlib.Omega.{arith}
 use lib.Dec.{lit<}
-use Rattle.wire.specs.BytesLaws.{number_one}
+use Rattle.wire.proofs.BytesLaws.{number_one}
 use Rattle.wire.specs.Read.{told}
 use Rattle.wire.specs.ReadLaws.{field_at, field_past}
 use borrow.Author.Rules.{rules}

@@ -2,7 +2,7 @@ use native.Mathlib.Omega.{arith}
 use lib.Dec.{lit<}
 use Rattle.wire.specs.Read.{told_number, after}
 use Rattle.wire.specs.ReadLaws.{field_at, field_past}
-use Rattle.wire.specs.AcceptLaws.{told_of}
+use Rattle.wire.proofs.AcceptLaws.{told_of}
 use borrow.Author.Rules.{rules}
 use Rattle.wire.proofs.number_at.Goals as goal
 

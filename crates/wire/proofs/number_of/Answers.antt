@@ -3,7 +3,7 @@ use mathlib.Core.Bool.{true, false}
 use lib.Ieee.{Float, le}
 use borrow.Author.Rules.{rules}
 use Rattle.wire.specs.declared.Number.TheVariants.{Good}
-use Rattle.wire.specs.AcceptLaws.{not_nan, nan_bad, below_bad, above_bad, in_range_good}
+use Rattle.wire.proofs.AcceptLaws.{not_nan, nan_bad, below_bad, above_bad, in_range_good}
 use Rattle.wire.proofs.number_of.Goals as goal
 
 pub returns-then-b-gt9218868437227405312 : goal.returns-then-b-gt9218868437227405312

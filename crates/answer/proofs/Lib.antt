@@ -1,0 +1,3 @@
+pub mod Back
+pub mod Stores
+pub mod WholeAnswer

@@ -1,0 +1,5 @@
+pub mod Fraction
+pub mod Kind
+pub mod Plain
+pub mod Sign
+pub mod Total

@@ -1,0 +1,4 @@
+pub mod Cases
+pub mod Exact
+pub mod PartsLaws
+pub mod Reads

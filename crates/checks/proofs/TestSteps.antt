@@ -1,0 +1,321 @@
+-- The tests of a check one after the other: run after run, tap after tap, route after route, bundle after bundle, node after node.
+-- Assumes nothing.
+use Prim.Native.Nat.{ℕ, zero, suc, ◌+◌, ◌*◌, ◌-◌, ◌≤◌, ◌<◌}
+use Rattle.std.specs.Prelude.{◌≡◌, refl, Bool, false, not, cond, length, get_or, take, drop, Float}
+use Rattle.std.proofs.Math.Path.{sym, ap, fun_ext}
+use Rattle.std.proofs.Common.{◌∙◌, add-one, drop_of_length-le, get_or-take, length-take-le}
+use mathlib.Core.List.{List, [], ◌∷◌, ◌++◌, map}
+use Rattle.std.proofs.Math.Bool.{true}
+use native.Mathlib.Omega.{arith}
+use Rattle.std.proofs.lemmas.List.{length-map}
+use Rattle.std.proofs.Math.Seq.{drop-cons}
+use borrow.Author.Tests.{eq-eqb, ne_eqb}
+use Rattle.plan.proofs.TableReads.{part_cons, part_none}
+use Rattle.limits.specs.Limits.{slot_points}
+use Rattle.geometry.specs.declared.Node.{Node}
+use Rattle.geometry.specs.declared.Point.{Point}
+use Rattle.geometry.specs.declared.Segment.{Segment}
+use Rattle.geometry.specs.declared.Tap.{Tap}
+use Rattle.geometry.specs.declared.Tap.TheVariants.{Absent, At}
+use Rattle.geometry.specs.Points.{Route, runs, point_at, run_at, points_from}
+use Rattle.geometry.specs.Apart.{trunk, apart}
+use Rattle.geometry.proofs.Clear.{apart_contact, apart_spacing}
+use Rattle.geometry.proofs.KindContact.{kind_contact}
+use Rattle.route.specs.Window.{runs_next, runs_none}
+use Rattle.route.specs.Slots.{routes_from}
+use Rattle.sorting.specs.Lists.{Every}
+use Rattle.sorting.specs.Sorted.{every_at}
+use Rattle.board.specs.declared.Options.{Options}
+use Rattle.board.specs.declared.DrawnBundle.{DrawnBundle}
+use Rattle.board.specs.declared.PlacedNode.{PlacedNode}
+use Rattle.board.specs.declared.Edge.{Edge}
+use Rattle.board.specs.Board.{Board}
+use Rattle.drawing.specs.declared.Finding.{Finding}
+use Rattle.drawing.specs.declared.Finding.TheVariants as finding
+use Rattle.geometry.specs.Contact.{slanted}
+use Rattle.geometry.specs.Enters.{passes_inside}
+use Rattle.drawing.specs.Build.{seg, tap_of}
+use Rattle.drawing.specs.Check.{Test, due, barred, clean, failed, walk, own, node_tests, inside_tests, member_tests, no_edge, clash, run_tests, over_routes, drawn_tests, pair_tests, prior_tests}
+use Rattle.drawing.specs.CleanChecks.{walk_on, walk_off}
+use Rattle.checks.specs.Purse.{told, charged}
+use Rattle.checks.specs.CheckRows.{taps_from, drawn_of, box_at, boxes_from, nodes_in, edge_at, bare_node, bare_edge, inside_route, Sliced, Tabled, AllTabled}
+
+-- ---- one test, and tests after tests
+
+pub charge_none : (n : ℕ) → n ≡ 0 → (false, n) ≡ charged n
+unfolding charged
+charge_none n h = rw h
+
+pub charge_one : (n : ℕ) → (n ≡ 0 → ⊥) → (true, n - 1) ≡ charged n
+unfolding charged
+charge_one zero h = absurd (h refl)
+charge_one (suc n) h = let a : suc n - 1 ≡ n = omega arith in rw a
+
+-- a charge that is refused leaves nothing, as it found it; one that is paid leaves one less
+unpaid : (n m : ℕ) (r : Bool) → (r, m) ≡ charged n → not r ≡ true → (n ≡ 0) × (m ≡ 0)
+unfolding charged
+unpaid zero m r p h = (refl, ap (λ (x : Bool × ℕ). x.1) p)
+unpaid (suc n) m r p h =
+    let t : false ≡ true = sym (ap (λ (x : Bool × ℕ). not x.0) p) ∙ h in
+    let z : ◌≡◌ {A = ℕ} 0 1 = cc in
+    absurd (omega arith)
+
+paid : (n m : ℕ) (r : Bool) → (r, m) ≡ charged n → not r ≡ false → n ≡ suc m
+unfolding charged
+paid zero m r p h =
+    let t : true ≡ false = sym (ap (λ (x : Bool × ℕ). not x.0) p) ∙ h in
+    let z : ◌≡◌ {A = ℕ} 0 1 = cc in
+    absurd (omega arith)
+paid (suc n) m r p h = ap suc (sym (ap (λ (x : Bool × ℕ). x.1) p))
+
+module _ (n m : ℕ) (r : Bool) (p : (r, m) ≡ charged n) (e : ℕ) (b : Bool) (ts : List Test) where
+  pub due_spent : not r ≡ true → failed 14 m ≡ walk e (due b ∷ ts) n
+  unfolding walk
+  due_spent h =
+      let a = (unpaid n m r p h).0 in
+      let c = (unpaid n m r p h).1 in
+      rw (a, c)
+
+  pub due_hit : not r ≡ false → b ≡ true → failed e m ≡ walk e (due b ∷ ts) n
+  unfolding walk
+  due_hit h k = let a = paid n m r p h in rw (a, k)
+
+  pub due_clean : not r ≡ false → b ≡ false → walk e ts m ≡ walk e (due b ∷ ts) n
+  unfolding walk
+  due_clean h k = let a = paid n m r p h in rw (a, k)
+
+pub walk_done : (e n : ℕ) → clean n ≡ walk e [] n
+unfolding walk
+walk_done e n = refl
+
+-- a check in two parts, of which the first found f and left m visits
+module _ (e : ℕ) (xs ys : List Test) (n m : ℕ) (f : Finding) (w : told f m ≡ walk e xs n) where
+  pub then_on : f ≡ finding.Clean → walk e ys m ≡ walk e (xs ++ ys) n
+  then_on h = sym (walk_on e xs ys n (record { 0 = m }) (sym w ∙ ap (λ (x : Finding). told x m) h))
+
+  pub then_off : (r : ℕ) → f ≡ finding.Refused r → failed r m ≡ walk e (xs ++ ys) n
+  then_off r h = sym (walk_off e xs ys n r (record { 0 = m }) (sym w ∙ ap (λ (x : Finding). told x m) h))
+
+-- ---- run after run
+
+module _ (o : Options) (allow : Bool) (bus : Segment) (tap : Tap) (s : List Float) (start n : ℕ) where
+  abbrev pub tests_at : ℕ → List Test
+  tests_at i = run_tests o allow bus tap (runs (points_from s (start + i) (n - i)))
+
+  abbrev pub look_on : ℕ → List Test
+  look_on i = due (clash o allow bus tap (run_at s (start + i))) ∷ []
+
+  tests_next : (i : ℕ) → i + 1 < n → look_on i ++ tests_at (i + 1) ≡ tests_at i
+  unfolding run_tests
+  tests_next i h = rw (runs_next s start n i h)
+
+  pub walk_start : (k : ℕ) → walk 11 (tests_at 0) k ≡ walk 11 (run_tests o allow bus tap (runs (points_from s start n))) k
+  walk_start k =
+      let a : start + 0 ≡ start = omega arith in
+      let b : n - 0 ≡ n = omega arith in
+      rw (a, b)
+
+  pub walk_off_at : (i k m r : ℕ) (f : Finding) → i + 1 < n → told f m ≡ walk 11 (look_on i) k → f ≡ finding.Refused r → failed r m ≡ walk 11 (tests_at i) k
+  walk_off_at i k m r f h w x = then_off 11 (look_on i) (tests_at (i + 1)) k m f w r x ∙ ap (λ (l : List Test). walk 11 l k) (tests_next i h)
+
+  pub walk_next : (i k m : ℕ) (f : Finding) → i + 1 < n → told f m ≡ walk 11 (look_on i) k → f ≡ finding.Clean → walk 11 (tests_at (i + 1)) m ≡ walk 11 (tests_at i) k
+  walk_next i k m f h w x = then_on 11 (look_on i) (tests_at (i + 1)) k m f w x ∙ ap (λ (l : List Test). walk 11 l k) (tests_next i h)
+
+  pub walk_end : (i k : ℕ) → n ≤ i + 1 → clean k ≡ walk 11 (tests_at i) k
+  unfolding walk run_tests
+  walk_end i k h = let g : n - i ≤ 1 = omega arith in rw (runs_none s (start + i) (n - i) g)
+
+-- ---- a run that is apart from a bus
+
+pub apart_clean : (o : Options) (allow : Bool) (bus : Segment) (tap : Tap) (run : Segment) → apart (trunk bus) o.minimum_parallel_wire_spacing run.start run.end ≡ true → clash o allow bus tap run ≡ false
+unfolding clash
+apart_clean o allow bus tap run h = rw (kind_contact bus run.start run.end tap allow, apart_contact bus o.minimum_parallel_wire_spacing run.start run.end tap allow h, apart_spacing bus o.minimum_parallel_wire_spacing run.start run.end h)
+
+-- ---- tap after tap
+
+module _ (edges : List ℕ) (taps : List Float) (first n e : ℕ) where
+  abbrev pub tap_at : ℕ → Tap
+  tap_at i = tap_of (taps_from edges taps (first + i) (n - i)) e
+
+  pub tap_start : tap_at 0 ≡ tap_of (taps_from edges taps first n) e
+  tap_start =
+      let a : first + 0 ≡ first = omega arith in
+      let b : n - 0 ≡ n = omega arith in
+      rw (a, b)
+
+  pub tap_here : (i : ℕ) → i < n → get_or edges (first + i) 0 ≡ e → tap_at i ≡ At (point_at taps (first + i))
+  unfolding taps_from tap_of
+  tap_here i h q = let a : n - i ≡ suc (n - (i + 1)) = omega arith in rw (a, eq-eqb (get_or edges (first + i) 0) e q)
+
+  pub tap_next : (i : ℕ) → i < n → (get_or edges (first + i) 0 ≡ e → ⊥) → tap_at (i + 1) ≡ tap_at i
+  unfolding taps_from tap_of
+  tap_next i h q =
+      let a : n - i ≡ suc (n - (i + 1)) = omega arith in
+      let b : first + (i + 1) ≡ suc (first + i) = omega arith in
+      rw (a, ne_eqb (get_or edges (first + i) 0) e q, b)
+
+  pub tap_none : (i : ℕ) → n ≤ i → tap_at i ≡ Absent
+  unfolding taps_from tap_of
+  tap_none i h = let a : n - i ≡ 0 = omega arith in rw a
+
+-- ---- route after route, for either check
+
+module _ (er : ℕ) (f : ℕ → Route → List Test) (chosen : ℕ → Bool) (s : List Float) (ns : List ℕ) where
+  abbrev pub rest_of : ℕ → List Test
+  rest_of i = over_routes f chosen (routes_from s i (drop i ns)) i
+
+  abbrev pub slot_at : ℕ → Route
+  slot_at i = points_from s (slot_points * i) (get_or ns i 0)
+
+  rest_next : (i : ℕ) → i < length ns → rest_of i ≡ cond (chosen i) (f i (slot_at i)) [] ++ rest_of (i + 1)
+  unfolding over_routes routes_from
+  rest_next i h = rw (add-one, drop-cons ns i 0 h)
+
+  pub over_skip : (i k : ℕ) → i < length ns → chosen i ≡ false → walk er (rest_of (i + 1)) k ≡ walk er (rest_of i) k
+  over_skip i k h e = sym (ap (λ (l : List Test). walk er l k) (rest_next i h ∙ ap (λ (c : Bool). cond c (f i (slot_at i)) [] ++ rest_of (i + 1)) e))
+
+  chosen_next : (i : ℕ) → i < length ns → chosen i ≡ true → rest_of i ≡ f i (slot_at i) ++ rest_of (i + 1)
+  chosen_next i h e = rest_next i h ∙ ap (λ (c : Bool). cond c (f i (slot_at i)) [] ++ rest_of (i + 1)) e
+
+  module _ (i k m : ℕ) (x : Finding) (h : i < length ns) (e : chosen i ≡ true) (w : told x m ≡ walk er (f i (slot_at i)) k) where
+    pub over_on : x ≡ finding.Clean → walk er (rest_of (i + 1)) m ≡ walk er (rest_of i) k
+    over_on y = then_on er (f i (slot_at i)) (rest_of (i + 1)) k m x w y ∙ sym (ap (λ (l : List Test). walk er l k) (chosen_next i h e))
+
+    pub over_off : (r : ℕ) → x ≡ finding.Refused r → failed r m ≡ walk er (rest_of i) k
+    over_off r y = then_off er (f i (slot_at i)) (rest_of (i + 1)) k m x w r y ∙ sym (ap (λ (l : List Test). walk er l k) (chosen_next i h e))
+
+  pub over_end : (i k : ℕ) → length ns ≤ i → clean k ≡ walk er (rest_of i) k
+  unfolding over_routes routes_from walk
+  over_end i k h = rw (drop_of_length-le ns h)
+
+-- ---- bundle after bundle
+
+pub tabled_at : (l : List DrawnBundle) (n i : ℕ) (d : DrawnBundle) (edges : List ℕ) (taps : List Float) → AllTabled (take n l) edges taps → i < n → n ≤ length l → Tabled (get_or l i d).first (get_or l i d).count edges taps
+tabled_at l n i d edges taps t h k =
+    let b : i < length (take n l) = rw length-take-le (omega arith) in
+    let e : get_or (take n l) i d ≡ get_or l i d = get_or-take n l i d h in
+    rw e at (every_at (λ x. Tabled x.first x.count edges taps) (take n l) d t i b)
+
+module _ (o : Options) (allow : Bool) (new : DrawnBundle) (changed : ℕ → Bool) (edges : List ℕ) (taps : List Float) (rs : List Route) (l : List DrawnBundle) (n : ℕ) where
+  abbrev pub priors_at : ℕ → List Test
+  priors_at i = prior_tests o allow (drawn_of edges taps new) changed (map (drawn_of edges taps) (drop i (take n l))) rs
+
+  abbrev pub one_at : DrawnBundle → List Test
+  one_at d = drawn_tests o allow (drawn_of edges taps d) changed rs ++ pair_tests o allow (drawn_of edges taps new) (drawn_of edges taps d)
+
+  prior_next : (i : ℕ) (d : DrawnBundle) → i < n → n ≤ length l → priors_at i ≡ one_at (get_or l i d) ++ priors_at (i + 1)
+  unfolding prior_tests
+  prior_next i d h k = rw (part_cons l n i d h k)
+
+  module _ (i : ℕ) (d : DrawnBundle) (k m : ℕ) (x : Finding) (h : i < n) (q : n ≤ length l) (w : told x m ≡ walk 11 (one_at (get_or l i d)) k) where
+    pub prior_on : x ≡ finding.Clean → walk 11 (priors_at (i + 1)) m ≡ walk 11 (priors_at i) k
+    prior_on y = then_on 11 (one_at (get_or l i d)) (priors_at (i + 1)) k m x w y ∙ sym (ap (λ (t : List Test). walk 11 t k) (prior_next i d h q))
+
+    pub prior_off : (r : ℕ) → x ≡ finding.Refused r → failed r m ≡ walk 11 (priors_at i) k
+    prior_off r y = then_off 11 (one_at (get_or l i d)) (priors_at (i + 1)) k m x w r y ∙ sym (ap (λ (t : List Test). walk 11 t k) (prior_next i d h q))
+
+  pub prior_end : (i k : ℕ) → n ≤ i → n ≤ length l → clean k ≡ walk 11 (priors_at i) k
+  unfolding prior_tests walk
+  prior_end i k h m = rw (part_none l n i h m)
+
+-- ---- node after node, and then the tests that are left
+
+boxes_next : (boxes : List Float) (n j : ℕ) → j < n → boxes_from boxes j (n - j) ≡ box_at boxes j ∷ boxes_from boxes (j + 1) (n - (j + 1))
+unfolding boxes_from
+boxes_next boxes n j h =
+    let a : n - j ≡ suc (n - (j + 1)) = omega arith in
+    let z : suc j ≡ j + 1 = omega arith in
+    rw (a, z)
+
+module _ (e : Edge) (s : Segment) (boxes : List Float) (n : ℕ) (rest : List Test) where
+  abbrev pub nodes_at : ℕ → List Test
+  nodes_at j = node_tests e s (boxes_from boxes j (n - j)) j ++ rest
+
+  pub node_start : (k : ℕ) → walk 12 (nodes_at 0) k ≡ walk 12 (node_tests e s (boxes_from boxes 0 n) 0 ++ rest) k
+  node_start k = let a : n - 0 ≡ n = omega arith in rw a
+
+  abbrev look_at : ℕ → Test
+  look_at j = due (passes_inside s.start s.end (box_at boxes j).body)
+
+  own_next : (j : ℕ) → j < n → own e j ≡ true → nodes_at j ≡ nodes_at (j + 1)
+  unfolding node_tests
+  own_next j h o = let z : suc j ≡ j + 1 = omega arith in rw (boxes_next boxes n j h, z, o)
+
+  due_next : (j : ℕ) → j < n → own e j ≡ false → nodes_at j ≡ look_at j ∷ nodes_at (j + 1)
+  unfolding node_tests
+  due_next j h o = let z : suc j ≡ j + 1 = omega arith in rw (boxes_next boxes n j h, z, o)
+
+  pub node_own : (j k : ℕ) → j < n → own e j ≡ true → walk 12 (nodes_at (j + 1)) k ≡ walk 12 (nodes_at j) k
+  node_own j k h o = sym (ap (λ (x : List Test). walk 12 x k) (own_next j h o))
+
+  module _ (j k m : ℕ) (r : Bool) (h : j < n) (o : own e j ≡ false) (p : (r, m) ≡ charged k) where
+    abbrev now_due : walk 12 (look_at j ∷ nodes_at (j + 1)) k ≡ walk 12 (nodes_at j) k
+    now_due = sym (ap (λ (x : List Test). walk 12 x k) (due_next j h o))
+
+    pub node_spent : not r ≡ true → failed 14 m ≡ walk 12 (nodes_at j) k
+    node_spent z = due_spent k m r p 12 _ (nodes_at (j + 1)) z ∙ now_due
+
+    module _ (d : Node) (b : d ≡ (box_at boxes j).body) where
+      pub node_hit : not r ≡ false → passes_inside s.start s.end d ≡ true → failed 12 m ≡ walk 12 (nodes_at j) k
+      node_hit z x = due_hit k m r p 12 _ (nodes_at (j + 1)) z (ap (passes_inside s.start s.end) (sym b) ∙ x) ∙ now_due
+
+      pub node_clean : not r ≡ false → passes_inside s.start s.end d ≡ false → walk 12 (nodes_at (j + 1)) m ≡ walk 12 (nodes_at j) k
+      node_clean z x = due_clean k m r p 12 _ (nodes_at (j + 1)) z (ap (passes_inside s.start s.end) (sym b) ∙ x) ∙ now_due
+
+  pub node_end : (j k : ℕ) → n ≤ j → walk 12 (nodes_at j) k ≡ walk 12 rest k
+  unfolding node_tests boxes_from
+  node_end j k h = let a : n - j ≡ 0 = omega arith in rw a
+
+-- ---- run after run against the nodes
+
+module _ (ns : List PlacedNode) (e : Edge) (s : List Float) (start n : ℕ) where
+  abbrev pub inside_at : ℕ → List Test
+  inside_at i = inside_tests ns e (runs (points_from s (start + i) (n - i)))
+
+  pub inside_start : (k : ℕ) → walk 12 (inside_at 0) k ≡ walk 12 (inside_tests ns e (runs (points_from s start n))) k
+  inside_start k =
+      let a : start + 0 ≡ start = omega arith in
+      let b : n - 0 ≡ n = omega arith in
+      rw (a, b)
+
+  inside_next : (i : ℕ) → i + 1 < n → inside_at i ≡ cond (slanted (point_at s (start + i)) (point_at s (start + i + 1))) (barred ∷ []) (node_tests e (run_at s (start + i)) ns 0) ++ inside_at (i + 1)
+  unfolding inside_tests
+  inside_next i h = rw (runs_next s start n i h)
+
+  pub inside_slanted : (i k : ℕ) (run : Segment) → i + 1 < n → run ≡ run_at s (start + i) → slanted run.start run.end ≡ true → walk 12 (inside_at i) k ≡ failed 12 k
+  unfolding walk
+  inside_slanted i k run h p x =
+      let y : slanted (point_at s (start + i)) (point_at s (start + i + 1)) ≡ true = sym (ap (λ (r : Segment). slanted r.start r.end) p) ∙ x in
+      ap (λ (l : List Test). walk 12 l k) (inside_next i h) ∙ ap (λ (b : Bool). walk 12 (cond b (barred ∷ []) (node_tests e (run_at s (start + i)) ns 0) ++ inside_at (i + 1)) k) y
+
+  pub inside_straight : (i k : ℕ) (run : Segment) → i + 1 < n → run ≡ run_at s (start + i) → slanted run.start run.end ≡ false → walk 12 (node_tests e run ns 0 ++ inside_at (i + 1)) k ≡ walk 12 (inside_at i) k
+  inside_straight i k run h p x =
+      let y : slanted (point_at s (start + i)) (point_at s (start + i + 1)) ≡ false = sym (ap (λ (r : Segment). slanted r.start r.end) p) ∙ x in
+      ap (λ (r : Segment). walk 12 (node_tests e r ns 0 ++ inside_at (i + 1)) k) p
+      ∙ sym (ap (λ (l : List Test). walk 12 l k) (inside_next i h) ∙ ap (λ (b : Bool). walk 12 (cond b (barred ∷ []) (node_tests e (run_at s (start + i)) ns 0) ++ inside_at (i + 1)) k) y)
+
+  pub inside_end : (i k : ℕ) → n ≤ i + 1 → walk 12 (inside_at i) k ≡ clean k
+  unfolding inside_tests walk
+  inside_end i k h = let g : n - i ≤ 1 = omega arith in rw (runs_none s (start + i) (n - i) g)
+
+pub edge_tests : (boxes : List Float) (ends : List ℕ) (k : ℕ) (d : Edge) (r : Route) (m : ℕ) → d ≡ edge_at ends k → walk 12 (inside_tests (nodes_in boxes) d (runs r)) m ≡ walk 12 (inside_route boxes ends k r) m
+edge_tests boxes ends k d r m e = ap (λ (x : Edge). walk 12 (inside_tests (nodes_in boxes) x (runs r)) m) e
+
+-- ---- the tests read no more of a node and of an edge than the slices keep
+
+bare_nodes : (e : Edge) (s : Segment) (ns : List PlacedNode) (j : ℕ) → node_tests (bare_edge e) s (map bare_node ns) j ≡ node_tests e s ns j
+unfolding node_tests own
+bare_nodes e s [] j = refl
+bare_nodes e s (n ∷ ns) j = rw (bare_nodes e s ns (suc j))
+
+bare_tests : (ns : List PlacedNode) (e : Edge) (ss : List Segment) → inside_tests (map bare_node ns) (bare_edge e) ss ≡ inside_tests ns e ss
+unfolding inside_tests
+bare_tests ns e [] = refl
+bare_tests ns e (s ∷ ss) = rw (bare_nodes e s ns 0, bare_tests ns e ss)
+
+pub sliced_tests : (b : Board) (boxes : List Float) (ends : List ℕ) → Sliced b boxes ends → member_tests b ≡ inside_route boxes ends
+sliced_tests b boxes ends h =
+    fun_ext (λ i. fun_ext (λ r.
+    sym (bare_tests b.nodes (get_or b.edges i no_edge) (runs r))
+    ∙ ap (λ (ns : List PlacedNode). inside_tests ns (bare_edge (get_or b.edges i no_edge)) (runs r)) h.nodes
+    ∙ ap (λ (e : Edge). inside_tests (nodes_in boxes) e (runs r)) (h.edges i)))

@@ -1,0 +1,3 @@
+pub mod Counted
+pub mod Laws
+pub mod Link

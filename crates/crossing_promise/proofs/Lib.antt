@@ -1,0 +1,3 @@
+pub mod Permitted
+pub mod Sheet
+pub mod Theorem

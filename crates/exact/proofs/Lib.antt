@@ -1,0 +1,5 @@
+pub mod Between
+pub mod Meeting
+pub mod Near
+pub mod Outside
+pub mod Theorem

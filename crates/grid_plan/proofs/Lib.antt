@@ -1,0 +1,10 @@
+pub mod BoundSteps
+pub mod Bounding
+pub mod Deep
+pub mod Keys
+pub mod PlanComponents
+pub mod PlanSearches
+pub mod PlanSteps
+pub mod Planning
+pub mod Searching
+pub mod Sized

@@ -1,0 +1,5 @@
+pub mod Back
+pub mod Cases
+pub mod ExactShift
+pub mod Theorem
+pub mod Whole

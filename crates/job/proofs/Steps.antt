@@ -1,0 +1,152 @@
+-- The whole reader, step by step: what the outcome is once this much has been read. Assumes nothing.
+use Rattle.std.specs.Prelude.{ℕ, ◌-◌, ◌≤◌, ◌<◌, ◌≡◌, Bool, ◌&&◌, ◌||◌, cond, List, [], map, take, drop, get_or, replicate}
+use Rattle.std.proofs.Math.Path.{refl}
+use Rattle.std.proofs.Common.{sym, ap, ◌∙◌, arith}
+use Rattle.std.proofs.Math.Bool.{true, false}
+use Rattle.std.proofs.Math.ListN.{length, length-drop}
+use borrow.Author.Tests.{le-leb, lt-leb, eq-eqb, ne_eqb}
+use Rattle.limits.specs.Limits.{key_room}
+use Rattle.wire.specs.Bytes.{number}
+use Rattle.wire.proofs.BytesLaws.{number_one}
+use Rattle.wire.specs.Read.{Read, refused, got, after, many}
+use Rattle.wire.specs.ReadLaws.{field_at}
+use Rattle.board.specs.declared.PlacedNode.{PlacedNode}
+use Rattle.board.specs.declared.Port.{Port}
+use Rattle.board.specs.declared.Edge.{Edge}
+use Rattle.board.specs.declared.Bundle.{Bundle}
+use Rattle.board.specs.declared.Member.{Member}
+use Rattle.board.specs.Board.{Board}
+use Rattle.job.specs.declared.Counts.{Counts}
+use Rattle.job.specs.declared.Header.{Header}
+use Rattle.job.specs.declared.RawPort.{RawPort}
+use Rattle.job.specs.Keys.{Key, twice, known, known_then, each}
+use Rattle.job.specs.Job.{Tables, EdgeList, BundleList, Outcome, refusal, accepted, push, node, port, next_edge, next_bundle, ended, tables, some_twice, resolved, or_nine, settled, outcome, fields, version, lengths_fit, read_job, header, port_of, edge_of, bundle_of, member_of, port_key, member_key}
+use Rattle.job.specs.LoopSteps.{keys_alone}
+use Rattle.job.specs.Heads.{Limits}
+use Rattle.job.specs.Reads.{read_as, known_as, first_keys, node_id, edge_id, bundle_id}
+use Rattle.job.specs.AllTables.{Keyed}
+
+-- ---- answers with a flag
+pub read_good : {A : Type 0} {x : Read A} (ok : Bool) (r : ℕ) (a : A) (s : List ℕ) → read_as ok r a s ≡ x → ok ≡ true → x ≡ got a s
+unfolding read_as
+read_good ok r a s e h = sym e ∙ ap (λ (b : Bool). cond b (got a s) (refused r)) h
+
+pub read_bad : {A : Type 0} {x : Read A} (ok : Bool) (r : ℕ) (a : A) (s : List ℕ) → read_as ok r a s ≡ x → ok ≡ false → x ≡ refused r
+unfolding read_as
+read_bad ok r a s e h = sym e ∙ ap (λ (b : Bool). cond b (got a s) (refused r)) h
+
+-- ---- the tables
+module _ (grid : Bool) (c : Counts) (s : List ℕ) (g : Tables → List ℕ → Outcome) where
+  pub nodes_refused : (r : ℕ) → many c.nodes (push (node grid)) [] s ≡ refused r → outcome (tables grid c s) g ≡ refusal r
+  unfolding outcome after
+  nodes_refused r e = rw e
+
+  module _ (ns : List PlacedNode) (t : List ℕ) (en : many c.nodes (push (node grid)) [] s ≡ got ns t) where
+    pub ports_refused : (r : ℕ) → many c.ports (push (port grid)) [] t ≡ refused r → outcome (tables grid c s) g ≡ refusal r
+    unfolding outcome after
+    ports_refused r e = rw (en, e)
+
+    module _ (ps : List RawPort) (u : List ℕ) (ep : many c.ports (push (port grid)) [] t ≡ got ps u) where
+      pub edges_refused : (r : ℕ) → many c.edges (next_edge grid) (record { edges = []; points = [] }) u ≡ refused r → outcome (tables grid c s) g ≡ refusal r
+      unfolding outcome after
+      edges_refused r e = rw (en, ep, e)
+
+      module _ (es : EdgeList) (v : List ℕ) (ee : many c.edges (next_edge grid) (record { edges = []; points = [] }) u ≡ got es v) where
+        pub bundles_refused : (r : ℕ) → many c.bundles next_bundle (record { bundles = []; members = [] }) v ≡ refused r → outcome (tables grid c s) g ≡ refusal r
+        unfolding outcome after
+        bundles_refused r e = rw (en, ep, ee, e)
+
+        module _ (bs : BundleList) (at : ℕ) (w : List ℕ) (eb : many c.bundles next_bundle (record { bundles = []; members = [] }) v ≡ got bs (drop at w)) where
+          pub bytes_remain : at < length w → outcome (tables grid c s) g ≡ refusal 4
+          unfolding outcome after ended
+          bytes_remain h =
+              let k : length (drop at w) ≡ 0 → ⊥ = λ z. omega (arith, length-drop at w) in
+              rw (en, ep, ee, eb, ne_eqb (length (drop at w)) 0 k)
+
+          pub all_read : length w ≤ at → outcome (tables grid c s) g ≡ g (record { nodes = ns; ports = ps; edges = es; bundles = bs }) (drop at w)
+          unfolding outcome after ended
+          all_read h =
+              let k : length (drop at w) ≡ 0 = omega (arith, length-drop at w) in
+              rw (en, ep, ee, eb, eq-eqb (length (drop at w)) 0 k)
+
+-- ---- 8 and 9
+-- the keys of tables whose columns are whole, ids that stand alone having zeros beside them
+pub keyed_tables : (t : Tables) (c : Counts) (total : ℕ) (nodes port_nodes port_ids edges bundles member_edges member_roles : List ℕ)
+    → Limits c → length nodes ≡ key_room → length edges ≡ key_room → length bundles ≡ key_room
+    → take c.nodes nodes ≡ map node_id t.nodes → first_keys port_nodes port_ids c.ports ≡ map port_key t.ports → take c.edges edges ≡ map edge_id t.edges.edges
+    → take c.bundles bundles ≡ map bundle_id t.bundles.bundles → first_keys member_edges member_roles total ≡ map member_key t.bundles.members
+    → Keyed (first_keys nodes (replicate key_room 0) c.nodes) (first_keys port_nodes port_ids c.ports) (first_keys edges (replicate key_room 0) c.edges) (first_keys bundles (replicate key_room 0) c.bundles)
+    (first_keys member_edges member_roles total) t
+keyed_tables t c total nodes port_nodes port_ids edges bundles member_edges member_roles l ln le lb kn kp ke kb km = record {
+  of_nodes = keys_alone node_id nodes t.nodes c.nodes key_room (omega (arith, l.nodes)) (omega (arith, l.nodes, ln)) kn;
+  of_ports = kp;
+  of_edges = keys_alone edge_id edges t.edges.edges c.edges key_room l.edges (omega (arith, l.edges, le)) ke;
+  of_bundles = keys_alone bundle_id bundles t.bundles.bundles c.bundles key_room (omega (arith, l.bundles)) (omega (arith, l.bundles, lb)) kb;
+  of_members = km;
+}
+
+module _ (h : Header) (t : Tables) (nk pk ek bk mk : List Key) (r : Keyed nk pk ek bk mk t) (x : Bool) (found : x ≡ (twice nk || (twice pk || (twice ek || (twice bk || twice mk))))) where
+  twice_is : some_twice t ≡ x
+  unfolding some_twice
+  twice_is = rw (found, r.of_nodes, r.of_ports, r.of_edges, r.of_bundles, r.of_members)
+
+  pub eight : x ≡ true → settled h t ≡ refusal 8
+  unfolding settled
+  eight q = rw (twice_is, q)
+
+  module _ (kp ke kb km : Bool) (ps : List Port) (es : List Edge) (bs : List Bundle) (ms : List Member)
+      (dp : known_as kp ps ≡ each (port_of nk) t.ports []) (de : known_as ke es ≡ each (edge_of nk) t.edges.edges [])
+      (db : known_as kb bs ≡ each (bundle_of nk pk) t.bundles.bundles []) (dm : known_as km ms ≡ each (member_of ek) t.bundles.members []) where
+    abbrev board : Board
+    board = record { options = h.options; nodes = t.nodes; ports = ps; edges = es; bundles = bs; members = ms }
+
+    all_of : (a b c d : Bool) → known_then (known_as a ps) (λ ports. known_then (known_as b es) (λ edges. known_then (known_as c bs) (λ bundles. known_then (known_as d ms) (λ members.
+        known (record { options = h.options; nodes = t.nodes; ports = ports; edges = edges; bundles = bundles; members = members }))))) ≡ known_as (a && (b && (c && d))) board
+    unfolding known_then known_as
+    all_of true true true true = refl
+    all_of true true true false = refl
+    all_of true true false d = refl
+    all_of true false c d = refl
+    all_of false b c d = refl
+
+    resolved_is : resolved h.options t ≡ known_as (kp && (ke && (kb && km))) board
+    unfolding resolved
+    resolved_is = rw (← r.of_nodes, ← r.of_ports, ← r.of_edges, ← dp, ← de, ← db, ← dm) (all_of kp ke kb km)
+
+    module _ (q : x ≡ false) (k : Bool) (all : k ≡ (kp && (ke && (kb && km)))) where
+      pub nine : k ≡ false → settled h t ≡ refusal 9
+      unfolding settled or_nine known_as
+      nine u = rw (twice_is, q, resolved_is, ← all, u)
+
+      pub all_known : k ≡ true → settled h t ≡ accepted (record { flags = h.flags; grants = h.grants; board = board; points = t.edges.points })
+      unfolding settled or_nine known_as
+      all_known u = rw (twice_is, q, resolved_is, ← all, u)
+
+-- ---- from the first byte on
+module _ (s : List ℕ) where
+  pub too_short : length s < 5 → read_job s ≡ refusal 1
+  unfolding read_job lengths_fit
+  too_short h = rw (lt-leb 5 (length s) h)
+
+  module _ (long : 5 ≤ length s) where
+    pub wrong_length : (number (take 4 s) ≡ length s - 4 → ⊥) → read_job s ≡ refusal 1
+    unfolding read_job lengths_fit
+    wrong_length h = rw (le-leb 5 (length s) long, ne_eqb (number (take 4 s)) (length s - 4) h)
+
+    module _ (right : number (take 4 s) ≡ length s - 4) where
+      read_on : read_job s ≡ version (get_or s 4 0) (drop 5 s)
+      unfolding read_job lengths_fit outcome
+      read_on = rw (le-leb 5 (length s) long, eq-eqb (number (take 4 s)) (length s - 4) right, field_at 1 4 s long, number_one s 4 long)
+
+      pub wrong_version : (get_or s 4 0 ≡ 1 → ⊥) → read_job s ≡ refusal 3
+      unfolding version
+      wrong_version h = read_on ∙ rw (ne_eqb (get_or s 4 0) 1 h)
+
+      module _ (one : get_or s 4 0 ≡ 1) where
+        pub head_refused : (r : ℕ) → header (drop 5 s) ≡ refused r → read_job s ≡ refusal r
+        unfolding version fields outcome
+        head_refused r e = read_on ∙ rw (eq-eqb (get_or s 4 0) 1 one, e)
+
+        pub head_read : (h : Header) (t : List ℕ) → header (drop 5 s) ≡ got h t → read_job s ≡ outcome (tables h.flags.on_grid h.counts t) (λ x rest. settled h x)
+        unfolding version fields outcome
+        head_read h t e = read_on ∙ rw (eq-eqb (get_or s 4 0) 1 one, e)

@@ -1,0 +1,10 @@
+pub mod Answered
+pub mod Axes
+pub mod Carry
+pub mod Cases
+pub mod Close
+pub mod Fractions
+pub mod Grid
+pub mod Moved
+pub mod Nodes
+pub mod Still

@@ -1,0 +1,5 @@
+pub mod BundleIds
+pub mod Forward
+pub mod PageFits
+pub mod Theorem
+pub mod Upright

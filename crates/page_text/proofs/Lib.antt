@@ -1,0 +1,4 @@
+pub mod Back
+pub mod Cases
+pub mod Laws
+pub mod Places

@@ -1,0 +1,15 @@
+pub mod Agains
+pub mod Alike
+pub mod Carried
+pub mod CarriedNumbers
+pub mod Cases
+pub mod Ends
+pub mod Enough
+pub mod LonePlanned
+pub mod Numbers
+pub mod Placed
+pub mod Planned
+pub mod SmallNumbers
+pub mod TableReads
+pub mod Through
+pub mod Visits

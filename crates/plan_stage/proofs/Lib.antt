@@ -1,0 +1,4 @@
+pub mod EitherPlan
+pub mod EveryPlan
+pub mod InTurn
+pub mod OwnPlan

@@ -1,0 +1,4 @@
+pub mod SameAnswer
+pub mod SameFields
+pub mod SameJob
+pub mod Sample

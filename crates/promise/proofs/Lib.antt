@@ -1,0 +1,14 @@
+pub mod BoardDemand
+pub mod Counted
+pub mod Demand
+pub mod Flags
+pub mod Joints
+pub mod Places
+pub mod Ranges
+pub mod Read
+pub mod Refusals
+pub mod Refuted
+pub mod RefutedPlaces
+pub mod SheetRefusals
+pub mod Size
+pub mod Smallest

@@ -1,0 +1,11 @@
+pub mod Corridors
+pub mod Drawn
+pub mod Extent
+pub mod Looks
+pub mod Made
+pub mod NoMinusZero
+pub mod Overflow
+pub mod Page
+pub mod Planned
+pub mod Thirteen
+pub mod WholeBounds

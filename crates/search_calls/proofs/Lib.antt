@@ -1,0 +1,5 @@
+pub mod Cases
+pub mod Copies
+pub mod RefusalSteps
+pub mod SameCalls
+pub mod Sizes

@@ -1,0 +1,5 @@
+pub mod AcceptLaws
+pub mod All
+pub mod Bits
+pub mod BytesLaws
+pub mod GridCases
