@@ -8,7 +8,7 @@ pub mod Enough
 pub mod LonePlanned
 pub mod Numbers
 pub mod Placed
-pub mod Planned
+pub mod PlannedLaws
 pub mod SmallNumbers
 pub mod TableReads
 pub mod Through

@@ -41,7 +41,7 @@ use Rattle.plan.specs.Plan.{Plan, going, due, plan_of}
 use Rattle.plan.specs.Lone.{Disjoint, Lone}
 use Rattle.plan.proofs.SmallNumbers.{Numbers}
 use Rattle.plan.proofs.Numbers.{trunks_real}
-use Rattle.plan.proofs.Planned.{Best, planned_best}
+use Rattle.plan.proofs.PlannedLaws.{Best, planned_best}
 use Rattle.plan.proofs.LonePlanned.{other_way}
 use Rattle.drawing.specs.Build.{TapOn, route_at, trunk_met, tap_then, trunk_taps, drawn_inside, drawn_as, inside_or, build, no_drawn}
 use Rattle.drawing.specs.Check.{among}
