@@ -1,4 +1,4 @@
 pub mod Cases
 pub mod Exact
 pub mod PartsLaws
-pub mod Reads
+pub mod ReadBack

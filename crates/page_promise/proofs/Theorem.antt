@@ -23,7 +23,7 @@ use Rattle.bundle_page.specs.AnswerPage.{answer_page}
 use Rattle.bundle_page.specs.PageReads.{PageReads}
 use Rattle.bundle_page.proofs.PartsLaws.{chosen}
 use Rattle.bundle_page.proofs.Exact.{answer_page_length, page_at_most}
-use Rattle.bundle_page.proofs.Reads.{Prints, page_reads}
+use Rattle.bundle_page.proofs.ReadBack.{Prints, page_reads}
 use Rattle.page_promise.proofs.PageFits.{PageFits, page_fits}
 use Rattle.page_promise.proofs.BundleIds.{bundle_ids}
 use Rattle.page_promise.proofs.Upright.{answer_upright, answer_ids}

@@ -31,7 +31,7 @@ module _ (points : List Float) (role : Role) (pitch : Float) where
 
   two : (at n : ℕ) → R at (suc (suc n)) ≡ run at ∷ R (at + 1) (suc n)
   unfolding stretches runs points_from
-  two at n = rw (add-one at)
+  two at n = ap (λ (k : ℕ). stretch role pitch (point_at points at) (point_at points k) ∷ R k (suc n)) (sym (add-one at))
 
   pub more : (at n : ℕ) → 1 < n → R at n ≡ run at ∷ R (at + 1) (n - 1)
   more at n h =

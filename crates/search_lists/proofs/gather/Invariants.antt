@@ -18,25 +18,28 @@ use Rattle.search_lists.proofs.Walk as walk
 use Rattle.search_lists.proofs.Walk.{R, run}
 use Rattle.search_lists.proofs.gather.Given as goal
 
--- abbrev invariant-runs : tie.invariant-loop2
--- invariant-runs points starts counts role pitch b xs₀ ks₀ n₀ k₀ left₀ m at₀ rest₀ xs ks n k left at rest =
---     let tail = from_member points role pitch starts counts m in
---     (length xs ≡ length xs₀) × (2 * (at + rest) ≤ length points) × (n + length (R points role pitch at rest ++ tail) ≤ length xs)
---     × (gathered_onto role b (take n₀ xs₀) (R points role pitch at₀ rest₀ ++ tail) left₀
---     ≡ gathered_onto role b (take n xs) (R points role pitch at rest ++ tail) left)
---     × (length ks ≡ length ks₀) × (2 * (k + length (R points role pitch at rest ++ tail)) ≤ length ks)
---     × (points_from ks₀ 0 k₀ ++ map kept (R points role pitch at₀ rest₀ ++ tail) ≡ points_from ks 0 k ++ map kept (R points role pitch at rest ++ tail))
+abbrev pub from_member : List Float → Role → Float → List ℕ → List ℕ → ℕ → List Stretch
+from_member points role pitch starts counts m = all_runs (members role pitch (routes points (drop m starts) (drop m counts)))
 
--- abbrev decreases-runs : tie.decreases-loop2
--- decreases-runs points starts counts role pitch b xs₀ ks₀ n₀ k₀ left₀ m at₀ rest₀ xs ks n k left at rest = rest
+abbrev pub invariant-loop-rest : goal.invariant-loop-rest
+invariant-loop-rest l =
+    let tail = from_member l.points l.role l.pitch l.starts l.counts l.m in
+    (length l.xs ≡ length l.initial.xs) × (2 * (l.at + l.rest) ≤ length l.points) × (l.n + length (R l.points l.role l.pitch l.at l.rest ++ tail) ≤ length l.xs)
+    × (gathered_onto l.role l.b (take l.initial.n l.initial.xs) (R l.points l.role l.pitch l.initial.at l.initial.rest ++ tail) l.initial.left
+    ≡ gathered_onto l.role l.b (take l.n l.xs) (R l.points l.role l.pitch l.at l.rest ++ tail) l.left)
+    × (length l.kept ≡ length l.initial.kept) × (2 * (l.k + length (R l.points l.role l.pitch l.at l.rest ++ tail)) ≤ length l.kept)
+    × (points_from l.initial.kept 0 l.initial.k ++ map kept (R l.points l.role l.pitch l.initial.at l.initial.rest ++ tail) ≡ points_from l.kept 0 l.k ++ map kept (R l.points l.role l.pitch l.at l.rest ++ tail))
 
--- abbrev invariant-members : tie.invariant-loop
--- invariant-members points starts counts role pitch b xs₀ ks₀ n₀ k₀ left₀ m₀ xs ks n k left m =
---     let tail = from_member points role pitch starts counts m in
---     (length xs ≡ length xs₀) × (n + length tail ≤ length xs)
---     × (gathered_onto role b (take n₀ xs₀) (all_runs (members role pitch (routes points starts counts))) left₀ ≡ gathered_onto role b (take n xs) tail left)
---     × (length ks ≡ length ks₀) × (2 * (k + length tail) ≤ length ks)
---     × (map kept (all_runs (members role pitch (routes points starts counts))) ≡ points_from ks 0 k ++ map kept tail)
+abbrev pub decreases-loop-rest : goal.decreases-loop-rest
+decreases-loop-rest l = l.rest
 
--- abbrev decreases-members : tie.decreases-loop
--- decreases-members points starts counts role pitch b xs₀ ks₀ n₀ k₀ left₀ m₀ xs ks n k left m = length starts - m
+abbrev pub invariant-loop-m : goal.invariant-loop-m
+invariant-loop-m l =
+    let tail = from_member l.points l.role l.pitch l.starts l.counts l.m in
+    (length l.xs ≡ length l.initial.xs) × (l.n + length tail ≤ length l.xs)
+    × (gathered_onto l.role l.b (take l.initial.n l.initial.xs) (all_runs (members l.role l.pitch (routes l.points l.starts l.counts))) l.initial.left ≡ gathered_onto l.role l.b (take l.n l.xs) tail l.left)
+    × (length l.kept ≡ length l.initial.kept) × (2 * (l.k + length tail) ≤ length l.kept)
+    × (map kept (all_runs (members l.role l.pitch (routes l.points l.starts l.counts))) ≡ points_from l.kept 0 l.k ++ map kept tail)
+
+abbrev pub decreases-loop-m : goal.decreases-loop-m
+decreases-loop-m l = length l.starts - l.m

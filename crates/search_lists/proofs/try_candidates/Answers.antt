@@ -19,104 +19,74 @@ use Rattle.search_lists.proofs.Walk.{K, N}
 use Rattle.search_lists.proofs.try_candidates.Goals as goal
 use Rattle.search_lists.proofs.try_candidates.Goals.{At-loop-at, At-members, In-loop-at, In-members}
 
-abbrev At-members : Type 0
-At-members = At-members
-
-abbrev In-members : Type 0
-In-members = In-members
-
-abbrev At-runs : Type 0
-At-runs = At-loop-at
-
-abbrev In-runs : Type 0
-In-runs = In-loop-at
-
 -- the whole pass, at the members' loop: what follows from the members that are left
 whole : (c : At-members)
-    → let s = c.before.before.before in
-    let a = s.before.before.before.before.args in
+    → let a = c.args in
     let ms = members_from a.kept.now 0 a.counts.now in
-    let x = get_or s.candidates.xs s.candidates.i nan in
+    let x = get_or c.candidates.xs c.candidates.i nan in
     tried ms a.xs.now [] a.granted.0
-    ≡ walk.next ms (take s.candidates.n s.candidates.xs) s.candidates.left (drop (s.candidates.i + 1) s.candidates.xs) x
+    ≡ walk.next ms (take c.candidates.n c.candidates.xs) c.candidates.left (drop (c.candidates.i + 1) c.candidates.xs) x
     (tried_on_all x (N a.kept.now a.counts.now c.members.at c.members.m) c.members.left)
 whole c =
-    let s = c.before.before.before in
-    let a = s.before.before.before.before.args in
+    let a = c.args in
     let ms = members_from a.kept.now 0 a.counts.now in
-    let x = get_or s.candidates.xs s.candidates.i nan in
-    let h : s.candidates.i < length s.candidates.xs = omega (arith, s.candidates.invariant.1, s.candidates.invariant.2, c.before.before.if1.false) in
-    s.candidates.invariant.3
-    ∙ walk.candidate_next ms (take s.candidates.n s.candidates.xs) s.candidates.left s.candidates.xs s.candidates.i h
-    ∙ ap (walk.next ms (take s.candidates.n s.candidates.xs) s.candidates.left (drop (s.candidates.i + 1) s.candidates.xs) x) c.members.invariant.1
+    let x = get_or c.candidates.xs c.candidates.i nan in
+    let h : c.candidates.i < length c.candidates.xs = omega (arith, c.candidates.invariant.1, c.candidates.invariant.2, c.if-i-xs.false) in
+    c.candidates.invariant.3
+    ∙ walk.candidate_next ms (take c.candidates.n c.candidates.xs) c.candidates.left c.candidates.xs c.candidates.i h
+    ∙ ap (walk.next ms (take c.candidates.n c.candidates.xs) c.candidates.left (drop (c.candidates.i + 1) c.candidates.xs) x) c.members.invariant.1
 
 -- the members from m on: what follows from the runs of the first of them
 member : (c : In-members)
-    → let s = c.before in
-    let t = s.before.before.before in
-    let a = t.before.before.before.before.args in
-    let x = get_or t.candidates.xs t.candidates.i nan in
+    → let a = c.args in
+    let x = get_or c.candidates.xs c.candidates.i nan in
     let from = N a.kept.now a.counts.now in
-    let runs = get_or a.counts.now s.members.m 0 - 1 in
-    tried_on_all x (from s.members.at s.members.m) s.members.left
-    ≡ after (tried_on x (K a.kept.now s.members.at runs) s.members.left) (tried_on_all x (from (s.members.at + runs) (s.members.m + 1))) lacked unpaid
+    let runs = get_or a.counts.now c.members.m 0 - 1 in
+    tried_on_all x (from c.members.at c.members.m) c.members.left
+    ≡ after (tried_on x (K a.kept.now c.members.at runs) c.members.left) (tried_on_all x (from (c.members.at + runs) (c.members.m + 1))) lacked unpaid
 member c =
-    let s = c.before in
-    let t = s.before.before.before in
-    let a = t.before.before.before.before.args in
-    let x = get_or t.candidates.xs t.candidates.i nan in
-    ap (λ (ms : List (List Stretch)). tried_on_all x ms s.members.left) (walk.kept_next a.kept.now a.counts.now s.members.at s.members.m c.members-test.true)
-    ∙ walk.try_member x _ _ s.members.left
+    let a = c.args in
+    let x = get_or c.candidates.xs c.candidates.i nan in
+    ap (λ (ms : List (List Stretch)). tried_on_all x ms c.members.left) (walk.kept_next a.kept.now a.counts.now c.members.at c.members.m c.members-test.true)
+    ∙ walk.try_member x _ _ c.members.left
 
 -- and from those of its runs that are left
-runs-left : (c : At-runs)
-    → let s = c.before.before.before.before in
-    let t = s.before.before.before in
-    let a = t.before.before.before.before.args in
-    let x = get_or t.candidates.xs t.candidates.i nan in
+runs-left : (c : At-loop-at)
+    → let a = c.args in
+    let x = get_or c.candidates.xs c.candidates.i nan in
     let from = N a.kept.now a.counts.now in
-    let end = s.members.at + (get_or a.counts.now s.members.m 0 - 1) in
-    tried_on_all x (from s.members.at s.members.m) s.members.left
-    ≡ after (tried_on x (K a.kept.now c.loop.at (end - c.loop.at)) c.loop.left) (tried_on_all x (from end (s.members.m + 1))) lacked unpaid
+    let end = c.members.at + (get_or a.counts.now c.members.m 0 - 1) in
+    tried_on_all x (from c.members.at c.members.m) c.members.left
+    ≡ after (tried_on x (K a.kept.now c.loop-at.at (end - c.loop-at.at)) c.loop-at.left) (tried_on_all x (from end (c.members.m + 1))) lacked unpaid
 runs-left c =
-    let s = c.before.before.before.before in
-    let t = s.before.before.before in
-    let a = t.before.before.before.before.args in
-    let x = get_or t.candidates.xs t.candidates.i nan in
-    let end = s.members.at + (get_or a.counts.now s.members.m 0 - 1) in
-    member c.before.before.before
-    ∙ ap (λ (o : Tried). after o (tried_on_all x (N a.kept.now a.counts.now end (s.members.m + 1))) lacked unpaid) c.loop.invariant.2
+    let a = c.args in
+    let x = get_or c.candidates.xs c.candidates.i nan in
+    let end = c.members.at + (get_or a.counts.now c.members.m 0 - 1) in
+    member (goal.at.At-loop-at c).In-members
+    ∙ ap (λ (o : Tried). after o (tried_on_all x (N a.kept.now a.counts.now end (c.members.m + 1))) lacked unpaid) c.loop-at.invariant.2
 
 -- a look at the first of these
-look : (c : In-runs) (h : Bool)
-    → let r = c.before in
-    let s = r.before.before.before.before in
-    let t = s.before.before.before in
-    let a = t.before.before.before.before.args in
-    let x = get_or t.candidates.xs t.candidates.i nan in
-    let end = s.members.at + (get_or a.counts.now s.members.m 0 - 1) in
-    let left = tried_on x (K a.kept.now (r.loop.at + 1) (end - (r.loop.at + 1))) (r.loop.left - 1) in
-    0 < r.loop.left → holds x (spanned (point_at a.kept.now r.loop.at)) ≡ h → tried_on x (K a.kept.now r.loop.at (end - r.loop.at)) r.loop.left ≡ or_else h (r.loop.left - 1) left
+look : (c : In-loop-at) (h : Bool)
+    → let a = c.args in
+    let x = get_or c.candidates.xs c.candidates.i nan in
+    let end = c.members.at + (get_or a.counts.now c.members.m 0 - 1) in
+    let left = tried_on x (K a.kept.now (c.loop-at.at + 1) (end - (c.loop-at.at + 1))) (c.loop-at.left - 1) in
+    0 < c.loop-at.left → holds x (spanned (point_at a.kept.now c.loop-at.at)) ≡ h → tried_on x (K a.kept.now c.loop-at.at (end - c.loop-at.at)) c.loop-at.left ≡ or_else h (c.loop-at.left - 1) left
 look c h p e =
-    let r = c.before in
-    let s = r.before.before.before.before in
-    let t = s.before.before.before in
-    let a = t.before.before.before.before.args in
-    let x = get_or t.candidates.xs t.candidates.i nan in
-    let end = s.members.at + (get_or a.counts.now s.members.m 0 - 1) in
-    ap (λ (ss : List Stretch). tried_on x ss r.loop.left) (walk.kept_more a.kept.now r.loop.at end c.loop-test.true)
-    ∙ walk.try_look x _ _ r.loop.left h p e
+    let a = c.args in
+    let x = get_or c.candidates.xs c.candidates.i nan in
+    let end = c.members.at + (get_or a.counts.now c.members.m 0 - 1) in
+    ap (λ (ss : List Stretch). tried_on x ss c.loop-at.left) (walk.kept_more a.kept.now c.loop-at.at end c.loop-at-test.true)
+    ∙ walk.try_look x _ _ c.loop-at.left h p e
 
 -- the kept pairs of member m lie in the slice
 room : (c : In-members)
-    → let s = c.before in
-    let a = s.before.before.before.before.before.before.before.args in
-    2 * (s.members.at + (get_or a.counts.now s.members.m 0 - 1)) ≤ length a.kept.now
+    → let a = c.args in
+    2 * (c.members.at + (get_or a.counts.now c.members.m 0 - 1)) ≤ length a.kept.now
 room c =
-    let s = c.before in
-    let a = s.before.before.before.before.before.before.before.args in
-    let n = walk.runs_next_kept a.kept.now a.counts.now s.members.at s.members.m c.members-test.true in
-    omega (arith, s.members.invariant.0)
+    let a = c.args in
+    let n = walk.runs_next_kept a.kept.now a.counts.now c.members.at c.members.m c.members-test.true in
+    omega (arith, c.members.invariant.0)
 
 pub returns-then-i-xs : goal.returns-then-i-xs
 returns-then-i-xs c =

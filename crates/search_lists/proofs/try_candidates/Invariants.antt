@@ -17,12 +17,12 @@ use Rattle.search_lists.proofs.Walk as walk
 use Rattle.search_lists.proofs.Walk.{K, N}
 use Rattle.search_lists.proofs.try_candidates.Given as goal
 
--- abbrev invariant-runs : tie.invariant-loop
--- invariant-runs kept counts xs left₀ n i x at₀ m count end left at =
---     (at ≤ end) × (2 * end ≤ length kept) × (tried_on x (K kept at₀ (count - 1)) left₀ ≡ tried_on x (K kept at (end - at)) left)
+abbrev pub invariant-loop-at : goal.invariant-loop-at
+invariant-loop-at l =
+    (l.at ≤ l.end) × (2 * l.end ≤ length l.kept) × (tried_on l.x (K l.kept l.initial.at (l.count - 1)) l.initial.left ≡ tried_on l.x (K l.kept l.at (l.end - l.at)) l.left)
 
--- abbrev decreases-runs : tie.decreases-loop
--- decreases-runs kept counts xs left₀ n i x at₀ m count end left at = end - at
+abbrev pub decreases-loop-at : goal.decreases-loop-at
+decreases-loop-at l = l.end - l.at
 
 abbrev pub invariant-members : goal.invariant-members
 invariant-members l =
