@@ -13,7 +13,8 @@ use Rattle.geometry.specs.Contact.{slanted, contact}
 use Rattle.geometry.specs.Enters.{passes_inside}
 use Rattle.exact.specs.Exact.{Exact, SamePlace, Finite}
 use Rattle.exact.specs.Promise.{Shared, Tapped, Clean, FiniteTap}
-use Rattle.exact.proofs.Theorem.{no_contact, nothing_shared}
+use Rattle.exact.proofs.Theorem.{no_contact}
+use Rattle.exact.proofs.TwoBundles.{nothing_shared}
 use Rattle.route.specs.Found.{run_ends}
 use Rattle.board.specs.declared.Options.{Options}
 use Rattle.board.specs.declared.Bundle.{Bundle}
