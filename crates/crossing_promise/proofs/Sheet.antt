@@ -19,7 +19,8 @@ use Rattle.drawing.proofs.Promise.{Free, Accepted, accepted}
 use Rattle.ranges.proofs.NoMinusZero.{PlainBoard}
 use Rattle.ranges.specs.Coordinates.{OfPoint, OfDrawn}
 use Rattle.ranges.proofs.Drawn.{OfTurn}
-use Rattle.ranges.proofs.Extent.{OfFormat, OkPoint, OkDrawn, OkTurn, Limits, sheet_ok, sheet_of_format}
+use Rattle.ranges.proofs.Extent.{OkTurn, sheet_ok, sheet_of_format}
+use Rattle.ranges.specs.Extent.{OfFormat, OkPoint, OkDrawn, Limits}
 use Rattle.crossings.specs.List.{Crossing, crossing_list}
 use Rattle.crossings.specs.Words.{no_run, segment_of, run_of, IsCrossing, ListKept}
 use Rattle.crossings.proofs.Keys.{RealPoint}

@@ -26,7 +26,8 @@ use Rattle.ranges.proofs.Corridors.{Signs}
 use Rattle.ranges.proofs.NoMinusZero.{PlainBoard}
 use Rattle.ranges.proofs.Planned.{planned_within}
 use Rattle.ranges.proofs.Drawn.{OfTurn}
-use Rattle.ranges.proofs.Extent.{Limits, OkSheet, sheet_ok}
+use Rattle.ranges.proofs.Extent.{sheet_ok}
+use Rattle.ranges.specs.Extent.{Limits, OkSheet}
 use Rattle.promise.specs.Demand3.{NoFalseJoint, BestPlace}
 use Rattle.promise.proofs.Joints.{no_false_joint}
 use Rattle.promise.proofs.Places.{OnceARole, offsets_length, turns_length, best_place}

@@ -28,7 +28,8 @@ use Rattle.drawing.specs.CleanChecks.{Clear}
 use Rattle.drawing.specs.Assembly.{Apart, sound}
 use Rattle.drawing.proofs.Promise.{FreePair, Outside, drawn_free, apart_at, member_clear, every_mem}
 use Rattle.ranges.specs.Coordinates.{OfPoint, OfRoutes, OfTap, OfDrawn}
-use Rattle.ranges.proofs.Extent.{InX, InY, OkTurn, OkSheet, Limits, sheet_ok}
+use Rattle.ranges.proofs.Extent.{OkTurn, sheet_ok}
+use Rattle.ranges.specs.Extent.{InX, InY, OkSheet, Limits}
 use Rattle.promise.specs.Demand3.{SegmentOf, its_collector, its_spine, OnBoth, OnlyAtTap, StaysOut, AllFinite, WithRoutes, WithBundles, MembersOut, NoFalseJoint}
 
 -- ---- the numbers of a sheet are finite

@@ -22,7 +22,8 @@ use Rattle.route.specs.declared.Crossing.{Crossing}
 use Rattle.route.specs.declared.Crossing.TheVariants.{Nowhere as nowhere, On}
 use Rattle.route.specs.Intersection.{met_at, or_else, first_met, last_met, first_shared_trunk_intersection, last_shared_trunk_intersection}
 use Rattle.search.specs.Stretches.{stretches, members}
-use Rattle.search.proofs.BestOrder.{UpToℚ, both}
+use Rattle.search.proofs.BestOrder.{both}
+use Rattle.search.specs.BestOrder.{UpToℚ}
 use Rattle.search.specs.Good.{Real, RealStretch, Holds, HoldsSome, HoldsAll, Good}
 use Rattle.sorting.specs.Lists.{Every, In}
 use Rattle.sorting.specs.Sorted.{every_at}

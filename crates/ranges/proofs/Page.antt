@@ -24,7 +24,8 @@ use Rattle.binary64.proofs.Plain.{Plain, zero_plain, add_plain, sub_plain}
 use Rattle.ranges.proofs.Corridors.{Below, held, zero_bounded}
 use Rattle.ranges.specs.Coordinates.{OfPoint, OfRoutes, OfTap, OfDrawn, OfSheet, OfPlaced}
 use Rattle.ranges.proofs.Drawn.{OfTurn}
-use Rattle.ranges.proofs.Extent.{Limits, OfFormat, InX, InY, OkTurn, sheet_ok, sheet_plain, sheet_of_format}
+use Rattle.ranges.proofs.Extent.{OkTurn, sheet_ok, sheet_plain, sheet_of_format}
+use Rattle.ranges.specs.Extent.{Limits, OfFormat, InX, InY}
 use Rattle.ranges.proofs.NoMinusZero.{PlainBoard}
 
 -- ---- what is said of a page
