@@ -21,7 +21,7 @@ use Rattle.exact.proofs.Between.{same_trans}
 use Rattle.exact.proofs.Theorem.{no_contact, no_contact_but_crossing}
 use Rattle.kind_words.specs.Words.{Words}
 use Rattle.kind_words.proofs.Theorem.{kind_words, strict_shares}
-use Rattle.route.specs.Found.{run_ends}
+use Rattle.route.proofs.Found.{run_ends}
 use Rattle.board.specs.Board.{Board}
 use Rattle.sorting.specs.Lists.{Every}
 use Rattle.drawing.specs.Build.{Drawn, route_at, tap_of, no_drawn}

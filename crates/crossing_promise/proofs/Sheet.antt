@@ -9,7 +9,7 @@ use Rattle.geometry.specs.Contact.{level, contact}
 use Rattle.geometry.specs.Kind.{disallowed}
 use Rattle.geometry.proofs.KindContact.{kind_contact}
 use Rattle.geometry.specs.Crossing.{crossing_place}
-use Rattle.route.specs.Found.{run_ends}
+use Rattle.route.proofs.Found.{run_ends}
 use Rattle.board.specs.Board.{Board}
 use Rattle.sorting.specs.Lists.{Every}
 use Rattle.sorting.specs.Sorted.{every_map, every_at}

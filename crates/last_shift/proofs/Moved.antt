@@ -17,7 +17,7 @@ use Rattle.board.specs.declared.PlacedNode.{PlacedNode}
 use Rattle.board.specs.Board.{Board}
 use Rattle.drawing.specs.Build.{Drawn, no_drawn}
 use Rattle.drawing.specs.Sheet.{Progress}
-use Rattle.drawing.specs.CleanChecks.{every_both}
+use Rattle.drawing.proofs.CleanChecks.{every_both}
 use Rattle.drawing.specs.Normal.{Sheet, sheet_after, min_x, min_y, shifted, shifted_node, shifted_drawn, shifted_sheet, moved}
 use Rattle.ranges.proofs.Corridors.{Below, held}
 use Rattle.ranges.specs.Coordinates.{OfPoint, OfDrawn, OfPlaced}

@@ -17,8 +17,8 @@ use Rattle.plan.specs.Lone.{Lone}
 use Rattle.plan.proofs.CarriedNumbers.{Windowed, OfBound}
 use Rattle.drawing.specs.Sheet.{Turn, Progress}
 use Rattle.drawing.specs.Sheet as sheet
-use Rattle.drawing.specs.Assembly.{touched, sound}
-use Rattle.drawing.specs.CleanChecks.{Agree}
+use Rattle.drawing.proofs.Assembly.{touched, sound}
+use Rattle.drawing.proofs.CleanChecks.{Agree}
 use Rattle.drawing.specs.Build.{no_drawn}
 use Rattle.drawing.proofs.Promise.{built_length}
 use Rattle.promise.specs.Order.{planned_x, turns_from, turns_of, drawn_of}

@@ -15,7 +15,7 @@ use Rattle.exact.specs.Exact.{Exact, SamePlace, Finite}
 use Rattle.exact.specs.Promise.{Shared, Tapped, Clean, FiniteTap}
 use Rattle.exact.proofs.Theorem.{no_contact}
 use Rattle.exact.proofs.TwoBundles.{nothing_shared}
-use Rattle.route.specs.Found.{run_ends}
+use Rattle.route.proofs.Found.{run_ends}
 use Rattle.board.specs.declared.Options.{Options}
 use Rattle.board.specs.declared.Bundle.{Bundle}
 use Rattle.board.specs.Board.{Board, no_edge}
@@ -24,8 +24,8 @@ use Rattle.plan.specs.Depths.{members_in, no_node}
 use Rattle.drawing.specs.Build.{TapOn, Drawn, route_at, tap_of, no_drawn}
 use Rattle.drawing.specs.Check.{own, every_route, drawn_tests, interior_tests}
 use Rattle.drawing.specs.Sheet.{Turn, Progress, going, sheet_of, blank}
-use Rattle.drawing.specs.CleanChecks.{Clear}
-use Rattle.drawing.specs.Assembly.{Apart, sound}
+use Rattle.drawing.proofs.CleanChecks.{Clear}
+use Rattle.drawing.proofs.Assembly.{Apart, sound}
 use Rattle.drawing.proofs.Promise.{FreePair, Outside, drawn_free, apart_at, member_clear, every_mem}
 use Rattle.ranges.specs.Coordinates.{OfPoint, OfRoutes, OfTap, OfDrawn}
 use Rattle.ranges.proofs.Extent.{OkTurn, sheet_ok}

@@ -48,7 +48,7 @@ use Rattle.drawing.specs.Build.{TapOn, route_at, trunk_met, tap_then, trunk_taps
 use Rattle.drawing.specs.Check.{among}
 use Rattle.drawing.specs.Sheet.{Turn, Progress, sheet_of, blank}
 use Rattle.drawing.specs.Sheet as sheet
-use Rattle.drawing.specs.Assembly.{touched}
+use Rattle.drawing.proofs.Assembly.{touched}
 use Rattle.drawing.proofs.Promise.{Fresh, accepted, no_turn}
 use Rattle.promise.specs.Order.{planned_x, turns_from, turns_of}
 use Rattle.promise.specs.Demand3.{NoBetter, BestPlace, at_best, at_rail}

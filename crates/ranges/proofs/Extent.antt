@@ -44,7 +44,7 @@ use Rattle.plan.proofs.SmallNumbers.{Small, Numbers, lane_count_small, zero_smal
 use Rattle.plan.proofs.Numbers.{members_good, pitch_small, rail_small, port_small, endpoint_small}
 use Rattle.drawing.specs.Build.{TapOn, Drawn, route_at, center, rail_tap, rail_corner}
 use Rattle.drawing.specs.Sheet.{Turn, Progress, going, sheet_of, blank}
-use Rattle.drawing.specs.CleanChecks.{every_both}
+use Rattle.drawing.proofs.CleanChecks.{every_both}
 use Rattle.drawing.proofs.Promise.{every_mem}
 use Rattle.binary64.proofs.Plain.{Plain, add_plain, sub_plain}
 use Rattle.ranges.proofs.Corridors.{Below, held}
