@@ -36,7 +36,7 @@ use Rattle.geometry.specs.Contact.{slanted}
 use Rattle.geometry.specs.Enters.{passes_inside}
 use Rattle.drawing.specs.Build.{seg, tap_of}
 use Rattle.drawing.specs.Check.{Test, due, barred, clean, failed, walk, own, node_tests, inside_tests, member_tests, no_edge, clash, run_tests, over_routes, drawn_tests, pair_tests, prior_tests}
-use Rattle.drawing.specs.CleanChecks.{walk_on, walk_off}
+use Rattle.drawing.proofs.CleanChecks.{walk_on, walk_off}
 use Rattle.checks.specs.Purse.{told, charged}
 use Rattle.checks.specs.CheckRows.{taps_from, drawn_of, box_at, boxes_from, nodes_in, edge_at, bare_node, bare_edge, inside_route, Sliced, Tabled, AllTabled}
 

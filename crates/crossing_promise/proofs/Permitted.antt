@@ -21,13 +21,14 @@ use Rattle.exact.proofs.Between.{same_trans}
 use Rattle.exact.proofs.Theorem.{no_contact, no_contact_but_crossing}
 use Rattle.kind_words.specs.Words.{Words}
 use Rattle.kind_words.proofs.Theorem.{kind_words, strict_shares}
-use Rattle.route.specs.Found.{run_ends}
+use Rattle.route.proofs.Found.{run_ends}
 use Rattle.board.specs.Board.{Board}
 use Rattle.sorting.specs.Lists.{Every}
 use Rattle.drawing.specs.Build.{Drawn, route_at, tap_of, no_drawn}
 use Rattle.drawing.specs.Sheet.{Turn, Progress, going, sheet_of, blank}
 use Rattle.drawing.proofs.Promise.{Free, accepted}
-use Rattle.ranges.proofs.Extent.{OkTurn, Limits, sheet_ok}
+use Rattle.ranges.proofs.Extent.{OkTurn, sheet_ok}
+use Rattle.ranges.specs.Extent.{Limits}
 use Rattle.promise.specs.Demand3.{SegmentOf, its_collector, its_spine, OnBoth, AtTapAndEnd, AllFinite}
 use Rattle.promise.proofs.Joints.{all_finite, tap_finite, tap_listed, shared, mem_at}
 use Rattle.crossings.specs.List.{crossing_of, crossing_list}

@@ -9,7 +9,7 @@ use Rattle.geometry.specs.Contact.{level, contact}
 use Rattle.geometry.specs.Kind.{disallowed}
 use Rattle.geometry.proofs.KindContact.{kind_contact}
 use Rattle.geometry.specs.Crossing.{crossing_place}
-use Rattle.route.specs.Found.{run_ends}
+use Rattle.route.proofs.Found.{run_ends}
 use Rattle.board.specs.Board.{Board}
 use Rattle.sorting.specs.Lists.{Every}
 use Rattle.sorting.specs.Sorted.{every_map, every_at}
@@ -19,7 +19,8 @@ use Rattle.drawing.proofs.Promise.{Free, Accepted, accepted}
 use Rattle.ranges.proofs.NoMinusZero.{PlainBoard}
 use Rattle.ranges.specs.Coordinates.{OfPoint, OfDrawn}
 use Rattle.ranges.proofs.Drawn.{OfTurn}
-use Rattle.ranges.proofs.Extent.{OfFormat, OkPoint, OkDrawn, OkTurn, Limits, sheet_ok, sheet_of_format}
+use Rattle.ranges.proofs.Extent.{OkTurn, sheet_ok, sheet_of_format}
+use Rattle.ranges.specs.Extent.{OfFormat, OkPoint, OkDrawn, Limits}
 use Rattle.crossings.specs.List.{Crossing, crossing_list}
 use Rattle.crossings.specs.Words.{no_run, segment_of, run_of, IsCrossing, ListKept}
 use Rattle.crossings.proofs.Keys.{RealPoint}

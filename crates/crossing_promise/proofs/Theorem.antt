@@ -19,7 +19,7 @@ use Rattle.plan.specs.Depths.{offsets_of}
 use Rattle.plan.proofs.CarriedNumbers.{OfBound}
 use Rattle.drawing.specs.Sheet.{Turn, Progress, blank, sheet_of}
 use Rattle.drawing.specs.Sheet as drawing
-use Rattle.ranges.proofs.Extent.{OfFormat}
+use Rattle.ranges.specs.Extent.{OfFormat}
 use Rattle.ranges.proofs.Drawn.{OfTurn}
 use Rattle.answer.specs.Answer.{answer_bytes, all_bytes}
 use Rattle.promise.specs.Order.{turns_of}

@@ -1,1 +1,4 @@
+pub mod Assembly
+pub mod CleanChecks
+pub mod Grow
 pub mod Promise

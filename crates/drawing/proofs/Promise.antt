@@ -31,8 +31,8 @@ use Rattle.geometry.specs.declared.Tap.TheVariants.{Absent}
 use Rattle.drawing.specs.Build.{TapOn, Drawn, build, inside_or, trunk_taps, tap_of, route_at, no_drawn}
 use Rattle.drawing.specs.Check.{Test, due, barred, over_routes, every_route, among, clash, run_tests, route_tests, drawn_tests, pair_tests, member_tests, interior_tests, inside_tests, node_tests, own, no_edge}
 use Rattle.drawing.specs.Sheet.{Turn, Progress, going, sheet_of, blank}
-use Rattle.drawing.specs.CleanChecks.{Clear, clear_parts, clear_at, Agree, agree_at}
-use Rattle.drawing.specs.Assembly.{Sound, sound, Apart, Built, Origin, touched}
+use Rattle.drawing.proofs.CleanChecks.{Clear, clear_parts, clear_at, Agree, agree_at}
+use Rattle.drawing.proofs.Assembly.{Sound, sound, Apart, Built, Origin, touched}
 
 -- ---- reading lists
 

@@ -3,3 +3,4 @@ pub mod Meeting
 pub mod Near
 pub mod Outside
 pub mod Theorem
+pub mod TwoBundles

@@ -139,11 +139,3 @@ module _ (bus : Segment) (a b : Point) (tap : Tap) (F : Numbers bus a b tap) whe
         at_most_one = λ p q h k. at_one true (meet bus a b) s.allowed p q (holds s p h) (holds s q k);
         at_the_tap_or_crossing = λ p h. permitted s.bus_straight s.route_straight (meet bus a b) s.allowed p (holds s p h);
       }
-
--- ---- two bundles: no tap, so nothing is shared
-pub nothing_shared : (bus : Segment) (a b : Point) → Numbers bus a b Absent → HasLength a b → contact bus a b Absent false ≡ false → (p : Exact) → ¬ Shared bus a b p
-nothing_shared bus a b F d e p h = ((no_contact bus a b Absent F d e).at_the_tap p h).at_tap
-
--- with crossings permitted, only a strict crossing is
-pub only_crossing : (bus : Segment) (a b : Point) → Numbers bus a b Absent → HasLength a b → contact bus a b Absent true ≡ false → (p : Exact) → Shared bus a b p → Crosses bus a b p
-only_crossing bus a b F d e p h = elim ((no_contact_but_crossing bus a b Absent F d e).at_the_tap_or_crossing p h) [ inl t ↦ absurd t.at_tap | inr c ↦ c ]

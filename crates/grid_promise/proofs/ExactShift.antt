@@ -22,7 +22,7 @@ use Rattle.promise.specs.Stage as stage
 use Rattle.promise.specs.Stage.{Comes}
 use Rattle.promise.specs.Order.{drawn_of}
 use Rattle.last_shift.specs.Shift.{ShiftExact, NodesExact}
-use Rattle.last_shift.proofs.Grid as grid
+use Rattle.last_shift.proofs.GridSteps as grid
 use Rattle.last_shift.proofs.Grid.{grid_shift, grid_nodes}
 use Rattle.grid.specs.On.{on}
 use Rattle.grid.proofs.OnLaws.{on_finite}

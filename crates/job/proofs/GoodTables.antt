@@ -15,7 +15,8 @@ use Rattle.job.specs.declared.Header.{Header}
 use Rattle.job.specs.declared.RawEdge.{RawEdge}
 use Rattle.job.specs.declared.RawBundle.{RawBundle}
 use Rattle.job.specs.LoopSteps.{came, got_both}
-use Rattle.job.specs.Heads.{edge_window, bundle_window, Limits, header_fits}
+use Rattle.job.specs.Heads.{Limits, header_fits}
+use Rattle.job.proofs.Windows.{edge_window, bundle_window}
 use Rattle.job.proofs.Kept.{many_keeps, pushes_good, pushes_count, field_takes}
 use Rattle.job.specs.Job.{flags_of, options, grants, counts, header, node, port, point, member, edge_head, bundle_head, push, EdgeList, BundleList, next_edge, next_bundle, Tables, ended, tables, member_key}
 use Rattle.job.proofs.Claims.{claims, raw_claim, edge_id, Inside, members_pushed}

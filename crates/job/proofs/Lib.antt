@@ -6,3 +6,4 @@ pub mod Kept
 pub mod Lookups
 pub mod Sound
 pub mod Steps
+pub mod Windows

@@ -23,9 +23,9 @@ use Rattle.plan.proofs.CarriedNumbers.{OfBound}
 use Rattle.plan.proofs.SmallNumbers.{Small}
 use Rattle.drawing.specs.Sheet.{Progress}
 use Rattle.drawing.specs.Sheet as sheet
-use Rattle.ranges.proofs.Extent.{OfFormat}
+use Rattle.ranges.specs.Extent.{OfFormat}
 use Rattle.drawing.specs.Build.{Drawn, route_at, no_drawn}
-use Rattle.drawing.specs.CleanChecks.{every_both}
+use Rattle.drawing.proofs.CleanChecks.{every_both}
 use Rattle.drawing.specs.Normal as drawing
 use Rattle.drawing.specs.Normal.{sheet_after, moved, page_of, shifted_sheet}
 use Rattle.ranges.proofs.Corridors.{Below}

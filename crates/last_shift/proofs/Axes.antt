@@ -9,10 +9,10 @@ use Rattle.geometry.specs.declared.Point.{Point}
 use Rattle.sorting.specs.Lists.{Every}
 use Rattle.drawing.specs.Build.{Drawn}
 use Rattle.drawing.specs.Normal.{Sheet, min_x, min_y}
-use Rattle.drawing.specs.CleanChecks.{every_both}
+use Rattle.drawing.proofs.CleanChecks.{every_both}
 use Rattle.ranges.proofs.Corridors.{zero_bounded}
 use Rattle.ranges.specs.Coordinates.{OfPoint, OfTap, OfDrawn, OfPlaced}
-use Rattle.ranges.proofs.Extent.{OfFormat, InX, InY}
+use Rattle.ranges.specs.Extent.{OfFormat, InX, InY}
 use Rattle.ranges.proofs.Page.{corner_fine, placed_weaker}
 use Rattle.last_shift.proofs.Still.{zero_less}
 use Rattle.last_shift.specs.Shift.{ExactLess, ShiftExact, without_nodes, Any}

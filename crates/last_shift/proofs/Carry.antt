@@ -24,7 +24,7 @@ use Rattle.exact.proofs.Between.{same_trans}
 use Rattle.exact.proofs.Near.{unsigned}
 use Rattle.sorting.specs.Lists.{Every}
 use Rattle.sorting.specs.Sorted.{every_at}
-use Rattle.route.specs.Found.{run_ends}
+use Rattle.route.proofs.Found.{run_ends}
 use Rattle.ranges.specs.Coordinates.{OfDrawn, OfTap}
 use Rattle.drawing.specs.Build.{Drawn, route_at, no_drawn}
 use Rattle.drawing.proofs.Promise.{every_mem}

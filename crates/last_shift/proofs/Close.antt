@@ -20,13 +20,13 @@ use Rattle.exact.proofs.Between.{same→at_most, same→at_least}
 use Rattle.exact.proofs.Near.{sub_rounded}
 use Rattle.drawing.specs.Normal.{Sheet, min_x, min_y}
 use Rattle.ranges.proofs.Corridors.{held, zero_bounded}
-use Rattle.ranges.proofs.Extent.{InX, InY}
+use Rattle.ranges.specs.Extent.{InX, InY}
 use Rattle.ranges.specs.Coordinates.{OfPlaced}
 use Rattle.ranges.proofs.Page.{corner_fine, placed_weaker}
 use Rattle.last_shift.proofs.Fractions.{P, L, D, most_in, plus_mono, difference_parts, sum_parts}
 use Rattle.binary64.specs.ExactOnGrid.{At, round_on_grid, value_parts}
 use Rattle.last_shift.specs.Shift.{over_grid, tiny, Close, CloseLess}
-use Rattle.last_shift.proofs.Grid.{at_out}
+use Rattle.last_shift.proofs.GridSteps.{at_out}
 
 -- ---- ± q / 2 ^ 20 as a number
 signed : Bool → ℕ → ℤ

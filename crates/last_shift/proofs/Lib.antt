@@ -5,6 +5,7 @@ pub mod Cases
 pub mod Close
 pub mod Fractions
 pub mod Grid
+pub mod GridSteps
 pub mod Moved
 pub mod Nodes
 pub mod Still

@@ -17,11 +17,11 @@ use Rattle.board.specs.declared.PlacedNode.{PlacedNode}
 use Rattle.board.specs.Board.{Board}
 use Rattle.drawing.specs.Build.{Drawn, no_drawn}
 use Rattle.drawing.specs.Sheet.{Progress}
-use Rattle.drawing.specs.CleanChecks.{every_both}
+use Rattle.drawing.proofs.CleanChecks.{every_both}
 use Rattle.drawing.specs.Normal.{Sheet, sheet_after, min_x, min_y, shifted, shifted_node, shifted_drawn, shifted_sheet, moved}
 use Rattle.ranges.proofs.Corridors.{Below, held}
 use Rattle.ranges.specs.Coordinates.{OfPoint, OfDrawn, OfPlaced}
-use Rattle.ranges.proofs.Extent.{InX, InY}
+use Rattle.ranges.specs.Extent.{InX, InY}
 use Rattle.promise.specs.Demand3.{StandsAt, NoFalseJoint}
 use Rattle.last_shift.proofs.Fractions.{minus_left}
 use Rattle.last_shift.specs.Shift.{corner_of, moves, ExactLess, ExactPoint, ShiftExact, NodeExact, NodesExact, least_x, with_nodes}

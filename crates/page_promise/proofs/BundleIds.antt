@@ -6,7 +6,7 @@ use mathlib.Core.List.{List, [], ◌∷◌, ◌++◌, map}
 use Rattle.std.proofs.Common.{arith}
 use Rattle.binary64.specs.Accepted.{accepted}
 use Rattle.grid.specs.DraftingGrid.{on_drafting_grid}
-use Rattle.wire.specs.Bytes.{number, number_on}
+use Rattle.wire.specs.Bytes.{number}
 use Rattle.wire.specs.Read.{Read, refused, got, Reader, read, give, field, limited, at_most, many}
 use Rattle.wire.specs.Accept.{taken, number_in, number_in_bits, gridded}
 use Rattle.wire.proofs.All.{All, all_one_more}
@@ -24,22 +24,7 @@ use Rattle.job.proofs.GoodTables.{flags_take}
 use Rattle.job.proofs.Sound.{outcome_came, guarded}
 use Rattle.job.specs.Job.{flags_of, side_of, role_of, options, grants, counts, header, node, port, point, member, within_total, counted, edge_head, bundle_head, push, EdgeList, BundleList, next_edge, next_bundle, Tables, ended, tables, node_key, port_key, edge_key, some_twice, port_of, edge_of, bundle_of, member_of, resolved, Job, refusal, or_nine, settled, outcome, fields, version, lengths_fit, read_job}
 use Rattle.job.specs.Job as job
-
--- ---- bytes
-abbrev Bytes : List ℕ → Type 0
-Bytes s = Every (λ (b : ℕ). b < 256) s
-
-bytes_of : (s : List ℕ) → ((i : ℕ) → i < length s → get_or s i 0 < 256) → Bytes s
-bytes_of [] f = tt
-bytes_of (b ∷ s) f = (f 0 (omega arith), bytes_of s (λ i h. f (suc i) (omega arith)))
-
-four_bytes : (s : List ℕ) → 4 ≤ length s → Bytes s → number (take 4 s) < 2 ^ 32
-unfolding number_on
-four_bytes [] h k = absurd (omega arith)
-four_bytes (a ∷ []) h k = absurd (omega arith)
-four_bytes (a ∷ b ∷ []) h k = absurd (omega arith)
-four_bytes (a ∷ b ∷ c ∷ []) h k = absurd (omega arith)
-four_bytes (a ∷ b ∷ c ∷ d ∷ s) h k = omega (arith, k.0, k.1.0, k.1.1.0, k.1.1.1.0)
+use Rattle.page_promise.proofs.FourBytes.{Bytes, bytes_of, four_bytes}
 
 -- ---- what is left after a reading is bytes again
 abbrev Keeps : {A : Type 0} → Reader A → Type 0

@@ -17,7 +17,7 @@ use Rattle.drawing.specs.Build.{TapOn, Drawn, pt, railed, drawn_as, drawn_inside
 use Rattle.drawing.specs.Sheet.{Turn, Progress}
 use Rattle.drawing.specs.Sheet as drawing
 use Rattle.drawing.specs.Normal.{Sheet, sheet_after, min_x, min_y, shifted, shifted_drawn, shifted_sheet, moved, page_of}
-use Rattle.drawing.specs.Assembly.{Built, sound}
+use Rattle.drawing.proofs.Assembly.{Built, sound}
 use Rattle.answer.specs.Answer.{Trunk}
 use Rattle.promise.specs.Order.{turns_of, drawn_of}
 use Rattle.promise.specs.Stage.{normalized, bundles_told}

@@ -35,7 +35,7 @@ use Rattle.geometry.specs.declared.Stretch.TheVariants.{Nowhere, Of}
 use Rattle.search.specs.Stretches.{stretches, members}
 use Rattle.sorting.specs.Lists.{Every}
 use Rattle.sorting.specs.Sorted.{every_get_d}
-use Rattle.search.proofs.BestOrder.{UpTo, far, Fair}
+use Rattle.search.specs.BestOrder.{UpTo, far, Fair}
 use Rattle.search.specs.Good.{Real, RealStretch}
 use Rattle.plan.specs.Depths.{◌⊕◌, ◌⊖◌, number, same_role, no_port, no_node, port_of, node_of, endpoint_of, members_in, parting_pitch, inward, lanes, boundary_depth, lane_count, offset_past, last_depth, further, used_by, used, offset_of, used_after, offsets_from, offsets_of, corridor_x, corridor_among, first_of, corridor_from, corridor_of}
 use Rattle.search.specs.declared.CollectorBounds.{CollectorBounds}

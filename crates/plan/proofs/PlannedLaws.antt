@@ -18,7 +18,7 @@ use Rattle.search.specs.declared.Outcome.{Outcome}
 use Rattle.search.specs.declared.Outcome.TheVariants as outcome
 use Rattle.search.specs.Search.{search_of}
 use Rattle.search.specs.Freely.{freely}
-use Rattle.search.proofs.BestOrder.{UpToℚ, Answers, Fair}
+use Rattle.search.specs.BestOrder.{UpToℚ, Answers, Fair}
 use Rattle.search.proofs.Best.{best}
 use Rattle.search.specs.Good.{Real, Good}
 use Rattle.search.specs.declared.CollectorBounds.{CollectorBounds}

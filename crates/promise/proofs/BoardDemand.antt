@@ -17,8 +17,8 @@ use Rattle.plan.specs.Lone.{Lone}
 use Rattle.plan.proofs.CarriedNumbers.{Windowed, OfBound}
 use Rattle.drawing.specs.Sheet.{Turn, Progress}
 use Rattle.drawing.specs.Sheet as sheet
-use Rattle.drawing.specs.Assembly.{touched, sound}
-use Rattle.drawing.specs.CleanChecks.{Agree}
+use Rattle.drawing.proofs.Assembly.{touched, sound}
+use Rattle.drawing.proofs.CleanChecks.{Agree}
 use Rattle.drawing.specs.Build.{no_drawn}
 use Rattle.drawing.proofs.Promise.{built_length}
 use Rattle.promise.specs.Order.{planned_x, turns_from, turns_of, drawn_of}
@@ -26,7 +26,8 @@ use Rattle.ranges.proofs.Corridors.{Signs}
 use Rattle.ranges.proofs.NoMinusZero.{PlainBoard}
 use Rattle.ranges.proofs.Planned.{planned_within}
 use Rattle.ranges.proofs.Drawn.{OfTurn}
-use Rattle.ranges.proofs.Extent.{Limits, OkSheet, sheet_ok}
+use Rattle.ranges.proofs.Extent.{sheet_ok}
+use Rattle.ranges.specs.Extent.{Limits, OkSheet}
 use Rattle.promise.specs.Demand3.{NoFalseJoint, BestPlace}
 use Rattle.promise.proofs.Joints.{no_false_joint}
 use Rattle.promise.proofs.Places.{OnceARole, offsets_length, turns_length, best_place}

@@ -20,9 +20,9 @@ use Rattle.plan.specs.Depths.{members_in, pitch_of, offsets_of}
 use Rattle.drawing.specs.Build.{pt, TapOn, Drawn, route_at, trunk_met, tap_then, trunk_taps, center, rail_taps, drawn_as, drawn_inside, rail_corner, railed, inside_or, build}
 use Rattle.drawing.specs.Rewrite.{rewrite_one, put_route, rewrite_all}
 use Rattle.drawing.specs.Sheet.{Turn, Progress, going, drawn_at, turn, sheet_of, blank}
-use Rattle.drawing.specs.Assembly.{Turned, turned, turn_went}
-use Rattle.drawing.specs.CleanChecks.{then_some}
-use Rattle.drawing.specs.Grow.{Bounded, rewrite_length}
+use Rattle.drawing.proofs.Assembly.{Turned, turned, turn_went}
+use Rattle.drawing.proofs.CleanChecks.{then_some}
+use Rattle.drawing.proofs.Grow.{Bounded, rewrite_length}
 use Rattle.drawing.specs.Normal.{Sheet, min_x, min_y, shifted, shifted_node, shifted_tap, shifted_drawn, shifted_sheet, moved}
 use Rattle.promise.specs.Order.{turns_from, turns_of, drawn_of}
 

@@ -14,7 +14,7 @@ use Rattle.plan.specs.declared.Bound.TheVariants.{None}
 use Rattle.plan.proofs.SmallNumbers.{Numbers}
 use Rattle.plan.proofs.Numbers.{FairRange, bounds_fair, trunks_real}
 use Rattle.drawing.specs.Sheet.{Turn, Progress, Outcome, going, after_turn, turn, sheet_of, blank}
-use Rattle.drawing.specs.Assembly.{turn_went}
+use Rattle.drawing.proofs.Assembly.{turn_went}
 use Rattle.answer.specs.Answer.{Sheet, answer_bytes}
 use Rattle.answer.proofs.Stores.{notice_length}
 use Rattle.promise.specs.Order.{turns_of, drawn_of}

@@ -13,8 +13,9 @@ use Rattle.geometry.specs.Contact.{slanted, contact}
 use Rattle.geometry.specs.Enters.{passes_inside}
 use Rattle.exact.specs.Exact.{Exact, SamePlace, Finite}
 use Rattle.exact.specs.Promise.{Shared, Tapped, Clean, FiniteTap}
-use Rattle.exact.proofs.Theorem.{no_contact, nothing_shared}
-use Rattle.route.specs.Found.{run_ends}
+use Rattle.exact.proofs.Theorem.{no_contact}
+use Rattle.exact.proofs.TwoBundles.{nothing_shared}
+use Rattle.route.proofs.Found.{run_ends}
 use Rattle.board.specs.declared.Options.{Options}
 use Rattle.board.specs.declared.Bundle.{Bundle}
 use Rattle.board.specs.Board.{Board, no_edge}
@@ -23,11 +24,12 @@ use Rattle.plan.specs.Depths.{members_in, no_node}
 use Rattle.drawing.specs.Build.{TapOn, Drawn, route_at, tap_of, no_drawn}
 use Rattle.drawing.specs.Check.{own, every_route, drawn_tests, interior_tests}
 use Rattle.drawing.specs.Sheet.{Turn, Progress, going, sheet_of, blank}
-use Rattle.drawing.specs.CleanChecks.{Clear}
-use Rattle.drawing.specs.Assembly.{Apart, sound}
+use Rattle.drawing.proofs.CleanChecks.{Clear}
+use Rattle.drawing.proofs.Assembly.{Apart, sound}
 use Rattle.drawing.proofs.Promise.{FreePair, Outside, drawn_free, apart_at, member_clear, every_mem}
 use Rattle.ranges.specs.Coordinates.{OfPoint, OfRoutes, OfTap, OfDrawn}
-use Rattle.ranges.proofs.Extent.{InX, InY, OkTurn, OkSheet, Limits, sheet_ok}
+use Rattle.ranges.proofs.Extent.{OkTurn, sheet_ok}
+use Rattle.ranges.specs.Extent.{InX, InY, OkSheet, Limits}
 use Rattle.promise.specs.Demand3.{SegmentOf, its_collector, its_spine, OnBoth, OnlyAtTap, StaysOut, AllFinite, WithRoutes, WithBundles, MembersOut, NoFalseJoint}
 
 -- ---- the numbers of a sheet are finite

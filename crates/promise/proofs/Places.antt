@@ -22,7 +22,8 @@ use Rattle.route.specs.declared.Crossing.{Crossing}
 use Rattle.route.specs.declared.Crossing.TheVariants.{Nowhere as nowhere, On}
 use Rattle.route.specs.Intersection.{met_at, or_else, first_met, last_met, first_shared_trunk_intersection, last_shared_trunk_intersection}
 use Rattle.search.specs.Stretches.{stretches, members}
-use Rattle.search.proofs.BestOrder.{UpToℚ, both}
+use Rattle.search.proofs.BestOrder.{both}
+use Rattle.search.specs.BestOrder.{UpToℚ}
 use Rattle.search.specs.Good.{Real, RealStretch, Holds, HoldsSome, HoldsAll, Good}
 use Rattle.sorting.specs.Lists.{Every, In}
 use Rattle.sorting.specs.Sorted.{every_at}
@@ -47,7 +48,7 @@ use Rattle.drawing.specs.Build.{TapOn, route_at, trunk_met, tap_then, trunk_taps
 use Rattle.drawing.specs.Check.{among}
 use Rattle.drawing.specs.Sheet.{Turn, Progress, sheet_of, blank}
 use Rattle.drawing.specs.Sheet as sheet
-use Rattle.drawing.specs.Assembly.{touched}
+use Rattle.drawing.proofs.Assembly.{touched}
 use Rattle.drawing.proofs.Promise.{Fresh, accepted, no_turn}
 use Rattle.promise.specs.Order.{planned_x, turns_from, turns_of}
 use Rattle.promise.specs.Demand3.{NoBetter, BestPlace, at_best, at_rail}

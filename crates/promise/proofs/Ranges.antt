@@ -24,7 +24,7 @@ use Rattle.binary64.proofs.Plain.{Plain}
 use Rattle.ranges.proofs.Corridors.{Below, offsets_below, corridors_below}
 use Rattle.ranges.proofs.Planned.{planned_within}
 use Rattle.ranges.proofs.NoMinusZero.{offsets_plain, corridors_plain, planned_plain}
-use Rattle.ranges.proofs.Extent.{OfFormat, InX, InY}
+use Rattle.ranges.specs.Extent.{OfFormat, InX, InY}
 use Rattle.ranges.specs.Coordinates.{OfPlaced}
 use Rattle.ranges.proofs.Page.{OfPage, before_shift, after_shift, before_plain, after_plain, before_of_format}
 use Rattle.promise.specs.Order.{turns_of}

@@ -29,7 +29,7 @@ use Rattle.plan.proofs.CarriedNumbers.{Windowed}
 use Rattle.binary64.proofs.Plain.{Plain, accepted_plain}
 use Rattle.ranges.proofs.Corridors.{Signs}
 use Rattle.ranges.proofs.NoMinusZero.{PlainBoard}
-use Rattle.ranges.proofs.Extent.{Limits}
+use Rattle.ranges.specs.Extent.{Limits}
 use Rattle.promise.proofs.Places.{OnceARole}
 use Rattle.promise.proofs.BoardDemand.{Readable}
 

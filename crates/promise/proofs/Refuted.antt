@@ -27,8 +27,8 @@ use Rattle.board.specs.Board.{Board}
 use Rattle.plan.specs.Depths.{members_in}
 use Rattle.drawing.specs.Build.{seg, pt, TapOn, Drawn, tap_of}
 use Rattle.drawing.specs.Check.{over_routes, among, run_tests, clash, drawn_tests, pair_tests, own, node_tests, inside_tests, interior_tests}
-use Rattle.drawing.specs.CleanChecks.{Clear}
-use Rattle.drawing.specs.Assembly.{Apart}
+use Rattle.drawing.proofs.CleanChecks.{Clear}
+use Rattle.drawing.proofs.Assembly.{Apart}
 use Rattle.drawing.proofs.Promise.{every_mem}
 use Rattle.promise.specs.Demand3.{SegmentOf, its_collector, its_spine, OnBoth, OnlyAtTap, AllFinite, WithRoutes, WithBundles, MembersOut, NoFalseJoint, crossing_bit, Demand3}
 use Rattle.job.specs.Job.{read_job, lengths_fit}

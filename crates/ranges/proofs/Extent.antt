@@ -44,43 +44,14 @@ use Rattle.plan.proofs.SmallNumbers.{Small, Numbers, lane_count_small, zero_smal
 use Rattle.plan.proofs.Numbers.{members_good, pitch_small, rail_small, port_small, endpoint_small}
 use Rattle.drawing.specs.Build.{TapOn, Drawn, route_at, center, rail_tap, rail_corner}
 use Rattle.drawing.specs.Sheet.{Turn, Progress, going, sheet_of, blank}
-use Rattle.drawing.specs.CleanChecks.{every_both}
+use Rattle.drawing.proofs.CleanChecks.{every_both}
 use Rattle.drawing.proofs.Promise.{every_mem}
 use Rattle.binary64.proofs.Plain.{Plain, add_plain, sub_plain}
 use Rattle.ranges.proofs.Corridors.{Below, held}
 use Rattle.ranges.proofs.NoMinusZero.{PlainBoard, endpoint_plain, inward_plain}
 use Rattle.ranges.specs.Coordinates.{OfPoint, OfRoutes, OfTap, OfDrawn, OfSheet}
+use Rattle.ranges.specs.Extent.{Limits, OfFormat, InX, InY, OkPoint, OkTap, OkDrawn, OkSheet}
 use Rattle.ranges.proofs.Drawn.{Kinds, OfPlan, OfTurn, sheet_of_kinds}
-
--- the limits of the job, in both coordinates
-pub record Limits (b : Board) (routes : List Route) : Type 0 where
-  pub numbers : Numbers b routes
-  pub node_ys : Every (λ (n : PlacedNode). Small 30 n.body.corner.y × Small 30 n.body.height) b.nodes
-  pub point_ys : Every (Every (λ (p : Point). Small 30 p.y)) routes
-
--- an x of the sheet: 2 ^ 31 + 2 ^ 21
--- a number of the format
-abbrev pub OfFormat : Float → Type 0
-OfFormat x = T (fits binary64 x)
-
-abbrev pub InX : Float → Type 0
-InX x = Bounded 2149580800 x
-
--- a y of the sheet: 2 ^ 31 + 255 * 2 ^ 20
-abbrev pub InY : Float → Type 0
-InY y = Bounded 2414870528 y
-
-abbrev pub OkPoint : Point → Type 0
-OkPoint = OfPoint InX InY
-
-abbrev pub OkTap : TapOn → Type 0
-OkTap = OfTap InX InY
-
-abbrev pub OkDrawn : Drawn → Type 0
-OkDrawn = OfDrawn InX InY
-
-abbrev pub OkSheet : Progress → Type 0
-OkSheet = OfSheet InX InY
 
 -- a turn whose planned x, if it has one, is within 2 ^ 30
 abbrev pub OkTurn : Turn → Type 0

@@ -23,9 +23,10 @@ use Rattle.plan.proofs.SmallNumbers.{Small, Numbers}
 use Rattle.plan.proofs.Numbers.{members_good, pitch_small, rail_small}
 use Rattle.drawing.specs.Build.{center}
 use Rattle.drawing.specs.Rewrite.{corridor_depth}
-use Rattle.drawing.specs.CleanChecks.{every_both}
+use Rattle.drawing.proofs.CleanChecks.{every_both}
 use Rattle.ranges.proofs.Corridors.{Below, Signs, held, offsets_bounded}
-use Rattle.ranges.proofs.Extent.{Limits, InX, InY, center_bounded, center_not_below, lane_bounded}
+use Rattle.ranges.proofs.Extent.{center_bounded, center_not_below, lane_bounded}
+use Rattle.ranges.specs.Extent.{Limits, InX, InY}
 
 -- the differences of same place, of the spacing test, of the interior test of rewrite_member_routes, and of the last shift
 pub x_difference : (x y : Float) → InX x → InX y → Below 33 (sub binary64 x y)

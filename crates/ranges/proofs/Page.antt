@@ -19,12 +19,13 @@ use Rattle.plan.proofs.SmallNumbers.{Small}
 use Rattle.drawing.specs.Build.{TapOn, Drawn, pt}
 use Rattle.drawing.specs.Sheet.{Turn, Progress, going, sheet_of, blank}
 use Rattle.drawing.specs.Normal.{Sheet, Page, sheet_after, route_points, tap_points, drawn_points, all_points, least_of, greatest_of, min_x, min_y, shifted, shifted_node, shifted_tap, shifted_drawn, shifted_sheet, moved, width_of, height_of, page_of}
-use Rattle.drawing.specs.CleanChecks.{every_both}
+use Rattle.drawing.proofs.CleanChecks.{every_both}
 use Rattle.binary64.proofs.Plain.{Plain, zero_plain, add_plain, sub_plain}
 use Rattle.ranges.proofs.Corridors.{Below, held, zero_bounded}
 use Rattle.ranges.specs.Coordinates.{OfPoint, OfRoutes, OfTap, OfDrawn, OfSheet, OfPlaced}
 use Rattle.ranges.proofs.Drawn.{OfTurn}
-use Rattle.ranges.proofs.Extent.{Limits, OfFormat, InX, InY, OkTurn, sheet_ok, sheet_plain, sheet_of_format}
+use Rattle.ranges.proofs.Extent.{OkTurn, sheet_ok, sheet_plain, sheet_of_format}
+use Rattle.ranges.specs.Extent.{Limits, OfFormat, InX, InY}
 use Rattle.ranges.proofs.NoMinusZero.{PlainBoard}
 
 -- ---- what is said of a page

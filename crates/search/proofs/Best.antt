@@ -28,7 +28,8 @@ use Rattle.search.specs.Search.{candidate, nearest, onto, falls, search_of}
 use Rattle.search.proofs.Count.{accounted, Accounted, RanOut}
 use Rattle.search.specs.Freely.{hits, common, candidates_onto, candidates, freely, price}
 use Rattle.search.specs.Good.{Good, Holds, HoldsAll, HoldsSome, Real, RealStretch}
-use Rattle.search.proofs.BestOrder.{UpToℚ, Answers, UpTo, far, Fair, upto_refl, upto_trans, upto_ℚ, aims, between, less_far, less_far_ind, less_far_left, less_far_right, not_above, key_upto, key_once, both, common_holds, First, first_common}
+use Rattle.search.proofs.BestOrder.{upto_refl, upto_trans, upto_ℚ, aims, between, less_far, less_far_ind, less_far_left, less_far_right, not_above, key_upto, key_once, both, common_holds, First, first_common}
+use Rattle.search.specs.BestOrder.{UpToℚ, Answers, UpTo, far, Fair}
 
 -- ---- (a) the candidates
 module _ (role : Role) (b : Bounds) (fair : Fair role b) where

@@ -1,6 +1,6 @@
 use Rattle.route.proofs.WindowSteps.{within_first}
 use mathlib.Core.Bool.{true, false}
-use Rattle.route.specs.Remade.{is_input_route}
+use Rattle.route.proofs.Remade.{is_input_route}
 use Rattle.route.specs.Rewrite.{corridor_x}
 use Rattle.route.specs.Intersection.{meets, first_vertical_line_intersection}
 use Rattle.geometry.specs.Points.{points_from}

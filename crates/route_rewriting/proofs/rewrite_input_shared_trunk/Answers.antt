@@ -1,5 +1,5 @@
 use Rattle.route.proofs.WindowSteps.{within_first}
-use Rattle.route.specs.Remade.{is_input_trunk}
+use Rattle.route.proofs.Remade.{is_input_trunk}
 use Rattle.route.specs.Intersection.{meets, first_shared_trunk_intersection}
 use Rattle.geometry.specs.Points.{points_from}
 use Rattle.route.specs.declared.Line.TheVariants.{Trunk}

@@ -1,6 +1,6 @@
 use Rattle.route.proofs.WindowSteps.{within_last}
 use mathlib.Core.Bool.{true, false}
-use Rattle.route.specs.Remade.{is_output_route}
+use Rattle.route.proofs.Remade.{is_output_route}
 use Rattle.route.specs.Rewrite.{corridor_x}
 use Rattle.route.specs.Intersection.{meets, last_vertical_line_intersection}
 use Rattle.geometry.specs.Points.{points_from}

@@ -1,5 +1,5 @@
 use Rattle.route.proofs.WindowSteps.{within_last}
-use Rattle.route.specs.Remade.{is_output_trunk}
+use Rattle.route.proofs.Remade.{is_output_trunk}
 use Rattle.route.specs.Intersection.{meets, last_shared_trunk_intersection}
 use Rattle.geometry.specs.Points.{points_from}
 use Rattle.route.specs.declared.Line.TheVariants.{Trunk}
