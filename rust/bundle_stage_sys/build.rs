@@ -1,14 +1,18 @@
 //! Finds the static library of the proved stage: in the folder that STAGE_LIB names; else in
 //! target/staticlib of the repository. Where it is not there, the build fails at once and says how to
-//! make it; with STAGE_PROVE=1 it has `rt staticlib stage` make it, which proves every crate below it.
+//! make it; with STAGE_PROVE=1 it has `rt lib` make it, in the folder of the crate stage_c, which has
+//! the entries for C; that proves every crate below it.
 
 #![forbid(unsafe_code)]
 
 use std::env;
+use std::fs;
 use std::path::{Path, PathBuf};
 use std::process::Command;
 
 const LIBRARY: &str = "libstage.a";
+const CRATE: &str = "crates/stage_c";
+const MADE: &str = "out/libstage_c.a";
 
 fn main() {
     println!("cargo:rerun-if-env-changed=STAGE_LIB");
@@ -63,41 +67,44 @@ fn repository_s() -> PathBuf {
     if !folder.join(LIBRARY).is_file() {
         if env::var_os("STAGE_PROVE").is_none_or(|value| value != "1") {
             fail(&format!(
-                "{LIBRARY}, the proved stage, is not in {}.\nEither run `rt staticlib stage` in {} \
-                 (from nothing it proves every crate below it), or `./run` there, which does so; or set STAGE_LIB \
+                "{LIBRARY}, the proved stage, is not in {}.\nEither run `rt lib` in {} \
+                 (from nothing it proves every crate below it) and copy {MADE} from there to {LIBRARY} in \
+                 {}, or run `./run` in {}, which does both; or set STAGE_LIB \
                  to the absolute path of a folder that has {LIBRARY} in it; or set STAGE_PROVE=1, \
-                 and this build runs `rt staticlib stage` itself.",
+                 and this build runs `rt lib` itself.",
+                folder.display(),
+                root.join(CRATE).display(),
                 folder.display(),
                 root.display()
             ));
         }
-        make(root);
-    }
-    if !folder.join(LIBRARY).is_file() {
-        fail(&format!(
-            "`rt staticlib stage` ended well, but {} has no {LIBRARY}",
-            folder.display()
-        ));
+        make(&root.join(CRATE), &folder);
     }
     folder
 }
 
-fn make(root: &Path) {
-    let made = Command::new("rt")
-        .args(["staticlib", "stage"])
-        .current_dir(root)
-        .status();
+fn make(place: &Path, folder: &Path) {
+    let made = Command::new("rt").arg("lib").current_dir(place).status();
     match made {
         Ok(status) if status.success() => {}
         Ok(status) => fail(&format!(
-            "`rt staticlib stage` failed ({status}): run it in {} and read what it says",
-            root.display()
+            "`rt lib` failed ({status}): run it in {} and read what it says",
+            place.display()
         )),
         Err(error) => fail(&format!(
             "{LIBRARY}, the proved stage, is not there, and the Rattle toolchain, which makes it, \
              cannot be run: rt: {error}.\nEither install the toolchain, so that `rt` is found in \
              PATH, or set STAGE_LIB to the absolute path of a folder that has {LIBRARY} in it."
         )),
+    }
+    let copied =
+        fs::create_dir_all(folder).and_then(|()| fs::copy(place.join(MADE), folder.join(LIBRARY)));
+    if let Err(error) = copied {
+        fail(&format!(
+            "`rt lib` ended well, but {} cannot be copied to {}: {error}",
+            place.join(MADE).display(),
+            folder.join(LIBRARY).display()
+        ));
     }
 }
 
