@@ -130,7 +130,7 @@ module _ (k m : ℕ) (fit : k + m + 2 ≤ 53) where
   abbrev G : Float → Type 0
   G x = OnGrid k m x
 
-  zero_on : G zero64
+  pub zero_on : G zero64
   zero_on = record {
     is_finite = tt;
     whole = pos 0;
