@@ -12,7 +12,7 @@ use Rattle.job.specs.Told.{told_edge}
 use Rattle.job.specs.LoopSteps.{one_more, begun, done, edge_turn, edge_head_refused, edge_points_refused}
 use Rattle.job.proofs.Windows.{edge_window}
 use Rattle.job.proofs.Lookups.{edge_row, none_yet, one_more_read}
-use Rattle.job.specs.Reads.{read_as, known_as, first_keys, edge_id, SoFar, stopped-as, well-as}
+use Rattle.job.specs.Reads.{read_as, known_as, first_keys, edge_id, SoFar, stopped_as, well_as}
 use Rattle.geometry.specs.Points.{points_from}
 use Rattle.route.specs.Window.{points_length}
 use borrow.Author.Rules.{rules}
@@ -73,7 +73,7 @@ returns-in-Stopped c =
     record {
       raw = [];
       is = sym (many_refused (next_edge a.grid) a.count l.i (record { edges = r.raw; points = points_from l.points 0 l.total }) (drop l.at s) _ (omega arith)
-          (edge_points_refused a.grid r.raw (points_from l.points 0 l.total) l.total (points_length l.points 0 l.total) (drop l.at s) _ (drop (l.at + 22) s) _ head (stopped-as g.result _ _ _ (sym g.ensures) c.in-Stopped.is))) ∙ r.left;
+          (edge_points_refused a.grid r.raw (points_from l.points 0 l.total) l.total (points_length l.points 0 l.total) (drop l.at s) _ (drop (l.at + 22) s) _ head (stopped_as g.result _ _ _ (sym g.ensures) c.in-Stopped.is))) ∙ r.left;
       keyed = λ q. let z : ◌≡◌ {A = ℕ} 0 1 = cc in absurd (omega arith);
       known = λ q. let z : ◌≡◌ {A = ℕ} 0 1 = cc in absurd (omega arith);
       total = λ q. let z : ◌≡◌ {A = ℕ} 0 1 = cc in absurd (omega arith);
@@ -200,7 +200,7 @@ loop-i-preserved c =
           (edge_row (first_keys a.node_ids.now a.zeros.now a.n) _ _ _ _ _ c.find-f.ensures c.find-g.ensures)
           (one_more l.t.rows l.i _ (omega arith))
           (edge_turn a.grid r.raw a.count l.i l.total l.at (points_from l.points 0 l.total) _ s _ (omega arith) (points_length l.points 0 l.total) head
-          (well-as g.result _ _ (sym g.ensures) c.in_default.is) ∙ r.left),
+          (well_as g.result _ _ (sym g.ensures) c.in_default.is) ∙ r.left),
     )
 
 pub returns : goal.returns

@@ -12,7 +12,7 @@ use Rattle.job.specs.Told.{told_edge}
 use Rattle.job.specs.LoopSteps.{one_more, begun, done, edge_turn, edge_head_refused, edge_points_refused}
 use Rattle.job.proofs.Windows.{edge_window}
 use Rattle.job.proofs.Lookups.{edge_row, none_yet, one_more_read}
-use Rattle.job.specs.Reads.{read_as, known_as, first_keys, edge_id, SoFar, stopped-as, well-as}
+use Rattle.job.specs.Reads.{read_as, known_as, first_keys, edge_id, SoFar, stopped_as, well_as}
 use Rattle.geometry.specs.Points.{points_from}
 use Rattle.route.specs.Window.{points_length}
 use borrow.Author.Rules.{rules}

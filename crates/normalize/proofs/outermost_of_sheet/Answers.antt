@@ -1,0 +1,11 @@
+use borrow.Author.Rules.{rules}
+use lib.Ieee.{of_bits}
+use Rattle.normalize.specs.PageTables.{origin}
+use Rattle.normalize.proofs.Outer.{bounds_joined}
+use Rattle.normalize.proofs.outermost_of_sheet.Goals as goal
+
+pub returns : goal.returns
+unfolding of_bits
+returns c =
+    let a = c.args in
+    rw (c.outermost_of_drawn.ensures, c.outermost_of_routes-b.ensures, c.outermost_of_nodes-a.ensures) (bounds_joined a.far origin a.nodes a.drawn a.points.now a.counts.now a.taps.now)

@@ -1,0 +1,19 @@
+-- `plan_reader::is_on_plan_grid` meets its contract: a number raised by 1.5 * 2 ^ 45 is rounded to a 128th. Assumes nothing.
+use mathlib.Core.Path.{sym, ◌∙◌, ap}
+use mathlib.Core.Bool.{Bool, false, cond}
+use lib.Ieee.{binary64, of_bits, neg, fits, eq, add, sub}
+use denote.Floats.{passes}
+use Rattle.grid.proofs.Raising.{by_raising, to_a_128th, raise}
+use Rattle.plan_reader.proofs.is_on_plan_grid.Goals as goal
+
+pub returns-then-x : goal.returns-then-x
+unfolding of_bits neg
+returns-then-x c =
+    let x = c.args.x in
+    sym (by_raising 7 to_a_128th x (passes (fits binary64 x) c.well_formed.0.1) ∙ ap (λ (t : Bool). cond t (eq (sub binary64 (add binary64 x (raise 7)) (raise 7)) x) false) c.if-x.true)
+
+pub returns : goal.returns
+unfolding of_bits neg
+returns c =
+    let x = c.args.x in
+    sym (by_raising 7 to_a_128th x (passes (fits binary64 x) c.well_formed.0.1) ∙ ap (λ (t : Bool). cond t (eq (sub binary64 (add binary64 x (raise 7)) (raise 7)) x) false) c.if-x.false)

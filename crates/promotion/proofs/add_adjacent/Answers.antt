@@ -1,0 +1,112 @@
+-- `promotion::add_adjacent` meets its contract. Assumes nothing.
+-- the slice and the first list's length, where the second search is made
+use mathlib.Core.Path.{◌≡◌, refl, sym, ◌∙◌, ap}
+use mathlib.Core.List.{List, ◌++◌}
+use Prim.Native.Nat.{ℕ, ◌+◌, ◌-◌, ◌≤◌}
+use native.Mathlib.Omega.{arith}
+use borrow.Author.Rules.{rules}
+use borrow.Author.Tests.{not-true, not-false}
+use lib.ListN.{length, take, drop}
+use lib.Seq.{length-take-le}
+use lib.Ieee.{Float}
+use Rattle.search.specs.declared.Listed.{Listed}
+use Rattle.search.specs.Stretches.{members, routes}
+use Rattle.search.specs.Search.{told, in_order}
+use Rattle.search.specs.Promotion.{kept, second_spent, joined}
+use Rattle.search.proofs.Parts as parts
+use Rattle.std.proofs.Common.{not}
+use Rattle.promotion.proofs.add_adjacent.Goals as goal
+use Rattle.promotion.proofs.add_adjacent.Goals.{After-common_horizontal_collector_xs-g, In-All}
+
+abbrev xs-of : After-common_horizontal_collector_xs-g → List Float
+xs-of x = x.args.xs.now
+
+abbrev n-of : After-common_horizontal_collector_xs-g → ℕ
+n-of x = x.args.n
+
+abbrev ys-of : After-common_horizontal_collector_xs-g → List Float
+ys-of x = x.common_horizontal_collector_xs-g.last.1.1.1.1.1.1.1.0
+
+-- the slice after it
+abbrev whole : After-common_horizontal_collector_xs-g → List Float
+whole x = take (n-of x) (xs-of x) ++ (ys-of x ++ drop (length (xs-of x) - n-of x) (drop (n-of x) (xs-of x)))
+
+in-front : (x : After-common_horizontal_collector_xs-g) → n-of x ≤ length (xs-of x)
+in-front x = omega (arith, x.requires.counts_in_bounds)
+
+ys-length : (x : After-common_horizontal_collector_xs-g) → length (ys-of x) ≡ length (xs-of x) - n-of x
+ys-length x = x.common_horizontal_collector_xs-g.auto.xs ∙ parts.back_length (xs-of x) (n-of x) (in-front x)
+
+whole_length : (x : After-common_horizontal_collector_xs-g) → length (whole x) ≡ length (xs-of x)
+whole_length x = parts.whole_again (xs-of x) (n-of x) (in-front x) (ys-of x) (ys-length x)
+
+abbrev m-of : In-All → ℕ
+m-of k = k.in-All.m
+
+both-within : (k : In-All) → n-of (goal.at.In-All k).After-common_horizontal_collector_xs-g + m-of k ≤ length (whole (goal.at.In-All k).After-common_horizontal_collector_xs-g)
+both-within k =
+    let g = k.common_horizontal_collector_xs-g in
+    let f : m-of k ≤ length (ys-of (goal.at.In-All k).After-common_horizontal_collector_xs-g) = rw g.auto.xs (parts.count_within g.result (m-of k) k.in-All.rest _ k.in-All.is g.ensures.within) in
+    omega (arith, ys-length (goal.at.In-All k).After-common_horizontal_collector_xs-g, whole_length (goal.at.In-All k).After-common_horizontal_collector_xs-g, in-front (goal.at.In-All k).After-common_horizontal_collector_xs-g)
+
+pub returns-then-not-is_between : goal.returns-then-not-is_between
+returns-then-not-is_between c =
+    let a = c.args in
+    let ms = members a.role a.pitch (routes a.points.now a.starts.now a.counts.now) in
+    record {
+      within = omega (arith, c.requires.counts_in_bounds);
+      are = parts.no_second a.role a.pitch a.b ms (take a.n a.xs.now) a.left.0 _ c.adjacent_lane-lane.ensures (sym c.is_between.ensures ∙ not-true _ (ap not c.if-not-is_between.true));
+    }
+
+pub common_horizontal_collector_xs-g-requires : goal.common_horizontal_collector_xs-g-requires
+common_horizontal_collector_xs-g-requires c =
+    let h = c.requires.counts_in_bounds in
+    let e = parts.back_length c.args.xs.now c.args.n (omega arith) in
+    record { windows = c.requires.windows; counts_in_bounds = omega arith; counts_in_bounds_2 = omega (arith, c.requires.counts_in_bounds_2); }
+
+pub overflow_add-both : goal.overflow_add-both
+overflow_add-both c =
+    omega (arith, both-within (goal.at.overflow_add-both c).In-All, whole_length (goal.at.overflow_add-both c).After-common_horizontal_collector_xs-g, c.well_formed)
+
+pub slice_bounds-put_in_order-end : goal.slice_bounds-put_in_order-end
+slice_bounds-put_in_order-end c = both-within (goal.at.slice_bounds-put_in_order-end c).In-All
+
+pub slice_bounds-put_in_order-end-in-All : goal.slice_bounds-put_in_order-end-in-All
+slice_bounds-put_in_order-end-in-All c =
+    sym (length-take-le (n-of (goal.at.slice_bounds-put_in_order-end-in-All c).After-common_horizontal_collector_xs-g + m-of (goal.at.slice_bounds-put_in_order-end-in-All c).In-All) (whole (goal.at.slice_bounds-put_in_order-end-in-All c).After-common_horizontal_collector_xs-g) (both-within (goal.at.slice_bounds-put_in_order-end-in-All c).In-All))
+
+pub put_in_order-k-requires : goal.put_in_order-k-requires
+put_in_order-k-requires c =
+    omega (arith, parts.front_within (whole (goal.at.put_in_order-k-requires c).After-common_horizontal_collector_xs-g) (n-of (goal.at.put_in_order-k-requires c).After-common_horizontal_collector_xs-g + m-of (goal.at.put_in_order-k-requires c).In-All), whole_length (goal.at.put_in_order-k-requires c).After-common_horizontal_collector_xs-g, c.common_horizontal_collector_xs-g.auto.scratch, c.requires.counts_in_bounds_2)
+
+pub returns-in-Spent : goal.returns-in-Spent
+returns-in-Spent c =
+    let a = c.args in
+    let ms = members a.role a.pitch (routes a.points.now a.starts.now a.counts.now) in
+    let g = c.common_horizontal_collector_xs-g in
+    let first = take (n-of (goal.at.returns-in-Spent c).After-common_horizontal_collector_xs-g) (xs-of (goal.at.returns-in-Spent c).After-common_horizontal_collector_xs-g) in
+    let near = sym c.is_between.ensures ∙ not-false _ (ap not c.if-not-is_between.false) in
+    record {
+      within = in-front (goal.at.returns-in-Spent c).After-common_horizontal_collector_xs-g;
+      are = parts.second a.role a.pitch a.b ms first a.left.0 _ c.adjacent_lane-lane.ensures near _
+          (ap second_spent (parts.first_kept (xs-of (goal.at.returns-in-Spent c).After-common_horizontal_collector_xs-g) (n-of (goal.at.returns-in-Spent c).After-common_horizontal_collector_xs-g) (in-front (goal.at.returns-in-Spent c).After-common_horizontal_collector_xs-g) (ys-of (goal.at.returns-in-Spent c).After-common_horizontal_collector_xs-g) _)
+          ∙ ap (λ (r : Listed). joined a.role first (told r (ys-of (goal.at.returns-in-Spent c).After-common_horizontal_collector_xs-g))) (sym c.in-Spent.is) ∙ ap (joined a.role first) g.ensures.are);
+    }
+
+pub returns-in-All : goal.returns-in-All
+returns-in-All c =
+    let a = c.args in
+    let ms = members a.role a.pitch (routes a.points.now a.starts.now a.counts.now) in
+    let g = c.common_horizontal_collector_xs-g in
+    let first = take (n-of (goal.at.returns-in-All c).After-common_horizontal_collector_xs-g) (xs-of (goal.at.returns-in-All c).After-common_horizontal_collector_xs-g) in
+    let near = sym c.is_between.ensures ∙ not-false _ (ap not c.if-not-is_between.false) in
+    let p = c.put_in_order-k in
+    let f : m-of (goal.at.returns-in-All c).In-All ≤ length (ys-of (goal.at.returns-in-All c).After-common_horizontal_collector_xs-g) = rw g.auto.xs (parts.count_within g.result (m-of (goal.at.returns-in-All c).In-All) c.in-All.rest _ c.in-All.is g.ensures.within) in
+    record {
+      within = omega (arith, p.ensures.within, parts.front_within (whole (goal.at.returns-in-All c).After-common_horizontal_collector_xs-g) (n-of (goal.at.returns-in-All c).After-common_horizontal_collector_xs-g + m-of (goal.at.returns-in-All c).In-All), whole_length (goal.at.returns-in-All c).After-common_horizontal_collector_xs-g);
+      are = parts.second a.role a.pitch a.b ms first a.left.0 _ c.adjacent_lane-lane.ensures near _
+          (ap (λ (l : List Float). kept l c.in-All.rest.0)
+          (parts.front_in_order a.role ms (whole (goal.at.returns-in-All c).After-common_horizontal_collector_xs-g) p.new.xs (n-of (goal.at.returns-in-All c).After-common_horizontal_collector_xs-g + m-of (goal.at.returns-in-All c).In-All) p.result p.auto.xs p.ensures
+          ∙ ap (in_order a.role) (parts.both_lists (xs-of (goal.at.returns-in-All c).After-common_horizontal_collector_xs-g) (n-of (goal.at.returns-in-All c).After-common_horizontal_collector_xs-g) (in-front (goal.at.returns-in-All c).After-common_horizontal_collector_xs-g) (ys-of (goal.at.returns-in-All c).After-common_horizontal_collector_xs-g) _ (m-of (goal.at.returns-in-All c).In-All) f))
+          ∙ ap (λ (r : Listed). joined a.role first (told r (ys-of (goal.at.returns-in-All c).After-common_horizontal_collector_xs-g))) (sym c.in-All.is) ∙ ap (joined a.role first) g.ensures.are);
+    }
