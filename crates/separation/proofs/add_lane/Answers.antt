@@ -1,0 +1,23 @@
+-- `separation::add_lane` meets its contract. Assumes nothing.
+use mathlib.Core.Path.{◌≡◌, refl, sym, ◌∙◌, ap}
+use mathlib.Core.List.{List, []}
+use Prim.Native.Nat.{ℕ, ◌+◌, suc}
+use native.Mathlib.Omega.{arith}
+use lib.ListN.{take, set}
+use lib.Seq.{take-suc-set}
+use lib.Ieee.{Float}
+use borrow.Author.Rules.{rules}
+use Rattle.separation.proofs.add_lane.Goals as goal
+
+pub returns-in-None : goal.returns-in-None
+returns-in-None c = record { told = rw c.in-None.is; few = (omega arith, omega arith); }
+
+pub returns-in-Input : goal.returns-in-Input
+returns-in-Input c =
+    let t = c.taken_with-i.ensures in
+    record { told = rw (t.0, c.in-At.is, c.in-Input.is); few = (omega (arith, t.1), omega arith); }
+
+pub returns-in-Output : goal.returns-in-Output
+returns-in-Output c =
+    let t = c.taken_with-o.ensures in
+    record { told = rw (t.0, c.in-At.is, c.in-Output.is); few = (omega arith, omega (arith, t.1)); }
