@@ -1,4 +1,4 @@
--- What the best x of a search is: the order of x by role, what an answer says, and bounds of which the desired x is the better one. Definitions only.
+-- What the best x of a search is: the order of x by role, what an answer says, and bounds of which the desired x is the better one. Definitions of theorems.
 -- Assumes nothing.
 use Rattle.std.specs.Prelude.{List, T, Float}
 use Rattle.std.specs.Float.Ieee.{le, eq}

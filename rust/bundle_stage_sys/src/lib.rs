@@ -23,7 +23,7 @@ pub const WANT_CROSSINGS: u32 = 1 << 2;
 pub mod c {
     unsafe extern "C" {
         // SAFETY: the declarations are those of the library's `pub extern "C" fn` of the same names
-        // (crates/stage), where a slice is a pointer and a count, and `usize` has 64 bits on x86-64,
+        // (crates/stage_c), where a slice is a pointer and a count, and `usize` has 64 bits on x86-64,
         // for which alone the library is made. It exports no other name.
         /// # Safety
         ///

@@ -37,7 +37,7 @@ const fn case(
     }
 }
 
-/// The rows of crates/geometry/specs/KindCases.antt, in their order.
+/// The rows of crates/geometry/proofs/KindCases.antt, in their order.
 #[rustfmt::skip]
 pub const DECIDING: [Deciding; 18] = [
     case("a run of no length at its tap", BUS, ((5.0, 0.0), (5.0, 0.0)), Some((5.0, 0.0)), 0),

@@ -1,7 +1,7 @@
 //! The edge and the node at which a drawing is refused (10, 11, 12); the bundle is found in turn.rs.
 //!
 //! The stage says a number only. But it pays a geometry visit for each test, in an order that its
-//! contract fixes (`interior-tests` and `contact-tests`, crates/drawing/specs/Check.antt), and it can
+//! contract fixes (`interior_tests` and `contact_tests`, crates/drawing/specs/Check.antt), and it can
 //! be asked how many it paid before the refusal: that is the least grant with which the job is not
 //! refused with 14. So a record is added that touches nothing and that the plan does not look at, an
 //! edge in no bundle or a node of no size, and the visits that it adds tell how far the tests came: a
