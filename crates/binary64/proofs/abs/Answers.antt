@@ -1,4 +1,4 @@
--- `binary64::abs` meets its contract, by the laws of specs/Sign.antt at each arm. Assumes nothing.
+-- `binary64::abs` meets its contract, by the laws of proofs/Sign.antt at each arm. Assumes nothing.
 use lib.Ieee.{of_bits, fits, binary64}
 use denote.Floats.{passes}
 use Rattle.binary64.proofs.Sign.{magnitude_below, magnitude_zero, magnitude_else}
