@@ -7,7 +7,7 @@ use Rattle.std.specs.Float.Ieee.Scale.{finite}
 use Rattle.binary64.specs.Bools.{or_split}
 use Rattle.binary64.specs.Order.{least, greatest}
 use Rattle.binary64.specs.Value.{least_finite, greatest_finite, least_le_left, least_le_right, le_greatest_left, le_greatest_right, not_lt→le}
-use Rattle.binary64.proofs.Fraction.{at_most_trans, at_most_antisymm, lt→Belowℚ, le→At_mostℚ, AtMostℚ→le, eq→Sameℚ, Sameℚ→eq}
+use Rattle.binary64.proofs.Fraction.{at_most_trans, at_most_antisymm, lt→Belowℚ, le→AtMostℚ, AtMostℚ→le, eq→Sameℚ, Sameℚ→eq}
 use Rattle.binary64.specs.Rational.{Fraction, AtMostℚ, Belowℚ, Sameℚ, value}
 use Rattle.geometry.specs.declared.Point.{Point}
 use Rattle.geometry.specs.declared.Segment.{Segment}
@@ -48,12 +48,12 @@ greatest_at_most p a b h k = cond_ind (lt a b) b a (λ (z : Float). AtMostℚ (v
 
 module _ (a b : Float) (p : Fraction) (A : T (finite a)) (B : T (finite b)) where
   low : Between (value a) p (value b) → AtMostℚ (value (least a b)) p
-  low (rising h k) = at_most_trans (value (least a b)) (value a) p (le→At_mostℚ (least a b) a (least_finite a b A B) A (least_le_left a b A B)) h
-  low (falling h k) = at_most_trans (value (least a b)) (value b) p (le→At_mostℚ (least a b) b (least_finite a b A B) B (least_le_right a b A B)) h
+  low (rising h k) = at_most_trans (value (least a b)) (value a) p (le→AtMostℚ (least a b) a (least_finite a b A B) A (least_le_left a b A B)) h
+  low (falling h k) = at_most_trans (value (least a b)) (value b) p (le→AtMostℚ (least a b) b (least_finite a b A B) B (least_le_right a b A B)) h
 
   high : Between (value a) p (value b) → AtMostℚ p (value (greatest a b))
-  high (rising h k) = at_most_trans p (value b) (value (greatest a b)) k (le→At_mostℚ b (greatest a b) B (greatest_finite a b A B) (le_greatest_right a b A B))
-  high (falling h k) = at_most_trans p (value a) (value (greatest a b)) k (le→At_mostℚ a (greatest a b) A (greatest_finite a b A B) (le_greatest_left a b A B))
+  high (rising h k) = at_most_trans p (value b) (value (greatest a b)) k (le→AtMostℚ b (greatest a b) B (greatest_finite a b A B) (le_greatest_right a b A B))
+  high (falling h k) = at_most_trans p (value a) (value (greatest a b)) k (le→AtMostℚ a (greatest a b) A (greatest_finite a b A B) (le_greatest_left a b A B))
 
   pinned : T (eq a b) → Between (value a) p (value b) → Sameℚ p (value a)
   pinned t w = go w (eq→Sameℚ a b A B t)
@@ -128,7 +128,7 @@ module _ (p : Exact) (f m : Fraction) where
         | inr u ↦ clear s.high r.low m S.high_finite R.low_finite S.to R.from u
       ])
       (λ t. cond_ind (lt lo hi) Overlap (One (place l s.fixed lo)) (Holds p) (λ u. tt)
-      (λ u. makes s.fixed lo S.fixed_finite LO S.on (at_most_antisymm m (value lo) (at_most_trans m (value hi) (value lo) to (le→At_mostℚ hi lo HI LO (not_lt→le lo hi LO HI u))) from)))
+      (λ u. makes s.fixed lo S.fixed_finite LO S.on (at_most_antisymm m (value lo) (at_most_trans m (value hi) (value lo) to (le→AtMostℚ hi lo HI LO (not_lt→le lo hi LO HI u))) from)))
 
 crossing_holds : (p : Exact) (h v : Span) → Lies h p.y p.x → Lies v p.x p.y → Holds p (crossing h v)
 crossing_holds p h v H W =

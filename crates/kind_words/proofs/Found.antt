@@ -10,7 +10,7 @@ use Rattle.std.specs.Float.Ieee.Scale.{finite}
 use Rattle.binary64.specs.Order.{least, greatest}
 use Rattle.binary64.specs.Value.{least_finite, greatest_finite, least_le_left, least_le_right, le_greatest_left, le_greatest_right, greatest_le, le_least, le_refl_finite, le_trans_finite, le_antisymm_finite, not_lt→le}
 use Rattle.binary64.specs.Rational.{Sameℚ, value}
-use Rattle.binary64.proofs.Fraction.{lt→Belowℚ, le→At_mostℚ, eq→Sameℚ}
+use Rattle.binary64.proofs.Fraction.{lt→Belowℚ, le→AtMostℚ, eq→Sameℚ}
 use Rattle.geometry.specs.declared.Point.{Point}
 use Rattle.geometry.specs.declared.Segment.{Segment}
 use Rattle.geometry.specs.declared.Span.{Span}
@@ -61,8 +61,8 @@ lies_on s R f m F M e h k = record {
   low_finite = R.low;
   high_finite = R.high;
   on = eq→Sameℚ f s.fixed F R.fixed e;
-  from = le→At_mostℚ s.low m R.low M h;
-  to = le→At_mostℚ m s.high M R.high k;
+  from = le→AtMostℚ s.low m R.low M h;
+  to = le→AtMostℚ m s.high M R.high k;
 }
 
 -- equal to itself

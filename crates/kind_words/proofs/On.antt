@@ -7,7 +7,7 @@ use Rattle.std.specs.Float.Ieee.Scale.{finite}
 use Rattle.binary64.specs.Rational.{plus, less, Fraction, AtMostℚ, Sameℚ, value}
 use Rattle.binary64.specs.Order.{least, greatest}
 use Rattle.binary64.specs.Value.{lt→le, not_lt→le}
-use Rattle.binary64.proofs.Fraction.{cross_plus, cross_less, at_most_trans, at_most_antisymm, le→At_mostℚ, eq→Sameℚ}
+use Rattle.binary64.proofs.Fraction.{cross_plus, cross_less, at_most_trans, at_most_antisymm, le→AtMostℚ, eq→Sameℚ}
 use Rattle.geometry.specs.declared.Point.{Point}
 use Rattle.geometry.specs.Contact.{level, across, upright}
 use Rattle.exact.specs.Exact.{nought, unit, Exact, exact, on_the_way, OnSegment, Finite}
@@ -178,10 +178,10 @@ pub span_between : (a b : Float) (m : Fraction) → T (finite a) → T (finite b
 span_between a b m A B h k = go (lt b a) (lt a b) (lt→le b a) (not_lt→le b a B A) h k
   where
     go : (s t : Bool) → (T s → T (le b a)) → (T (not s) → T (le a b)) → AtMostℚ (value (cond s b a)) m → AtMostℚ m (value (cond t b a)) → Between (value a) m (value b)
-    go true true f g h k = falling h (at_most_trans m (value b) (value a) k (le→At_mostℚ b a B A (f tt)))
+    go true true f g h k = falling h (at_most_trans m (value b) (value a) k (le→AtMostℚ b a B A (f tt)))
     go true false f g h k = falling h k
     go false true f g h k = rising h k
-    go false false f g h k = rising h (at_most_trans m (value a) (value b) k (le→At_mostℚ a b A B (g tt)))
+    go false false f g h k = rising h (at_most_trans m (value a) (value b) k (le→AtMostℚ a b A B (g tt)))
 
 -- the converses of lies-across and lies-upright
 pub from_across : (p : Exact) (a b : Point) → Finite a → Finite b → T (level a b) → Lies (across a b) p.y p.x → OnSegment p (exact a) (exact b)

@@ -14,7 +14,7 @@ use Rattle.binary64.specs.Integers.{neg_plus, neg_less}
 use Rattle.binary64.specs.Value.{num_parts}
 use Rattle.binary64.specs.Range.{Bounded, bounded_mono, sub_bounded}
 use Rattle.binary64.specs.Monotone.{plus_of, less_of, round_mono_signed}
-use Rattle.binary64.proofs.Fraction.{at_most_trans, value_plus, value_less, value_den, le→At_mostℚ}
+use Rattle.binary64.proofs.Fraction.{at_most_trans, value_plus, value_less, value_den, le→AtMostℚ}
 use Rattle.exact.specs.Exact.{plusℚ, minusℚ}
 use Rattle.exact.proofs.Between.{same→at_most, same→at_least}
 use Rattle.exact.proofs.Near.{sub_rounded}
@@ -93,13 +93,13 @@ module _ (z : Float) (n c : ℕ) (e : Fraction) (C : 0 < c) (few : suc (n * 2 ^ 
       let y = round binary64 s x (2 ^ 20) in
       let g = grid_float s x few' in
       at_most_trans (over_grid (signed s x) 20) (value y) (value z) (same→at_least (value y) (over_grid (signed s x) 20) (at_out 20 y (signed s x) g))
-      (le→At_mostℚ y z g.is_finite f (subst (λ (w : Float). T (le y w)) (sym u) (round_mono_signed s x (2 ^ 20) s n c (pow_pos 20) C k)))
+      (le→AtMostℚ y z g.is_finite f (subst (λ (w : Float). T (le y w)) (sym u) (round_mono_signed s x (2 ^ 20) s n c (pow_pos 20) C k)))
 
   high_z : (x : ℕ) (s : Bool) → x < 2 ^ 53 → z ≡ round binary64 s n c → plus_of s n * 2 ^ 20 + less_of s x * c ≤ plus_of s x * c + less_of s n * 2 ^ 20 → AtMostℚ (value z) (over_grid (signed s x) 20)
   high_z x s few' u k =
       let y = round binary64 s x (2 ^ 20) in
       let g = grid_float s x few' in
-      at_most_trans (value z) (value y) (over_grid (signed s x) 20) (le→At_mostℚ z y f g.is_finite (subst (λ (w : Float). T (le w y)) (sym u) (round_mono_signed s n c s x (2 ^ 20) C (pow_pos 20) k)))
+      at_most_trans (value z) (value y) (over_grid (signed s x) 20) (le→AtMostℚ z y f g.is_finite (subst (λ (w : Float). T (le w y)) (sym u) (round_mono_signed s n c s x (2 ^ 20) C (pow_pos 20) k)))
       (same→at_most (value y) (over_grid (signed s x) 20) (at_out 20 y (signed s x) g))
 
   caught : (s : Bool) → z ≡ round binary64 s n c → plus e.numerator + less_of s n ≡ plus_of s n + less e.numerator → Caught (value z) e

@@ -9,7 +9,7 @@ use Rattle.std.specs.Float.Ieee.{of_int, lt, le, eq, add, sub, neg, of_bits, rou
 use Rattle.std.specs.Float.Ieee.Scale.{finite}
 use Rattle.binary64.specs.Order.{near, magnitude}
 use Rattle.binary64.specs.Rational.{Fraction, AtMostℚ, value}
-use Rattle.binary64.proofs.Fraction.{cross_plus, cross_less, Sameℚ→eq, le→At_mostℚ, AtMostℚ→le, at_most_trans}
+use Rattle.binary64.proofs.Fraction.{cross_plus, cross_less, Sameℚ→eq, le→AtMostℚ, AtMostℚ→le, at_most_trans}
 use Rattle.geometry.specs.declared.Point.{Point}
 use Rattle.geometry.specs.declared.Segment.{Segment}
 use Rattle.geometry.specs.declared.Role.TheVariants.{Input}
@@ -273,11 +273,11 @@ beside : (s : Segment) (p : Exact) → Aside s → OnBoth s (line 25 10 28 11) p
 unfolding of_int le
 beside s p h on = elim h.side [
   | inl k ↦ AtMostℚ→le (num 25) (num 20) tt tt
-      (at_most_trans (value (num 25)) p.x (value (num 20)) (from_x (value (num 25)) (value (num 25)) p.x (value (num 28)) (at_most_refl (value (num 25))) (le→At_mostℚ (num 25) (num 28) tt tt tt) (across_between on.on_second))
-      (up_to_x (value (num 20)) (value s.start.x) p.x (value s.end.x) (le→At_mostℚ s.start.x (num 20) h.start tt k.0) (le→At_mostℚ s.end.x (num 20) h.end tt k.1) (across_between on.on_first)))
+      (at_most_trans (value (num 25)) p.x (value (num 20)) (from_x (value (num 25)) (value (num 25)) p.x (value (num 28)) (at_most_refl (value (num 25))) (le→AtMostℚ (num 25) (num 28) tt tt tt) (across_between on.on_second))
+      (up_to_x (value (num 20)) (value s.start.x) p.x (value s.end.x) (le→AtMostℚ s.start.x (num 20) h.start tt k.0) (le→AtMostℚ s.end.x (num 20) h.end tt k.1) (across_between on.on_first)))
   | inr k ↦ AtMostℚ→le (num 38) (num 28) tt tt
-      (at_most_trans (value (num 38)) p.x (value (num 28)) (from_x (value (num 38)) (value s.start.x) p.x (value s.end.x) (le→At_mostℚ (num 38) s.start.x tt h.start k.0) (le→At_mostℚ (num 38) s.end.x tt h.end k.1) (across_between on.on_first))
-      (up_to_x (value (num 28)) (value (num 25)) p.x (value (num 28)) (le→At_mostℚ (num 25) (num 28) tt tt tt) (at_most_refl (value (num 28))) (across_between on.on_second)))
+      (at_most_trans (value (num 38)) p.x (value (num 28)) (from_x (value (num 38)) (value s.start.x) p.x (value s.end.x) (le→AtMostℚ (num 38) s.start.x tt h.start k.0) (le→AtMostℚ (num 38) s.end.x tt h.end k.1) (across_between on.on_first))
+      (up_to_x (value (num 28)) (value (num 25)) p.x (value (num 28)) (le→AtMostℚ (num 25) (num 28) tt tt tt) (at_most_refl (value (num 28))) (across_between on.on_second)))
 ]
 
 aside : (d : Drawn) → Memᴰ d drawn → (s : Segment) → SegmentOf d s → Aside s

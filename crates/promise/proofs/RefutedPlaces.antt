@@ -5,7 +5,7 @@ use Rattle.std.proofs.Common.{sym, ap, ◌∙◌, subst, inl, inr, arith}
 use Rattle.std.specs.Float.Ieee.Scale.{finite}
 use Rattle.std.specs.Float.Ieee.{of_int, lt, le, eq, ne, add, sub, mul}
 use Rattle.binary64.specs.Rational.{Fraction, AtMostℚ, Sameℚ, value}
-use Rattle.binary64.proofs.Fraction.{at_most_trans, le→At_mostℚ, AtMostℚ→le}
+use Rattle.binary64.proofs.Fraction.{at_most_trans, le→AtMostℚ, AtMostℚ→le}
 use Rattle.exact.proofs.Between.{same→at_least, same_refl}
 use Rattle.geometry.specs.declared.Role.TheVariants.{Input}
 use Rattle.geometry.specs.declared.Side.TheVariants.{East}
@@ -77,15 +77,15 @@ rail_x u e f = rw (e, f) refl
 allowed : (x : Float) → T (finite x) → T (le (num 18) x) → T (le x (num 96)) → Allowed board routes bundle (value x)
 unfolding members stretches runs of_int lt le eq ne add sub
 allowed x f a b =
-    let low = le→At_mostℚ (num 18) x tt f a in
-    let high = le→At_mostℚ x (num 96) f tt b in
-    let from : AtMostℚ (value (num 10)) (value x) = at_most_trans (value (num 10)) (value (num 18)) (value x) (le→At_mostℚ (num 10) (num 18) tt tt tt) low in
+    let low = le→AtMostℚ (num 18) x tt f a in
+    let high = le→AtMostℚ x (num 96) f tt b in
+    let from : AtMostℚ (value (num 10)) (value x) = at_most_trans (value (num 10)) (value (num 18)) (value x) (le→AtMostℚ (num 10) (num 18) tt tt tt) low in
     record {
       bounds = its;
       are_bounds = its_bounds;
       good = record {
         above = low;
-        below = at_most_trans (value x) (value (num 96)) (value (num 100)) high (le→At_mostℚ (num 96) (num 100) tt tt tt);
+        below = at_most_trans (value x) (value (num 96)) (value (num 100)) high (le→AtMostℚ (num 96) (num 100) tt tt tt);
         usable = (inl (from, high), (inl (from, high), tt));
       };
     }

@@ -9,7 +9,7 @@ use Rattle.std.specs.Float.Ieee.{le, lt}
 use Rattle.binary64.specs.Bools.{either}
 use Rattle.binary64.specs.Order.{least, greatest}
 use Rattle.binary64.specs.Value.{le_trans_finite, lt_not_le, least_finite, greatest_finite, least_le_left, least_le_right, le_greatest_left, le_greatest_right}
-use Rattle.binary64.proofs.Fraction.{le→At_mostℚ}
+use Rattle.binary64.proofs.Fraction.{le→AtMostℚ}
 use Rattle.binary64.specs.Rational.{Fraction, AtMostℚ, value}
 use Rattle.geometry.specs.declared.Role.{Role}
 use Rattle.geometry.specs.declared.Role.TheVariants.{Input, Output}
@@ -274,8 +274,8 @@ module _ (role : Role) (b : Bounds) (ms : List (List Stretch)) (fair : Fair role
       let w = every_in (Bounded role b fair) x (candidates role b ms) tried_bounded h.0 in (
         w.0,
         record {
-          above = le→At_mostℚ b.minimum x fair.minimum_real.0 w.0.0 w.1;
-          below = le→At_mostℚ x b.maximum w.0.0 fair.maximum_real.0 w.2;
+          above = le→AtMostℚ b.minimum x fair.minimum_real.0 w.0.0 w.1;
+          below = le→AtMostℚ x b.maximum w.0.0 fair.maximum_real.0 w.2;
           usable = common_holds x ms w.0 real h.1;
         },
         λ q g.

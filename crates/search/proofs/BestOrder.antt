@@ -10,7 +10,7 @@ use Rattle.std.specs.Float.Ieee.Fits.{and_l, and_r}
 use Rattle.binary64.specs.Bools.{either}
 use Rattle.binary64.specs.Order.{least, greatest}
 use Rattle.binary64.specs.Value.{le_refl_finite, le_trans_finite, not_lt→le, least_le_left, least_le_right, le_greatest_left, le_greatest_right, eq→same, at_most→le}
-use Rattle.binary64.proofs.Fraction.{at_most_trans, le→At_mostℚ, AtMostℚ→le}
+use Rattle.binary64.proofs.Fraction.{at_most_trans, le→AtMostℚ, AtMostℚ→le}
 use Rattle.binary64.specs.Rational.{Fraction, AtMostℚ, value}
 use Rattle.binary64.proofs.Total.{key_order}
 use Rattle.geometry.specs.declared.Role.{Role}
@@ -40,8 +40,8 @@ upto_trans Input x y z r s t h k = le_trans_finite x y z r.0 s.0 t.0 h k
 upto_trans Output x y z r s t h k = le_trans_finite z y x t.0 s.0 r.0 k h
 
 pub upto_ℚ : (role : Role) (q : Fraction) (x y : Float) → Real x → Real y → UpToℚ role q x → UpTo role x y → UpToℚ role q y
-upto_ℚ Input q x y r s h k = at_most_trans q (value x) (value y) h (le→At_mostℚ x y r.0 s.0 k)
-upto_ℚ Output q x y r s h k = at_most_trans (value y) (value x) q (le→At_mostℚ y x s.0 r.0 k) h
+upto_ℚ Input q x y r s h k = at_most_trans q (value x) (value y) h (le→AtMostℚ x y r.0 s.0 k)
+upto_ℚ Output q x y r s h k = at_most_trans (value y) (value x) q (le→AtMostℚ y x s.0 r.0 k) h
 
 pub equal_below : (x y : Float) → Real x → Real y → T (eq x y) → T (le x y)
 equal_below x y r s h = at_most→le x y r.0 s.0 (le_of_eq (eq→same x y r.0 s.0 h))
@@ -112,7 +112,7 @@ pub in_stretch : (x : Float) (s : Stretch) → Real x → RealStretch s → hold
 in_stretch x Nowhere r s e = absurd (true≢false (sym e))
 in_stretch x (Of l h) r s e =
     let t : T (le l x && le x h) = subst T (sym e) tt in
-    (le→At_mostℚ l x s.0.0 r.0 (and_l (le l x) (le x h) t), le→At_mostℚ x h r.0 s.1.0 (and_r (le l x) (le x h) t))
+    (le→AtMostℚ l x s.0.0 r.0 (and_l (le l x) (le x h) t), le→AtMostℚ x h r.0 s.1.0 (and_r (le l x) (le x h) t))
 
 pub hits_holds : (x : Float) (ss : List Stretch) → Real x → Every RealStretch ss → hits x ss ≡ true → HoldsSome (value x) ss
 unfolding hits

@@ -16,4 +16,4 @@ pub returns : goal.returns
 returns c =
     let a = c.args in
     let r = rows (goal.at.returns c).Start in
-    record { bytes = trunk_joined a.t.rows a.t.count a.b (omega arith) c.requires.0 _ _ _ _ c.put_trunk_head.ensures c.put_taps.ensures.bytes; place = omega (arith, c.put_taps.ensures.place); }
+    record { bytes = trunk_joined a.t.rows a.t.count a.b (omega arith) c.requires.0 _ _ _ _ c.put_trunk_head.ensures c.put_taps.ensures.bytes; place = omega (arith, c.put_taps.ensures.place) }

@@ -11,4 +11,4 @@ pub returns : goal.returns
 returns c =
     let a = c.args in
     let k : a.first + a.count - a.first ≡ a.count = omega arith in
-    record { bytes = rw (c.put_points.ensures.bytes, c.put_count.ensures, c.put_id.ensures, k) (line_joined _ _ _ _ _ (points_length a.s.now a.first a.count)); place = omega (arith, c.put_points.ensures.place); }
+    record { bytes = rw (c.put_points.ensures.bytes, c.put_count.ensures, c.put_id.ensures, k) (line_joined _ _ _ _ _ (points_length a.s.now a.first a.count)); place = omega (arith, c.put_points.ensures.place) }

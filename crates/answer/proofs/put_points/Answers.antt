@@ -27,4 +27,4 @@ loop-i-preserved c =
 pub returns : goal.returns
 returns c =
     let l = c.loop-i in
-    record { bytes = sym (points_done c.args.s.now l.i c.args.end l.at l.out (omega arith)) ∙ l.invariant.4; place = omega arith; }
+    record { bytes = sym (points_done c.args.s.now l.i c.args.end l.at l.out (omega arith)) ∙ l.invariant.4; place = omega arith }

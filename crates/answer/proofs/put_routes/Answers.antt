@@ -47,4 +47,4 @@ returns c =
     let r = rows (goal.at.returns c).Start in
     let z = lines_done a.t.rows a.slots.now a.counts.now a.t.count l.i (omega arith) (omega arith) in
     let y = ap length z in
-    record { bytes = ap (λ x. sets l.out l.at x) (sym z) ∙ l.invariant.3; place = omega arith; }
+    record { bytes = ap (λ x. sets l.out l.at x) (sym z) ∙ l.invariant.3; place = omega arith }

@@ -32,4 +32,4 @@ pub returns : goal.returns
 returns c =
     let l = c.loop-i in
     let r = rows (goal.at.returns c).Start in
-    record { bytes = ap (λ z. sets l.out l.at z) (sym (nothing_left tap_bytes c.args.t.rows c.args.end l.i (omega arith) (omega arith))) ∙ l.invariant.4; place = omega arith; }
+    record { bytes = ap (λ z. sets l.out l.at z) (sym (nothing_left tap_bytes c.args.t.rows c.args.end l.i (omega arith) (omega arith))) ∙ l.invariant.4; place = omega arith }

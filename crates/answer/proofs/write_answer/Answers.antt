@@ -100,5 +100,8 @@ returns c =
     let e2 = c.put_routes-after_routes.ensures.place in
     let e3 = c.put_bundles-end.ensures.place in
     let ns = nodes_size a.f a.nodes a.edges a.slots.now a.counts.now a.bundles a.taps (omega arith) (omega arith) (omega arith) p.counted in
-    let h = head_length a.f.tap_visits a.f.geometry_visits a.f.width a.f.height a.nodes.count a.edges.count a.bundles.count in record { bytes = rw (c.put_id.ensures, c.put_bundles-end.ensures.bytes, c.put_routes-after_routes.ensures.bytes, c.put_nodes-after_nodes.ensures.bytes, c.put_head.ensures, answer_is a.f a.nodes a.edges a.slots.now a.counts.now a.bundles a.taps (omega arith) (omega arith) (omega arith) p.counted)
-          (answer_joined a.out.now (heads a.f a.nodes a.edges a.slots.now a.counts.now a.bundles a.taps (omega arith) (omega arith) (omega arith) p.counted) (nodes_part a.f a.nodes a.edges a.slots.now a.counts.now a.bundles a.taps (omega arith) (omega arith) (omega arith) p.counted) (routes_part a.f a.nodes a.edges a.slots.now a.counts.now a.bundles a.taps (omega arith) (omega arith) (omega arith) p.counted) (bundles_part a.f a.nodes a.edges a.slots.now a.counts.now a.bundles a.taps (omega arith) (omega arith) (omega arith) p.counted) _ _ _ h (e1 ∙ ap (λ (z : ℕ). 36 + z) (sym ns)) e2 e3); place = omega arith; }
+    let h = head_length a.f.tap_visits a.f.geometry_visits a.f.width a.f.height a.nodes.count a.edges.count a.bundles.count in record {
+      bytes = rw (c.put_id.ensures, c.put_bundles-end.ensures.bytes, c.put_routes-after_routes.ensures.bytes, c.put_nodes-after_nodes.ensures.bytes, c.put_head.ensures, answer_is a.f a.nodes a.edges a.slots.now a.counts.now a.bundles a.taps (omega arith) (omega arith) (omega arith) p.counted)
+          (answer_joined a.out.now (heads a.f a.nodes a.edges a.slots.now a.counts.now a.bundles a.taps (omega arith) (omega arith) (omega arith) p.counted) (nodes_part a.f a.nodes a.edges a.slots.now a.counts.now a.bundles a.taps (omega arith) (omega arith) (omega arith) p.counted) (routes_part a.f a.nodes a.edges a.slots.now a.counts.now a.bundles a.taps (omega arith) (omega arith) (omega arith) p.counted) (bundles_part a.f a.nodes a.edges a.slots.now a.counts.now a.bundles a.taps (omega arith) (omega arith) (omega arith) p.counted) _ _ _ h (e1 ∙ ap (λ (z : ℕ). 36 + z) (sym ns)) e2 e3);
+      place = omega arith;
+    }

@@ -6,4 +6,4 @@ use borrow.Author.Rules.{rules}
 use Rattle.answer.proofs.write_notice.Goals as goal
 
 pub returns : goal.returns
-returns c = record { bytes = rw (c.put8-2.ensures, c.put8.ensures, c.put32.ensures) (notice_joined _ 0 _); place = refl; }
+returns c = record { bytes = rw (c.put8-2.ensures, c.put8.ensures, c.put32.ensures) (notice_joined _ 0 _); place = refl }

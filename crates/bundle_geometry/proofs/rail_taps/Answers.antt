@@ -32,4 +32,4 @@ returns c =
     let l = c.loop-i in
     let h = c.loop-i-test.false in
     let e : l.i ≡ a.count = omega arith in
-    record { placed = (λ k m. l.invariant.5 k (omega arith)); kept = untouched_more a.taps.now l.taps a.first l.i a.count (omega arith) l.invariant.4; }
+    record { placed = (λ k m. l.invariant.5 k (omega arith)); kept = untouched_more a.taps.now l.taps a.first l.i a.count (omega arith) l.invariant.4 }

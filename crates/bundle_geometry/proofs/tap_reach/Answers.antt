@@ -30,4 +30,4 @@ returns c =
     let a = c.args in
     let l = c.loop-i in
     let h = c.loop-i-test.false in
-    record { low = sym (low_end a.taps.now a.first a.count l.i l.low h) ∙ l.invariant.2; high = sym (high_end a.taps.now a.first a.count l.i l.high h) ∙ l.invariant.3; }
+    record { low = sym (low_end a.taps.now a.first a.count l.i l.low h) ∙ l.invariant.2; high = sym (high_end a.taps.now a.first a.count l.i l.high h) ∙ l.invariant.3 }

@@ -50,7 +50,7 @@ returns-in-Nowhere c =
     let h = c.loop-i-test.true in
     let g = l.invariant.3.known l.i h in
     let m = ap (trunk_met a.role a.pitch a.x) (slot_is a.points.now a.counts.now _ g) ∙ sym c.trunk_tap-c.ensures ∙ c.in-Nowhere.is in
-    record { told = trunk_off a.role a.pitch a.x a.edges.now a.first a.count (routes_of a.points.now a.counts.now) l.taps l.i h m ∙ l.invariant.5; kept = untouched_more a.taps.now l.taps a.first l.i a.count (omega arith) l.invariant.4; }
+    record { told = trunk_off a.role a.pitch a.x a.edges.now a.first a.count (routes_of a.points.now a.counts.now) l.taps l.i h m ∙ l.invariant.5; kept = untouched_more a.taps.now l.taps a.first l.i a.count (omega arith) l.invariant.4 }
 
 pub loop-i-preserved : goal.loop-i-preserved
 loop-i-preserved c =
@@ -73,4 +73,4 @@ pub returns : goal.returns
 returns c =
     let a = c.args in
     let l = c.loop-i in
-    record { told = trunk_end a.role a.pitch a.x a.edges.now a.first a.count (routes_of a.points.now a.counts.now) l.taps l.i (omega arith) ∙ l.invariant.5; kept = untouched_more a.taps.now l.taps a.first l.i a.count (omega arith) l.invariant.4; }
+    record { told = trunk_end a.role a.pitch a.x a.edges.now a.first a.count (routes_of a.points.now a.counts.now) l.taps l.i (omega arith) ∙ l.invariant.5; kept = untouched_more a.taps.now l.taps a.first l.i a.count (omega arith) l.invariant.4 }

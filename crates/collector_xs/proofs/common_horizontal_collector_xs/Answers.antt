@@ -65,7 +65,7 @@ kept-length o =
 
 pub gather-g-requires : goal.gather-g-requires
 gather-g-requires c =
-    record { windows = c.requires.windows; counts_in_bounds = c.requires.counts_in_bounds; counts_in_bounds_2 = omega (arith, c.requires.counts_in_bounds_2); }
+    record { windows = c.requires.windows; counts_in_bounds = c.requires.counts_in_bounds; counts_in_bounds_2 = omega (arith, c.requires.counts_in_bounds_2) }
 
 pub slice_bounds-put_in_order-end : goal.slice_bounds-put_in_order-end
 slice_bounds-put_in_order-end c = within (goal.at.slice_bounds-put_in_order-end c).In-All

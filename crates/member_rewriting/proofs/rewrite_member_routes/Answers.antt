@@ -37,7 +37,7 @@ returns-then-not-rewrite_member c =
     let l = c.loop-i in
     let f = c.rewrite_member in
     let w = rw (c.corridor_depth-depth.ensures, c.point_at-tap.ensures) at f.ensures.told in
-    record { told = all_off a.inside a.role a.pitch a.offset a.edges.now a.lanes.now a.taps.now a.first a.count l.i (routes_of l.points l.counts) f.result _ _ c.loop-i-test.true (not-true f.result (ap not c.if-not-rewrite_member.true)) w ∙ l.invariant.8; hold = f.ensures.kept.hold; }
+    record { told = all_off a.inside a.role a.pitch a.offset a.edges.now a.lanes.now a.taps.now a.first a.count l.i (routes_of l.points l.counts) f.result _ _ c.loop-i-test.true (not-true f.result (ap not c.if-not-rewrite_member.true)) w ∙ l.invariant.8; hold = f.ensures.kept.hold }
 
 pub loop-i-preserved : goal.loop-i-preserved
 loop-i-preserved c =
@@ -64,4 +64,4 @@ pub returns : goal.returns
 returns c =
     let a = c.args in
     let l = c.loop-i in
-    record { told = all_end a.inside a.role a.pitch a.offset a.edges.now a.lanes.now a.taps.now a.first a.count l.i l.points l.counts c.loop-i-test.false ∙ l.invariant.8; hold = l.invariant.6.hold; }
+    record { told = all_end a.inside a.role a.pitch a.offset a.edges.now a.lanes.now a.taps.now a.first a.count l.i l.points l.counts c.loop-i-test.false ∙ l.invariant.8; hold = l.invariant.6.hold }

@@ -49,7 +49,7 @@ pub add_corridors-requires : goal.add_corridors-requires
 add_corridors-requires c =
     let l = c.loop-i in
     let h = c.loop-i-test.true in
-    record { below = (c.requires.all_below.0.each l.i h, c.requires.all_below.1.each l.i h); marks_len = (l.invariant.1, l.invariant.2); }
+    record { below = (c.requires.all_below.0.each l.i h, c.requires.all_below.1.each l.i h); marks_len = (l.invariant.1, l.invariant.2) }
 
 pub loop-i-preserved-then-is_same_role : goal.loop-i-preserved-then-is_same_role
 loop-i-preserved-then-is_same_role c =

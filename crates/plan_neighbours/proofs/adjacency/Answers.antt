@@ -18,7 +18,7 @@ pub loop-i-init : goal.loop-i-init
 loop-i-init c = (omega arith, λ b given. record { are = λ i j h l e f. absurd (omega arith) })
 
 pub adjacent_row-a-requires : goal.adjacent_row-a-requires
-adjacent_row-a-requires c = record { ranges_among = c.requires; i_lt_n = c.loop-i-test.true; }
+adjacent_row-a-requires c = record { ranges_among = c.requires; i_lt_n = c.loop-i-test.true }
 
 pub loop-i-preserved : goal.loop-i-preserved
 loop-i-preserved c = (omega (arith, c.loop-i-test.true), λ b given. c.adjacent_row-a.ensures b given (c.loop-i.invariant.1 b given))

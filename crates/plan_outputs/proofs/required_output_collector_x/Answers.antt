@@ -47,7 +47,7 @@ bounds-p-i c = low (goal.at.bounds-p-i c).Start c.loop-k.k c.loop-k-test.true
 pub ask-a-requires : goal.ask-a-requires
 ask-a-requires c =
     let i = get_or c.args.which.now c.loop-k.k 0 in
-    record { starts_len = c.requires.starts_len; inside = c.requires.inside; count_in_bounds = (c.requires.all_among.each i (below (goal.at.ask-a-requires c).Start c.loop-k.k c.loop-k-test.true)).fits; }
+    record { starts_len = c.requires.starts_len; inside = c.requires.inside; count_in_bounds = (c.requires.all_among.each i (below (goal.at.ask-a-requires c).Start c.loop-k.k c.loop-k-test.true)).fits }
 
 pub loop-k-preserved : goal.loop-k-preserved
 loop-k-preserved c =

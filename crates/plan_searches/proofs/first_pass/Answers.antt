@@ -27,7 +27,7 @@ loop-i-init c = (omega arith, refl, refl, refl, λ b given t. refl)
 pub interior_collector_range-s-requires : goal.interior_collector_range-s-requires
 interior_collector_range-s-requires c =
     let l = c.loop-i in
-    let p = c.requires.searchable in record { searchable = record { paired = p.paired; windows = p.windows; room = omega (arith, p.room, l.invariant.2); scratch_room = omega (arith, p.scratch_room, l.invariant.2, l.invariant.3) }; among = c.requires.all_among.each l.i c.loop-i-test.true; }
+    let p = c.requires.searchable in record { searchable = record { paired = p.paired; windows = p.windows; room = omega (arith, p.room, l.invariant.2); scratch_room = omega (arith, p.scratch_room, l.invariant.2, l.invariant.3) }; among = c.requires.all_among.each l.i c.loop-i-test.true }
 
 pub loop-i-preserved : goal.loop-i-preserved
 loop-i-preserved c =

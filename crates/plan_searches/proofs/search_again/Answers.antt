@@ -48,7 +48,7 @@ pub interior_collector_range_bounded-s-requires : goal.interior_collector_range_
 interior_collector_range_bounded-s-requires c =
     let l = c.loop-k in
     let p = c.requires.searchable in
-    let i = get_or c.args.which.now l.k 0 in record { searchable = record { paired = p.paired; windows = p.windows; room = omega (arith, p.room, l.invariant.2); scratch_room = omega (arith, p.scratch_room, l.invariant.2, l.invariant.3) }; among = c.requires.all_among.each i (below (goal.at.interior_collector_range_bounded-s-requires c).Start l.k c.loop-k-test.true); }
+    let i = get_or c.args.which.now l.k 0 in record { searchable = record { paired = p.paired; windows = p.windows; room = omega (arith, p.room, l.invariant.2); scratch_room = omega (arith, p.scratch_room, l.invariant.2, l.invariant.3) }; among = c.requires.all_among.each i (below (goal.at.interior_collector_range_bounded-s-requires c).Start l.k c.loop-k-test.true) }
 
 pub offset_bounds-rows-i-in-loop-k : goal.offset_bounds-rows-i-in-loop-k
 offset_bounds-rows-i-in-loop-k c = let h = low (goal.at.offset_bounds-rows-i-in-loop-k c).Start c.loop-k.k c.loop-k-test.true in search rules

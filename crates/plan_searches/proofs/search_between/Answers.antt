@@ -17,7 +17,7 @@ common_horizontal_collector_x-requires c =
     let k : ℕ = a.u.first + a.u.count - a.u.first in
     let e : k ≡ a.u.count = omega arith in
     let h : a.u.first + k ≤ length a.starts.now = omega (arith, c.requires.among.fits) in
-    let few : k ≤ max_bundle_members = omega (arith, c.requires.among.few) in let rest = laws.part_rooms a.points.now a.starts.now a.counts.now a.xs.now a.scratch.now c.requires.searchable a.u.first k h few a.u.role a.pitch in record { windows = laws.part_windows a.points.now a.starts.now a.counts.now a.xs.now a.scratch.now c.requires.searchable a.u.first k h few; counts_in_bounds = rest.0; counts_in_bounds_2 = rest.1; }
+    let few : k ≤ max_bundle_members = omega (arith, c.requires.among.few) in let rest = laws.part_rooms a.points.now a.starts.now a.counts.now a.xs.now a.scratch.now c.requires.searchable a.u.first k h few a.u.role a.pitch in record { windows = laws.part_windows a.points.now a.starts.now a.counts.now a.xs.now a.scratch.now c.requires.searchable a.u.first k h few; counts_in_bounds = rest.0; counts_in_bounds_2 = rest.1 }
 
 pub returns-in-Absent : goal.returns-in-Absent
 returns-in-Absent c =

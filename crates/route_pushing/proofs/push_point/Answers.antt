@@ -15,9 +15,9 @@ overflow_sub-count c =
 pub returns-then-replaces_last : goal.returns-then-replaces_last
 returns-then-replaces_last c =
     let e = sym c.replaces_last.ensures ∙ c.if-replaces_last.true in
-    record { points = in_place _ _ _ _ c.requires e c.put_point.ensures; most = omega arith; }
+    record { points = in_place _ _ _ _ c.requires e c.put_point.ensures; most = omega arith }
 
 pub returns : goal.returns
 returns c =
     let e = sym c.replaces_last.ensures ∙ c.if-replaces_last.false in
-    record { points = after_it _ _ _ _ c.requires e c.put_point-2.ensures; most = omega arith; }
+    record { points = after_it _ _ _ _ c.requires e c.put_point-2.ensures; most = omega arith }

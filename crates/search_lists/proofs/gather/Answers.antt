@@ -149,7 +149,7 @@ shape_of-kept-then-left-eq0 c =
 pub returns-then-left-eq0 : goal.returns-then-left-eq0
 returns-then-left-eq0 c =
     let a = c.args in
-    record { found = record { within = tt; are = sym (whole (goal.at.returns-then-left-eq0 c).At-loop-m ∙ part (goal.at.returns-then-left-eq0 c).At-loop-rest ∙ rw (next-run (goal.at.returns-then-left-eq0 c).In-loop-rest) (walk.gather_spent a.role a.b _ _ _ c.loop-rest.left c.if-left-eq0.true)) }; keeps = tt; }
+    record { found = record { within = tt; are = sym (whole (goal.at.returns-then-left-eq0 c).At-loop-m ∙ part (goal.at.returns-then-left-eq0 c).At-loop-rest ∙ rw (next-run (goal.at.returns-then-left-eq0 c).In-loop-rest) (walk.gather_spent a.role a.b _ _ _ c.loop-rest.left c.if-left-eq0.true)) }; keeps = tt }
 
 pub put_point-requires : goal.put_point-requires
 put_point-requires c = let h = pair-room (goal.at.put_point-requires c).In-loop-rest in omega arith
@@ -211,7 +211,10 @@ shape_of-kept c =
 pub returns : goal.returns
 returns c =
     let a = c.args in
-    let end : from (goal.at.returns c).At-loop-m c.loop-m.m ≡ [] = ap all_runs (walk.members_end a.points.now a.role a.pitch a.starts.now a.counts.now c.requires.windows.paired c.loop-m.m c.loop-m-test.false) ∙ walk.runs_end in record { found = record {
+    let end : from (goal.at.returns c).At-loop-m c.loop-m.m ≡ [] = ap all_runs (walk.members_end a.points.now a.role a.pitch a.starts.now a.counts.now c.requires.windows.paired c.loop-m.m c.loop-m-test.false) ∙ walk.runs_end in record {
+      found = record {
         within = omega (arith, c.loop-m.invariant.0 ∙ length-set a.xs.now 0 a.b.desired);
         are = sym (whole (goal.at.returns c).At-loop-m ∙ rw end (walk.gather_end a.role a.b _ _));
-      }; keeps = laws.kept_whole c.loop-m.kept c.loop-m.k (all_runs (members a.role a.pitch (routes a.points.now a.starts.now a.counts.now))) (c.loop-m.invariant.5 ∙ rw end); }
+      };
+      keeps = laws.kept_whole c.loop-m.kept c.loop-m.k (all_runs (members a.role a.pitch (routes a.points.now a.starts.now a.counts.now))) (c.loop-m.invariant.5 ∙ rw end);
+    }

@@ -12,11 +12,10 @@ mark_of-requires c =
     count_within c.args.g c.in-All.n c.in-All.left (length c.args.list.now) c.in-All.is c.requires.0
 
 pub reply-requires-in-All : goal.reply-requires-in-All
-reply-requires-in-All c =
-    (
-      count_within c.args.g c.in-All.n c.in-All.left (length c.args.list.now) c.in-All.is c.requires.0,
-      count_within c.args.g c.in-All.n c.in-All.left (length c.args.xs.now) c.in-All.is c.requires.1,
-    )
+reply-requires-in-All c = (
+  count_within c.args.g c.in-All.n c.in-All.left (length c.args.list.now) c.in-All.is c.requires.0,
+  count_within c.args.g c.in-All.n c.in-All.left (length c.args.xs.now) c.in-All.is c.requires.1,
+)
 
 pub returns-in-Spent : goal.returns-in-Spent
 returns-in-Spent c =

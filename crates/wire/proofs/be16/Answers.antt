@@ -20,4 +20,4 @@ overflow_add-result-2 c = omega (arith, c.type_inv.s c.args.at, c.type_inv.s (c.
 pub returns : goal.returns
 returns c =
     let a = c.args in
-    record { value = sym (number_two a.s.now a.at (omega arith)); small = omega (arith, c.type_inv.s c.args.at, c.type_inv.s (c.args.at + 1)); }
+    record { value = sym (number_two a.s.now a.at (omega arith)); small = omega (arith, c.type_inv.s c.args.at, c.type_inv.s (c.args.at + 1)) }
