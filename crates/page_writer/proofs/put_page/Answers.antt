@@ -5,7 +5,6 @@ use Rattle.board.specs.Lengths.{length_mapped}
 use Rattle.answer.proofs.Stores.{nothing_left}
 use Rattle.bundle_page.specs.PageTables.{bundle_line, page_bytes}
 use Rattle.page_writer.specs.PageTurns.{line_room, line_written, table_room}
-use Rattle.page_writer.proofs.put_page.Invariants.{rows}
 use Rattle.page_writer.proofs.put_page.Goals as goal
 use Rattle.page_writer.proofs.put_page.Goals.{Start}
 
@@ -17,6 +16,9 @@ below at n w m room e h = omega arith
 
 moved : (at at' n w m end : ℕ) → at' ≡ at + w → n ≡ w + m → at + n ≡ end → at' + m ≡ end
 moved at at' n w m end e f h = omega arith
+
+rows : (s : Start) → length s.args.t.rows ≡ max_bundles
+rows s = search (rules, length_mapped)
 
 -- the page has room
 fits : (s : Start) → length (page_bytes id_columns (take s.args.t.count s.args.t.rows)) ≤ page_room
@@ -56,4 +58,4 @@ returns c =
     let r = rows (goal.at.returns c).Start in
     let z = nothing_left (bundle_line id_columns) a.t.rows a.t.count l.i (omega arith) (omega arith) in
     let y = ap length z in
-    record { bytes = ap (λ x. sets l.out l.at x) (sym z) ∙ l.invariant.3; place = omega arith }
+    record { bytes = ap (λ x. sets l.out l.at x) (sym z) ∙ l.invariant.3; place = omega arith; }

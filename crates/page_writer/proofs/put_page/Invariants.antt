@@ -7,9 +7,6 @@ use Rattle.bundle_page.specs.PageTables.{bundle_line, page_bytes}
 use Rattle.page_writer.specs.PageTurns.{line_room, line_written, table_room}
 use Rattle.page_writer.proofs.put_page.Given as goal
 
-pub rows : (s : Start) → length s.args.t.rows ≡ max_bundles
-rows s = search (rules, length_mapped)
-
 abbrev pub invariant-loop-i : goal.invariant-loop-i
 invariant-loop-i l =
     (l.i ≤ l.t.count) × (length l.out ≡ length l.initial.out)
