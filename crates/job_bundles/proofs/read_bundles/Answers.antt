@@ -18,7 +18,7 @@ use Rattle.job.specs.LoopSteps.{keys, keys_more, one_more, begun, done, pushed, 
 use Rattle.job.specs.Heads.{member_role}
 use Rattle.job.proofs.Windows.{bundle_window}
 use Rattle.job.proofs.Lookups.{bundle_row, member_row, none_yet, one_more_read}
-use Rattle.job.specs.Reads.{read_as, known_as, first_keys, bundle-id, SoFar, MembersLeft}
+use Rattle.job.specs.Reads.{read_as, known_as, first_keys, bundle_id, SoFar, MembersLeft}
 use borrow.Author.Rules.{rules}
 use Rattle.job_bundles.proofs.read_bundles.Invariants.{Earlier}
 use Rattle.job_bundles.proofs.read_bundles.Goals as goal
@@ -40,7 +40,7 @@ loop-i-init c =
       omega arith,
       omega arith,
       refl,
-      none_yet member_key _ _ (none_yet bundle-id _ _ (begun next_bundle a.count (record { bundles = []; members = [] }) (drop a.from a.s.now))),
+      none_yet member_key _ _ (none_yet bundle_id _ _ (begun next_bundle a.count (record { bundles = []; members = [] }) (drop a.from a.s.now))),
     )
 
 pub returns-in-Bad : goal.returns-in-Bad
@@ -383,7 +383,7 @@ loop-i-preserved c =
       y.invariant.8,
       record {
         raw = w.raw;
-        left = one_more_read bundle-id _ _ _ l.i (take l.i l.ids) _ l.known _ (take l.i l.t.rows) _ o.left _ _
+        left = one_more_read bundle_id _ _ _ l.i (take l.i l.ids) _ l.known _ (take l.i l.t.rows) _ o.left _ _
             (one_more l.ids l.i _ (omega arith))
             (bundle_row (first_keys a.node_ids.now a.zeros.now a.n) (first_keys a.port_nodes.now a.port_ids.now a.p) _ _ _ _ _ c.find-f-in-loop-i.ensures c.find-g.ensures)
             (one_more l.t.rows l.i _ (omega arith))
@@ -408,7 +408,7 @@ returns c =
       raw = o.left.raw;
       raw_members = o.raw;
       is = sym (done next_bundle a.count l.i (record { bundles = o.left.raw; members = o.raw }) (drop l.at s) (omega arith)) ∙ o.left.left;
-      keyed = λ _. subst (λ (z : ℕ). take z l.ids ≡ map bundle-id o.left.raw) q o.left.keyed;
+      keyed = λ _. subst (λ (z : ℕ). take z l.ids ≡ map bundle_id o.left.raw) q o.left.keyed;
       member_keyed = λ _. o.keyed;
       known = λ _. subst (λ (z : ℕ). known_as l.known (take z l.t.rows) ≡ each (bundle_of (first_keys a.node_ids.now a.zeros.now a.n) (first_keys a.port_nodes.now a.port_ids.now a.p)) o.left.raw []) q o.left.known;
       members_known = λ _. o.known;

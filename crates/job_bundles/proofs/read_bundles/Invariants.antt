@@ -18,7 +18,7 @@ use Rattle.job.specs.LoopSteps.{keys, keys_more, one_more, begun, done, pushed, 
 use Rattle.job.specs.Heads.{member_role}
 use Rattle.job.proofs.Windows.{bundle_window}
 use Rattle.job.proofs.Lookups.{bundle_row, member_row, none_yet, one_more_read}
-use Rattle.job.specs.Reads.{read_as, known_as, first_keys, bundle-id, SoFar, MembersLeft}
+use Rattle.job.specs.Reads.{read_as, known_as, first_keys, bundle_id, SoFar, MembersLeft}
 use borrow.Author.Rules.{rules}
 use Rattle.job_bundles.proofs.read_bundles.Given as goal
 
@@ -26,7 +26,7 @@ use Rattle.job_bundles.proofs.read_bundles.Given as goal
 abbrev pub Earlier : (s : List ℕ) (from count : ℕ) (node_keys port_keys edge_keys : List Key) (ids edges roles : List ℕ) (rows : List Bundle) (member-rows : List Member) (known members_known : Bool) (at total i : ℕ) → Type 0
 Earlier s from count node_keys port_keys edge_keys ids edges roles rows member-rows known members_known at total i =
     SoFar member_key (member_of edge_keys)
-    (λ ms. SoFar bundle-id (bundle_of node_keys port_keys)
+    (λ ms. SoFar bundle_id (bundle_of node_keys port_keys)
     (λ bs. many (count - i) next_bundle (record { bundles = bs; members = ms }) (drop at s) ≡ many count next_bundle (record { bundles = []; members = [] }) (drop from s))
     i (take i ids) known (take i rows))
     total (first_keys edges roles total) members_known (take total member-rows)

@@ -25,7 +25,7 @@ abbrev n-of : After-common_horizontal_collector_xs-g → ℕ
 n-of x = x.args.n
 
 abbrev ys-of : After-common_horizontal_collector_xs-g → List Float
-ys-of x = x.common_horizontal_collector_xs-g.last.1.1.1.1.1.1.1.0
+ys-of x = x.common_horizontal_collector_xs-g.new.xs
 
 -- the slice after it
 abbrev whole : After-common_horizontal_collector_xs-g → List Float
@@ -62,7 +62,7 @@ pub common_horizontal_collector_xs-g-requires : goal.common_horizontal_collector
 common_horizontal_collector_xs-g-requires c =
     let h = c.requires.counts_in_bounds in
     let e = parts.back_length c.args.xs.now c.args.n (omega arith) in
-    record { windows = c.requires.windows; counts_in_bounds = omega arith; counts_in_bounds_2 = omega (arith, c.requires.counts_in_bounds_2) }
+    record { windows = c.requires.windows; counts_in_bounds = omega arith; counts_in_bounds_2 = omega (arith, c.requires.counts_in_bounds_2); }
 
 pub overflow_add-both : goal.overflow_add-both
 overflow_add-both c =
