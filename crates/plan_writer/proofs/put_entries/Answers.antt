@@ -10,9 +10,11 @@ use Rattle.board.specs.Lengths.{length_mapped}
 use Rattle.plan_writer.specs.Rows.{row_bytes}
 use Rattle.plan_writer.proofs.Written as laws
 use borrow.Author.Rules.{rules}
-use Rattle.plan_writer.proofs.put_entries.Invariants.{rows}
 use Rattle.plan_writer.proofs.put_entries.Goals as goal
 use Rattle.plan_writer.proofs.put_entries.Goals.{Start}
+
+rows : (s : Start) → length s.args.p.rows ≡ 32
+rows s = search (rules, length_mapped)
 
 pub loop-i-preserved : goal.loop-i-preserved
 loop-i-preserved c =
@@ -31,4 +33,4 @@ returns c =
     let r = rows (goal.at.returns c).Start in
     let z = nothing_left row_bytes a.p.rows a.n l.i (omega arith) (omega arith) in
     let y = ap length z in
-    record { bytes = ap (λ x. sets l.out l.at x) (sym z) ∙ l.invariant.4; place = omega (arith, y, l.invariant.3) }
+    record { bytes = ap (λ x. sets l.out l.at x) (sym z) ∙ l.invariant.4; place = omega (arith, y, l.invariant.3); }

@@ -11,9 +11,6 @@ use Rattle.plan_writer.proofs.Written as laws
 use borrow.Author.Rules.{rules}
 use Rattle.plan_writer.proofs.put_entries.Given as goal
 
-pub rows : (s : Start) → length s.args.p.rows ≡ 32
-rows s = search (rules, length_mapped)
-
 abbrev pub invariant-loop-i : goal.invariant-loop-i
 invariant-loop-i l =
     (l.i ≤ l.n) × (length l.out ≡ length l.initial.out) × (l.at ≤ l.from + 9 * l.i)

@@ -41,7 +41,7 @@ module _ (s : Start) (i : ℕ) (h : i < s.args.bundles.count) where
   later = drop (i + 1) (take s.args.bundles.count s.args.bundles.rows)
 
   room : s.args.bundles.count ≤ length s.args.bundles.rows
-  room = let k = bundles-length s in omega (arith, s.pre.0.0)
+  room = let k = bundles-length s in omega (arith, s.requires.tables.0)
 
   split : (ds : List DrawnBundle) (edges lanes counts : List ℕ) → Rest (drop i (take s.args.bundles.count s.args.bundles.rows)) ds edges lanes counts → Rest (this ∷ later) ds edges lanes counts
   split ds edges lanes counts r = subst (λ (us : List Bundle). Rest us ds edges lanes counts) (part_cons s.args.bundles.rows s.args.bundles.count i no_bundle h room) r
@@ -54,7 +54,7 @@ module _ (s : Start) (i : ℕ) (h : i < s.args.bundles.count) where
 
   turns-are : turns_at s.args.bundles.rows s.args.plan s.args.offsets.rows s.args.bundles.count i ≡ turn-here ∷ turns-later
   turns-are =
-      let k = s.pre.0.0 in
+      let k = s.requires.tables.0 in
       let p = plan_length s in
       let q = offsets_length s in
       turns_next s.args.bundles.rows s.args.plan s.args.offsets.rows s.args.bundles.count i no_bundle no_planned nan h room (omega arith) (omega arith)

@@ -24,7 +24,7 @@ module _ (s : Start) (i : ℕ) (h : i < s.args.bundles.count) where
   port-any : get_or s.args.ports.rows (get_or s.args.bundles.rows i no_bundle).port null_port ≡ get_or s.args.ports.rows (get_or s.args.bundles.rows i no_bundle).port no_port
   port-any =
       let p = port_in in
-      let few = s.pre.0.ports_few in
+      let few = s.requires.0.ports_few in
       let long = ports-length s in
       get_d_any s.args.ports.rows (get_or s.args.bundles.rows i no_bundle).port null_port no_port (omega (arith, p, few, long))
 

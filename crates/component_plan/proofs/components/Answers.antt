@@ -1,0 +1,138 @@
+-- `component_plan::components` meets its contract. Assumes nothing.
+use mathlib.Core.Path.{◌≡◌, refl, ◌∙◌, ap}
+use mathlib.Core.Bool.{Bool, true, false}
+use mathlib.Core.List.{List, ◌∷◌}
+use Prim.Native.Nat.{ℕ, ◌+◌, ◌-◌, ◌≤◌, ◌<◌}
+use native.Mathlib.Omega.{arith}
+use borrow.Author.Rules.{rules}
+use lib.ListN.{length, take, drop, set, replicate}
+use Rattle.limits.specs.Limits.{max_bundles}
+use Rattle.geometry.specs.Points.{Route}
+use Rattle.board.specs.Board.{Board}
+use Rattle.search.specs.Search.{search_of}
+use Rattle.plan.specs.Plan.{Ranged, ranged_at, found?, indices_from, components}
+use Rattle.plan.specs.Prepared.{range_at, plan_in}
+use Rattle.plan.specs.Stack.{component_from}
+use Rattle.plan.proofs.TableReads as rows
+use Rattle.components.specs.Settled.{ranges_in, step_in, Known, Neighboured}
+use Rattle.components.proofs.Turns as turns
+use Rattle.components.proofs.Settles as settles
+use Rattle.component_plan.proofs.Joins as laws
+use Rattle.std.proofs.Common.{not}
+use Rattle.component_plan.proofs.components.Goals as goal
+use Rattle.component_plan.proofs.components.Goals.{After-component-w, Start}
+
+long : (s : Start) → length (ranges_in s.args.t.count s.args.ranges) ≡ s.args.t.count
+long s =
+    let e : length s.args.ranges.rows ≡ max_bundles = search (rules, rows.length_mapped) in
+    laws.ranges_length s.args.t.count s.args.ranges (omega (arith, s.requires.all_among.bundles_few))
+
+next : (s : Start) (i : ℕ) → i < s.args.t.count
+    → drop i (indices_from 0 (ranges_in s.args.t.count s.args.ranges)) ≡ i ∷ drop (i + 1) (indices_from 0 (ranges_in s.args.t.count s.args.ranges))
+next s i h = laws.indices_cons (ranges_in s.args.t.count s.args.ranges) i (omega (arith, h, long s))
+
+-- the array of marks as the definition has it
+none_seen : (s : Start) (b : Board) (given : List Route)
+    → components search_of b given (ranges_in s.args.t.count s.args.ranges) (indices_from 0 (ranges_in s.args.t.count s.args.ranges)) (take s.args.t.count (replicate max_bundles false)) (plan_in s.args.t.count s.args.before)
+    ≡ components search_of b given (ranges_in s.args.t.count s.args.ranges) (indices_from 0 (ranges_in s.args.t.count s.args.ranges)) (replicate s.args.t.count false) (plan_in s.args.t.count s.args.before)
+none_seen s b given =
+    ap (λ (l : List Bool). components search_of b given (ranges_in s.args.t.count s.args.ranges) (indices_from 0 (ranges_in s.args.t.count s.args.ranges)) l (plan_in s.args.t.count s.args.before))
+    (laws.none_seen s.args.t.count max_bundles s.requires.all_among.bundles_few)
+
+found-read : (s : Start) (i : ℕ) (f : Bool) → i < s.args.t.count → f ≡ found? (range_at s.args.ranges i).bounds → f ≡ found? (ranged_at (ranges_in s.args.t.count s.args.ranges) i).bounds
+found-read s i f h e = e ∙ ap (λ (z : Ranged). found? z.bounds) (turns.range_read s.args.ranges.rows s.args.t.count i h)
+
+seen-length : (c : After-component-w) → length c.component-w.result.seen ≡ max_bundles
+seen-length c = search (rules, rows.length_mapped)
+
+pub loop-i-init : goal.loop-i-init
+loop-i-init c = (omega arith, refl, refl, refl, λ b given k e. refl)
+
+pub component-w-requires : goal.component-w-requires
+component-w-requires c = (c.requires.all_among.bundles_few, c.loop-i-test.true)
+
+pub treat-step-requires : goal.treat-step-requires
+treat-step-requires c =
+    let a = c.args in
+    let n = a.t.count in
+    let l = c.loop-i in
+    let w = c.component-w in
+    let p = c.requires.searchable in
+    let k : length w.result.order ≡ max_bundles = search (rules, rows.length_mapped) in
+    let few : w.result.count ≤ max_bundles = omega (arith, w.ensures.0, c.requires.all_among.bundles_few) in record { searchable = record { paired = p.paired; windows = p.windows; room = omega (arith, p.room, l.invariant.2); scratch_room = omega (arith, p.scratch_room, l.invariant.2, l.invariant.3) }; all_among = c.requires.all_among; count_le_max_bundles = (few, laws.component_listed a.adjacent.now n l.i w.result.count w.result.order (take n (set l.seen l.i true)) (take n w.result.seen) c.loop-i-test.true (omega (arith, few, k)) w.ensures.1); }
+
+pub returns-then-step : goal.returns-then-step
+returns-then-step c =
+    let a = c.args in
+    let n = a.t.count in
+    let l = c.loop-i in
+    let h = c.loop-i-test.true in
+    let m : l.i < length l.seen = omega (arith, h, l.invariant.1, c.requires.all_among.bundles_few) in
+    let w = c.component-w in
+    let f = c.treat-step in
+    λ b given k e.
+    laws.turn_refused b given (ranges_in n a.ranges) n l.seen l.i _ _ (plan_in n l.p) (next (goal.at.returns-then-step c).Start l.i h) h m (ap not c.if-not-seen-at.true) c.is_found.result (found-read (goal.at.returns-then-step c).Start l.i c.is_found.result h c.is_found.ensures)
+    (component_from n w.result) (step_in n f.result) c.if-is_found.true
+    (laws.component_is a.adjacent.now n b given (ranges_in n a.ranges) l.i l.seen (component_from n w.result) (long (goal.at.returns-then-step c).Start) h e w.ensures.1)
+    (f.ensures b given k)
+    f.result.plan.left.0 (settles.step_refused n f.result c.if-step.true)
+    ∙ l.invariant.4 b given k e
+    ∙ none_seen (goal.at.returns-then-step c).Start b given
+
+pub loop-i-preserved-then-is_found : goal.loop-i-preserved-then-is_found
+loop-i-preserved-then-is_found c =
+    let a = c.args in
+    let n = a.t.count in
+    let l = c.loop-i in
+    let h = c.loop-i-test.true in
+    let m : l.i < length l.seen = omega (arith, h, l.invariant.1, c.requires.all_among.bundles_few) in
+    let w = c.component-w in
+    let f = c.treat-step in (
+      omega (arith, h),
+      seen-length (goal.at.loop-i-preserved-then-is_found c).After-component-w,
+      omega (arith, l.invariant.2, f.auto.xs),
+      omega (arith, l.invariant.3, f.auto.scratch),
+      λ b given k e.
+          laws.turn_going b given (ranges_in n a.ranges) n l.seen l.i _ _ (plan_in n l.p) (next (goal.at.loop-i-preserved-then-is_found c).Start l.i h) h m (ap not c.if-not-seen-at.true) c.is_found.result (found-read (goal.at.loop-i-preserved-then-is_found c).Start l.i c.is_found.result h c.is_found.ensures)
+          (component_from n w.result) (step_in n f.result) c.if-is_found.true
+          (laws.component_is a.adjacent.now n b given (ranges_in n a.ranges) l.i l.seen (component_from n w.result) (long (goal.at.loop-i-preserved-then-is_found c).Start) h e w.ensures.1)
+          (f.ensures b given k)
+          (plan_in n f.result.plan) (settles.step_going n f.result c.if-step.false)
+          ∙ l.invariant.4 b given k e,
+    )
+
+pub loop-i-preserved-else-is_found : goal.loop-i-preserved-else-is_found
+loop-i-preserved-else-is_found c =
+    let a = c.args in
+    let n = a.t.count in
+    let l = c.loop-i in
+    let h = c.loop-i-test.true in
+    let m : l.i < length l.seen = omega (arith, h, l.invariant.1, c.requires.all_among.bundles_few) in (
+      omega (arith, h),
+      l.invariant.1,
+      l.invariant.2,
+      l.invariant.3,
+      λ b given k e.
+          laws.turn_absent b given (ranges_in n a.ranges) n l.seen l.i _ _ (plan_in n l.p) (next (goal.at.loop-i-preserved-else-is_found c).Start l.i h) h m (ap not c.if-not-seen-at.true) c.is_found.result (found-read (goal.at.loop-i-preserved-else-is_found c).Start l.i c.is_found.result h c.is_found.ensures) c.if-is_found.false
+          ∙ l.invariant.4 b given k e,
+    )
+
+pub loop-i-preserved : goal.loop-i-preserved
+loop-i-preserved c =
+    let a = c.args in
+    let n = a.t.count in
+    let l = c.loop-i in
+    let h = c.loop-i-test.true in
+    let m : l.i < length l.seen = omega (arith, h, l.invariant.1, c.requires.all_among.bundles_few) in
+    (omega (arith, h), l.invariant.1, l.invariant.2, l.invariant.3, λ b given k e. laws.turn_seen b given (ranges_in n a.ranges) n l.seen l.i _ _ (plan_in n l.p) (next (goal.at.loop-i-preserved c).Start l.i h) h m (ap not c.if-not-seen-at.false) ∙ l.invariant.4 b given k e)
+
+pub returns : goal.returns
+returns c =
+    let a = c.args in
+    let n = a.t.count in
+    let l = c.loop-i in
+    let h : length (ranges_in n a.ranges) ≤ l.i = omega (arith, c.loop-i-test.false, long (goal.at.returns c).Start) in
+    λ b given k e.
+    laws.turns_end b given (ranges_in n a.ranges) (take n l.seen) _ (plan_in n l.p) (laws.indices_none (ranges_in n a.ranges) l.i h)
+    ∙ l.invariant.4 b given k e
+    ∙ none_seen (goal.at.returns c).Start b given
