@@ -1,0 +1,313 @@
+-- `draw_job::draw_in` meets its contract. Assumes nothing.
+use mathlib.Core.Path.{◌≡◌, refl, sym, ◌∙◌, ap, subst}
+use mathlib.Core.Bool.{not, ◌&&◌}
+use mathlib.Core.List.{List, ◌++◌}
+use Prim.Native.Nat.{ℕ, ◌+◌, ◌*◌, ◌≤◌, ◌<◌}
+use native.Mathlib.Omega.{arith}
+use lib.ListN.{length, get_or, take, drop}
+use lib.Seq.{sets, length-take-le, length_front}
+use lib.Ieee.{Float}
+use Rattle.limits.specs.Limits.{max_bundles, id_columns, search_work}
+use Rattle.board.specs.declared.DrawnBundles.{DrawnBundles}
+use Rattle.job_tables.specs.Came.{Sizes, job_in}
+use Rattle.plan_reader.specs.declared.PlanRead.{PlanRead}
+use Rattle.plan_reader.specs.Reading.{told_plan}
+use Rattle.plan_stage.specs.Entries.{plan_phase}
+use Rattle.job_tables.proofs.Ready.{bundles_in, tables_sound, routes_in}
+use Rattle.normalize.proofs.Shift.{windows_kept}
+use Rattle.normalize.specs.PageTables.{Windows}
+use Rattle.plan.proofs.TableReads as rows
+use Rattle.bundle_page.proofs.Exact.{page_of_tables}
+use Rattle.outputs.proofs.Front.{on_the_grid, wanted_room}
+use Rattle.draw_job.specs.JobTables.{OnSheet, finished}
+use Rattle.draw_job.proofs.Listing as listing
+use Rattle.draw_job.proofs.Listing.{Listed}
+use Rattle.draw_job.proofs.Answers as answers
+use Rattle.draw_job.proofs.Ready as ready
+use Rattle.draw_job.proofs.Phases as laws
+use borrow.Author.Rules.{rules}
+use Rattle.draw_job.proofs.draw_in.Goals as goal
+use Rattle.draw_job.proofs.draw_in.Goals.{After-normalize_layout-l, In-Clean, Joined-wants, Joined-wants-2, Start}
+
+sizes : (s : Start) → Sizes s.args.j
+sizes s = record {
+  nodes = let g = s.well_formed.1.0.1.1.1.1.1.0 in search (rules, rows.length_mapped, g);
+  ports = let g = s.well_formed.1.0.1.1.1.1.1.1.0 in search (rules, rows.length_mapped, g);
+  edges = let g = s.well_formed.1.0.1.1.1.1.1.1.1.0 in search (rules, rows.length_mapped, g);
+  bundles = let g = s.well_formed.1.0.1.1.1.1.1.1.1.1.0 in search (rules, rows.length_mapped, g);
+  members = let g = s.well_formed.1.0.1.1.1.1.1.1.1.1.1.0 in search (rules, rows.length_mapped, g);
+}
+
+-- the plan that was chosen, and the slices that our own was made in
+abbrev chosen-start : Joined-wants → Start
+chosen-start c = c
+
+chosen : (c : Joined-wants) → told_plan (chosen-start c).args.j.bundles.count c.if-wants.p ≡ plan_phase (chosen-start c).args.wants.plan (job_in (chosen-start c).args.j (chosen-start c).args.given.now) (chosen-start c).args.plan.now
+chosen c =
+    let s = chosen-start c in
+    let a = s.args in
+    let n = a.j.bundles.count in
+    let same : PlanRead → Type 0 = λ r. told_plan n r ≡ plan_phase a.wants.plan (job_in a.j a.given.now) a.plan.now in
+    laws.way c.if-wants.branch
+    (λ x. subst same (sym x.4) (laws.given_phase a.j a.given.now a.wants.plan x.0.taken (bundles_in a.j a.given.now s.pre.0.0 (sizes s)) a.plan.now x.1.result x.1.ensures))
+    (λ x. subst same (sym x.11) (laws.own_phase a.j a.given.now s.pre.0.0 (sizes s) x.3.result x.3.ensures a.wants.plan x.0.left a.plan.now x.8.result x.8.ensures))
+
+points_kept : (c : Joined-wants) → length c.if-wants.points ≡ length (chosen-start c).args.points.now
+points_kept c =
+    let a = (chosen-start c).args in
+    laws.way c.if-wants.branch (λ x. ap length x.3)
+    (λ x. ap length x.10 ∙ length_front a.points.now x.3.last.1.1.1.1.1.1.1.1.1.1.1.0 search_work x.3.kept.1.1.1.1.1.1.1.1.1.1.1.0)
+
+sorted-kept : (c : Joined-wants) → length c.if-wants.sorted ≡ length (chosen-start c).args.sorted.now
+sorted-kept c = laws.way c.if-wants.branch (λ x. ap length x.2) (λ x. ap length x.9 ∙ x.3.kept.1.1.1.1.1.1.1.1.1.1.0)
+
+-- where every turn was clean: the slices after the last one
+abbrev start : In-Clean → Start
+start c = c
+
+abbrev drawn_by : In-Clean → DrawnBundles
+drawn_by c = c.draw_sheet-d.result.drawn
+
+abbrev edges_by : In-Clean → List ℕ
+edges_by c = c.draw_sheet-d.new.edges
+
+abbrev taps_by : In-Clean → List Float
+taps_by c = c.draw_sheet-d.new.taps
+
+abbrev points-by : In-Clean → List Float
+points-by c = c.draw_sheet-d.new.points
+
+abbrev counts-by : In-Clean → List ℕ
+counts-by c = c.draw_sheet-d.new.counts
+
+on_sheet : (c : In-Clean) → OnSheet (start c).args.j (edges_by c) (drawn_by c) (points-by c) (counts-by c) (taps_by c)
+on_sheet c =
+    let s = start c in
+    let a = s.args in
+    let d = c.draw_sheet-d in
+    let lent = laws.lent_as a.j _ _ _ _ c.if-wants.points _ _ _ (points_kept (goal.at.In-Clean c).Joined-wants) s.pre.1.1.1 in
+    laws.on_sheet a.j a.given.now s.pre.0.0 (sizes s) _ _ _ _ _ _ _ lent d.result.verdict (drawn_by c) (edges_by c) d.new.lanes (taps_by c) (points-by c) (counts-by c) d.auto.taps d.auto.points d.auto.counts _ c.in-Clean.is d.ensures.members d.ensures.rows d.ensures.full d.ensures.hold
+
+windows : (c : In-Clean) → Windows (drawn_by c).count (drawn_by c).rows (start c).args.j.members.count
+windows c = answers.windows (start c).args.j (edges_by c) (drawn_by c) (points-by c) (counts-by c) (taps_by c) (on_sheet c) (sizes (start c))
+
+-- the rows of the bundles drawn
+long-drawn : (c : After-normalize_layout-l) → length c.normalize_layout-l.result.drawn.rows ≡ max_bundles
+long-drawn c = search (rules, rows.length_mapped)
+
+-- the list past 19; which visits are left is no matter
+listed_by : (c : Joined-wants-2) (rest : ℕ) → Listed c.args.wants (finished c.args.j c.args.given.now c.if-wants.p.plan (edges_by (goal.at.Joined-wants-2 c).In-Clean) (drawn_by (goal.at.Joined-wants-2 c).In-Clean) (points-by (goal.at.Joined-wants-2 c).In-Clean) (counts-by (goal.at.Joined-wants-2 c).In-Clean) (taps_by (goal.at.Joined-wants-2 c).In-Clean) rest) (c.args.wants.page && not c.args.j.flags.on_grid) c.args.crossings.now c.if-wants-2.crossings
+listed_by c rest =
+    let a = c.args in
+    laws.way c.if-wants-2.branch
+    (λ x. listing.wanted_listed a.j a.given.now c.if-wants.p.plan (edges_by (goal.at.Joined-wants-2 c).In-Clean) (drawn_by (goal.at.Joined-wants-2 c).In-Clean) (points-by (goal.at.Joined-wants-2 c).In-Clean) (counts-by (goal.at.Joined-wants-2 c).In-Clean) (taps_by (goal.at.Joined-wants-2 c).In-Clean) rest (on_sheet (goal.at.Joined-wants-2 c).In-Clean) a.wants _ x.4.result _ _ x.0.taken x.4.ensures.0 (x.8 ∙ x.4.ensures.1) x.7.left)
+    (λ x. listing.unwanted_listed a.wants _ _ _ _ x.0.left x.1)
+
+pub corridor_depth_offsets-offsets-requires : goal.corridor_depth_offsets-offsets-requires
+corridor_depth_offsets-offsets-requires c =
+    let a = c.args in
+    tables_sound a.j a.given.now c.requires.came.0 (sizes (goal.at.corridor_depth_offsets-offsets-requires c).Start)
+
+pub read_plan-p-requires : goal.read_plan-p-requires
+read_plan-p-requires c = c.requires.came.0.fits.bundles
+
+pub slice_bounds-plan_interior_collectors-end-else-wants : goal.slice_bounds-plan_interior_collectors-end-else-wants
+slice_bounds-plan_interior_collectors-end-else-wants c =
+    let a = c.args in
+    sym (length-take-le search_work a.points.now c.requires.search_work_in_bounds.0)
+
+pub plan_interior_collectors-requires : goal.plan_interior_collectors-requires
+plan_interior_collectors-requires c =
+    let a = c.args in
+    let x = length-take-le search_work a.points.now c.requires.search_work_in_bounds.0 in
+    record { sound = (tables_sound a.j a.given.now c.requires.came.0 (sizes (goal.at.plan_interior_collectors-requires c).Start), routes_in a.j a.given.now c.requires.came.0 (sizes (goal.at.plan_interior_collectors-requires c).Start)); search_room = (omega (arith, c.requires.search_work_in_bounds.1), omega (arith, x, c.requires.search_work_in_bounds.1)); offsets_of = c.corridor_depth_offsets-offsets.ensures; }
+
+pub write_notice-requires : goal.write_notice-requires
+write_notice-requires c = c.requires.came.1
+
+pub shape_of-sorted-then-p-ne0 : goal.shape_of-sorted-then-p-ne0
+shape_of-sorted-then-p-ne0 c = let k = sorted-kept (goal.at.shape_of-sorted-then-p-ne0 c).Joined-wants in omega (arith, k)
+
+pub shape_of-points-then-p-ne0 : goal.shape_of-points-then-p-ne0
+shape_of-points-then-p-ne0 c = let k = points_kept (goal.at.shape_of-points-then-p-ne0 c).Joined-wants in omega (arith, k)
+
+pub returns-then-p-ne0 : goal.returns-then-p-ne0
+returns-then-p-ne0 c =
+    let a = c.args in
+    let w = c.write_notice.ensures in
+    laws.notice_writes _ _ _ _ _ (laws.refused_outputs a.wants _ _ (laws.phase_refused a.j a.given.now a.wants.plan a.plan.now c.if-wants.p (chosen (goal.at.returns-then-p-ne0 c).Joined-wants) c.if-p-ne0.true)) w.bytes refl refl w.place
+
+pub draw_sheet-d-requires : goal.draw_sheet-d-requires
+draw_sheet-d-requires c =
+    let a = c.args in
+    let lent = laws.lent_as a.j _ _ _ _ _ _ _ _ (points_kept (goal.at.draw_sheet-d-requires c).Joined-wants) c.requires.lent in
+    record { tables = (tables_sound a.j a.given.now c.requires.came.0 (sizes (goal.at.draw_sheet-d-requires c).Start), routes_in a.j a.given.now c.requires.came.0 (sizes (goal.at.draw_sheet-d-requires c).Start)); once = (ready.follow a.j a.given.now c.requires.came.0 (sizes (goal.at.draw_sheet-d-requires c).Start), ready.once_a_role a.j a.given.now c.requires.came.0 (sizes (goal.at.draw_sheet-d-requires c).Start)); exact = (lent.edges_long, lent.lanes_long, lent.counts_long); room = lent.room; }
+
+pub write_notice-requires-in-Refused : goal.write_notice-requires-in-Refused
+write_notice-requires-in-Refused c = c.requires.came.1
+
+pub list_crossings-too_many-requires : goal.list_crossings-too_many-requires
+list_crossings-too_many-requires c =
+    let on = on_sheet (goal.at.list_crossings-too_many-requires c).In-Clean in
+    record { count_le_max_edges = (on.fits.edges, omega (arith, on.all_drawn, on.fits.bundles), wanted_room c.args.wants.crossings _ _ c.if-wants-2.true c.requires.came.3); counts_len = (on.counted, on.slots, on.hold); }
+
+pub write_notice-requires-then-too_many : goal.write_notice-requires-then-too_many
+write_notice-requires-then-too_many c = c.requires.came.1
+
+pub shape_of-sorted-then-too_many : goal.shape_of-sorted-then-too_many
+shape_of-sorted-then-too_many c = let k = sorted-kept (goal.at.shape_of-sorted-then-too_many c).Joined-wants in omega (arith, k)
+
+pub shape_of-edges-then-too_many : goal.shape_of-edges-then-too_many
+shape_of-edges-then-too_many c = omega (arith, c.draw_sheet-d.auto.edges)
+
+pub shape_of-lanes-then-too_many : goal.shape_of-lanes-then-too_many
+shape_of-lanes-then-too_many c = omega (arith, c.draw_sheet-d.auto.lanes)
+
+pub shape_of-points-then-too_many : goal.shape_of-points-then-too_many
+shape_of-points-then-too_many c =
+    let kept = points_kept (goal.at.shape_of-points-then-too_many c).Joined-wants in
+    omega (arith, kept, c.draw_sheet-d.auto.points)
+
+pub returns-then-too_many : goal.returns-then-too_many
+returns-then-too_many c =
+    let a = c.args in
+    let o = c.corridor_depth_offsets-offsets in
+    let d = c.draw_sheet-d in
+    let w = c.write_notice-then-too_many.ensures in
+    let l = c.list_crossings-too_many in
+    let many = listing.many a.j a.given.now c.if-wants.p.plan (edges_by (goal.at.returns-then-too_many c).In-Clean) (drawn_by (goal.at.returns-then-too_many c).In-Clean) (points-by (goal.at.returns-then-too_many c).In-Clean) (counts-by (goal.at.returns-then-too_many c).In-Clean) (taps_by (goal.at.returns-then-too_many c).In-Clean) _ (on_sheet (goal.at.returns-then-too_many c).In-Clean) a.wants _ l.result _ _ c.if-wants-2.true l.ensures.too_many l.ensures.bytes c.if-too_many.true in
+    laws.notice_writes _ _ _ 19 _ (laws.many_outputs a.wants _ _ (laws.all_drawn a.j a.given.now c.requires.came.0 (sizes (goal.at.returns-then-too_many c).Start) a.wants.plan a.plan.now c.if-wants.p (chosen (goal.at.returns-then-too_many c).Joined-wants) c.if-p-ne0.false (take a.j.bundles.count o.result.rows) d.result.verdict (edges_by (goal.at.returns-then-too_many c).In-Clean) (drawn_by (goal.at.returns-then-too_many c).In-Clean) (points-by (goal.at.returns-then-too_many c).In-Clean) (counts-by (goal.at.returns-then-too_many c).In-Clean) (taps_by (goal.at.returns-then-too_many c).In-Clean) (o.ensures (take a.j.edges.count a.j.edges.rows)) d.ensures.told _ c.in-Clean.is) many.0) w.bytes refl many.1 w.place
+
+pub write_notice-requires-then-off_grid : goal.write_notice-requires-then-off_grid
+write_notice-requires-then-off_grid c = c.requires.came.1
+
+pub shape_of-sorted-then-off_grid : goal.shape_of-sorted-then-off_grid
+shape_of-sorted-then-off_grid c = let k = sorted-kept (goal.at.shape_of-sorted-then-off_grid c).Joined-wants in omega (arith, k)
+
+pub shape_of-points-then-off_grid : goal.shape_of-points-then-off_grid
+shape_of-points-then-off_grid c =
+    let kept = points_kept (goal.at.shape_of-points-then-off_grid c).Joined-wants in
+    omega (arith, kept, c.draw_sheet-d.auto.points)
+
+pub shape_of-crossings-then-off_grid : goal.shape_of-crossings-then-off_grid
+shape_of-crossings-then-off_grid c = laws.way c.if-wants-2.branch (λ x. ap length x.8 ∙ x.4.kept.1.1.1.1.1.1.0) (λ x. ap length x.1)
+
+pub returns-then-off_grid : goal.returns-then-off_grid
+returns-then-off_grid c =
+    let a = c.args in
+    let o = c.corridor_depth_offsets-offsets in
+    let d = c.draw_sheet-d in
+    let w = c.write_notice-then-off_grid.ensures in
+    let l = listed_by (goal.at.returns-then-off_grid c).Joined-wants-2 in
+    laws.notice_writes _ _ _ 16 _ (laws.off_grid_outputs a.wants _ _ (laws.all_drawn a.j a.given.now c.requires.came.0 (sizes (goal.at.returns-then-off_grid c).Start) a.wants.plan a.plan.now c.if-wants.p (chosen (goal.at.returns-then-off_grid c).Joined-wants) c.if-p-ne0.false (take a.j.bundles.count o.result.rows) d.result.verdict (edges_by (goal.at.returns-then-off_grid c).In-Clean) (drawn_by (goal.at.returns-then-off_grid c).In-Clean) (points-by (goal.at.returns-then-off_grid c).In-Clean) (counts-by (goal.at.returns-then-off_grid c).In-Clean) (taps_by (goal.at.returns-then-off_grid c).In-Clean) (o.ensures (take a.j.edges.count a.j.edges.rows)) d.ensures.told _ c.in-Clean.is) (l _).few c.if-off_grid.true) w.bytes refl (listing.left_alone _ _ _ _ _ (l 0) c.if-off_grid.true) w.place
+
+pub normalize_layout-l-requires : goal.normalize_layout-l-requires
+normalize_layout-l-requires c =
+    let on = on_sheet (goal.at.normalize_layout-l-requires c).In-Clean in
+    record { tables = (on.fits.nodes, omega (arith, on.all_drawn, on.fits.bundles)); slots = (on.slots, on.hold); taps = (on.places, windows (goal.at.normalize_layout-l-requires c).In-Clean); }
+
+pub tap_rows-t-requires : goal.tap_rows-t-requires
+tap_rows-t-requires c =
+    let on = on_sheet (goal.at.tap_rows-t-requires c).In-Clean in
+    let n = c.normalize_layout-l in
+    record { count_le_max_members = (on.fits.members, on.fits.edges, omega (arith, on.places, n.auto.taps)); members_on = on.members_on; }
+
+pub put_page-requires : goal.put_page-requires
+put_page-requires c =
+    let a = c.args in
+    let o = c.corridor_depth_offsets-offsets in
+    let d = c.draw_sheet-d in
+    let n = c.normalize_layout-l in
+    let t = c.tap_rows-t in
+    let on = on_sheet (goal.at.put_page-requires c).In-Clean in
+    let l = n.result.drawn in
+    let long = long-drawn (goal.at.put_page-requires c).After-normalize_layout-l in
+    let many : l.count ≤ max_bundles = omega (arith, on.all_drawn, on.fits.bundles, n.ensures.drawn) in
+    (many, laws.all_printable a.j a.given.now c.requires.came.0 (sizes (goal.at.put_page-requires c).Start) a.wants.plan a.plan.now c.if-wants.p (chosen (goal.at.put_page-requires c).Joined-wants) c.if-p-ne0.false (take a.j.bundles.count o.result.rows) d.result.verdict (edges_by (goal.at.put_page-requires c).In-Clean) (drawn_by (goal.at.put_page-requires c).In-Clean) (points-by (goal.at.put_page-requires c).In-Clean) (counts-by (goal.at.put_page-requires c).In-Clean) (taps_by (goal.at.put_page-requires c).In-Clean) (o.ensures (take a.j.edges.count a.j.edges.rows)) d.ensures.told (on_the_grid a.wants.page _ c.if-wants-3.true c.if-off_grid.false) _ c.in-Clean.is _ n.result.nodes n.new.points l t.result (laws.all_told a.j a.given.now c.requires.came.0 (sizes (goal.at.put_page-requires c).Start) a.wants.plan a.plan.now c.if-wants.p (chosen (goal.at.put_page-requires c).Joined-wants) c.if-p-ne0.false (take a.j.bundles.count o.result.rows) d.result.verdict (edges_by (goal.at.put_page-requires c).In-Clean) (drawn_by (goal.at.put_page-requires c).In-Clean) (points-by (goal.at.put_page-requires c).In-Clean) (counts-by (goal.at.put_page-requires c).In-Clean) (taps_by (goal.at.put_page-requires c).In-Clean) (o.ensures (take a.j.edges.count a.j.edges.rows)) d.ensures.told _ on n.result n.new.points n.new.taps t.result t.ensures (n.ensures.page (edges_by (goal.at.put_page-requires c).In-Clean)) n.ensures.drawn n.ensures.rows) (omega (arith, many, long)), wanted_room a.wants.page _ _ c.if-wants-3.true c.requires.came.2)
+
+pub write_answer-requires : goal.write_answer-requires
+write_answer-requires c =
+    let a = c.args in
+    let o = c.corridor_depth_offsets-offsets in
+    let d = c.draw_sheet-d in
+    let n = c.normalize_layout-l in
+    let t = c.tap_rows-t in
+    let on = on_sheet (goal.at.write_answer-requires c).In-Clean in
+    record {
+      nodes = omega (arith, on.fits.nodes, n.ensures.nodes);
+      edges = on.fits.edges;
+      counted = omega (arith, on.counted);
+      stored = omega (arith, on.counted, on.slots, n.auto.points);
+      held = on.hold;
+      bundles = omega (arith, on.all_drawn, on.fits.bundles, n.ensures.drawn);
+      taps = omega (arith, t.ensures.count_is, on.fits.members);
+      windows = subst (Windows n.result.drawn.count n.result.drawn.rows) (sym t.ensures.count_is) (windows_kept a.j.members.count (drawn_by (goal.at.write_answer-requires c).In-Clean) n.result.drawn n.ensures.rows n.ensures.drawn (windows (goal.at.write_answer-requires c).In-Clean));
+      room_for_it = laws.sheet_room _ _ _ _ (laws.all_drawn a.j a.given.now c.requires.came.0 (sizes (goal.at.write_answer-requires c).Start) a.wants.plan a.plan.now c.if-wants.p (chosen (goal.at.write_answer-requires c).Joined-wants) c.if-p-ne0.false (take a.j.bundles.count o.result.rows) d.result.verdict (edges_by (goal.at.write_answer-requires c).In-Clean) (drawn_by (goal.at.write_answer-requires c).In-Clean) (points-by (goal.at.write_answer-requires c).In-Clean) (counts-by (goal.at.write_answer-requires c).In-Clean) (taps_by (goal.at.write_answer-requires c).In-Clean) (o.ensures (take a.j.edges.count a.j.edges.rows)) d.ensures.told _ c.in-Clean.is) (laws.all_told a.j a.given.now c.requires.came.0 (sizes (goal.at.write_answer-requires c).Start) a.wants.plan a.plan.now c.if-wants.p (chosen (goal.at.write_answer-requires c).Joined-wants) c.if-p-ne0.false (take a.j.bundles.count o.result.rows) d.result.verdict (edges_by (goal.at.write_answer-requires c).In-Clean) (drawn_by (goal.at.write_answer-requires c).In-Clean) (points-by (goal.at.write_answer-requires c).In-Clean) (counts-by (goal.at.write_answer-requires c).In-Clean) (taps_by (goal.at.write_answer-requires c).In-Clean) (o.ensures (take a.j.edges.count a.j.edges.rows)) d.ensures.told _ on n.result n.new.points n.new.taps t.result t.ensures (n.ensures.page (edges_by (goal.at.write_answer-requires c).In-Clean)) n.ensures.drawn n.ensures.rows) c.requires.plan_in_bounds;
+    }
+
+pub shape_of-sorted-in-Refused : goal.shape_of-sorted-in-Refused
+shape_of-sorted-in-Refused c = let k = sorted-kept (goal.at.shape_of-sorted-in-Refused c).Joined-wants in omega (arith, k)
+
+pub shape_of-points-in-Refused : goal.shape_of-points-in-Refused
+shape_of-points-in-Refused c =
+    let kept = points_kept (goal.at.shape_of-points-in-Refused c).Joined-wants in
+    omega (arith, kept, c.draw_sheet-d.auto.points)
+
+pub returns-in-Refused : goal.returns-in-Refused
+returns-in-Refused c =
+    let a = c.args in
+    let o = c.corridor_depth_offsets-offsets in
+    let d = c.draw_sheet-d in
+    let w = c.write_notice-in-Refused.ensures in
+    laws.notice_writes _ _ _ _ _ (laws.refused_outputs a.wants _ _ (laws.all_refused a.j a.given.now c.requires.came.0 (sizes (goal.at.returns-in-Refused c).Start) a.wants.plan a.plan.now c.if-wants.p (chosen (goal.at.returns-in-Refused c).Joined-wants) c.if-p-ne0.false (take a.j.bundles.count o.result.rows) d.result.verdict d.new.edges d.result.drawn d.new.points d.new.counts d.new.taps (o.ensures (take a.j.edges.count a.j.edges.rows)) d.ensures.told _ _ c.in-Refused.is)) w.bytes refl refl w.place
+
+pub shape_of-sorted-after-wants-3 : goal.shape_of-sorted-after-wants-3
+shape_of-sorted-after-wants-3 c = let k = sorted-kept (goal.at.shape_of-sorted-after-wants-3 c).Joined-wants in omega (arith, k)
+
+pub shape_of-edges-after-wants-3 : goal.shape_of-edges-after-wants-3
+shape_of-edges-after-wants-3 c = omega (arith, c.draw_sheet-d.auto.edges)
+
+pub shape_of-lanes-after-wants-3 : goal.shape_of-lanes-after-wants-3
+shape_of-lanes-after-wants-3 c = omega (arith, c.draw_sheet-d.auto.lanes)
+
+pub shape_of-taps-after-wants-3 : goal.shape_of-taps-after-wants-3
+shape_of-taps-after-wants-3 c = omega (arith, c.draw_sheet-d.auto.taps, c.normalize_layout-l.auto.taps)
+
+pub shape_of-points-after-wants-3 : goal.shape_of-points-after-wants-3
+shape_of-points-after-wants-3 c =
+    let kept = points_kept (goal.at.shape_of-points-after-wants-3 c).Joined-wants in
+    omega (arith, kept, c.draw_sheet-d.auto.points, c.normalize_layout-l.auto.points)
+
+pub shape_of-counts-after-wants-3 : goal.shape_of-counts-after-wants-3
+shape_of-counts-after-wants-3 c = omega (arith, c.draw_sheet-d.auto.counts)
+
+pub shape_of-mask-after-wants-3 : goal.shape_of-mask-after-wants-3
+shape_of-mask-after-wants-3 c = omega (arith, c.draw_sheet-d.auto.mask)
+
+pub shape_of-scratch-after-wants-3 : goal.shape_of-scratch-after-wants-3
+shape_of-scratch-after-wants-3 c = omega (arith, c.draw_sheet-d.auto.scratch)
+
+pub shape_of-page : goal.shape_of-page
+shape_of-page c = laws.way c.if-wants-3.branch (λ x. ap length x.5 ∙ x.2.kept.0) (λ x. ap length x.1)
+
+pub shape_of-crossings : goal.shape_of-crossings
+shape_of-crossings c = laws.way c.if-wants-2.branch (λ x. ap length x.8 ∙ x.4.kept.1.1.1.1.1.1.0) (λ x. ap length x.1)
+
+pub returns-after-wants-3 : goal.returns-after-wants-3
+returns-after-wants-3 c =
+    let a = c.args in
+    let o = c.corridor_depth_offsets-offsets in
+    let d = c.draw_sheet-d in
+    let n = c.normalize_layout-l in
+    let t = c.tap_rows-t in
+    let on = on_sheet (goal.at.returns-after-wants-3 c).In-Clean in
+    let w = c.write_answer.ensures in
+    let r = n.result.drawn in
+    let same = page_of_tables id_columns (record { tap_visits = 0; geometry_visits = 0; width = n.result.width; height = n.result.height }) n.result.nodes a.j.edges n.new.points (counts-by (goal.at.returns-after-wants-3 c).In-Clean) r t.result in
+    let l = listed_by (goal.at.returns-after-wants-3 c).Joined-wants-2 in
+    laws.drawn_writes a.wants _ _ (laws.all_drawn a.j a.given.now c.requires.came.0 (sizes (goal.at.returns-after-wants-3 c).Start) a.wants.plan a.plan.now c.if-wants.p (chosen (goal.at.returns-after-wants-3 c).Joined-wants) c.if-p-ne0.false (take a.j.bundles.count o.result.rows) d.result.verdict (edges_by (goal.at.returns-after-wants-3 c).In-Clean) (drawn_by (goal.at.returns-after-wants-3 c).In-Clean) (points-by (goal.at.returns-after-wants-3 c).In-Clean) (counts-by (goal.at.returns-after-wants-3 c).In-Clean) (taps_by (goal.at.returns-after-wants-3 c).In-Clean) (o.ensures (take a.j.edges.count a.j.edges.rows)) d.ensures.told _ c.in-Clean.is) (l _).few c.if-off_grid.false _ _ _ _ (laws.all_told a.j a.given.now c.requires.came.0 (sizes (goal.at.returns-after-wants-3 c).Start) a.wants.plan a.plan.now c.if-wants.p (chosen (goal.at.returns-after-wants-3 c).Joined-wants) c.if-p-ne0.false (take a.j.bundles.count o.result.rows) d.result.verdict (edges_by (goal.at.returns-after-wants-3 c).In-Clean) (drawn_by (goal.at.returns-after-wants-3 c).In-Clean) (points-by (goal.at.returns-after-wants-3 c).In-Clean) (counts-by (goal.at.returns-after-wants-3 c).In-Clean) (taps_by (goal.at.returns-after-wants-3 c).In-Clean) (o.ensures (take a.j.edges.count a.j.edges.rows)) d.ensures.told _ on n.result n.new.points n.new.taps t.result t.ensures (n.ensures.page (edges_by (goal.at.returns-after-wants-3 c).In-Clean)) n.ensures.drawn n.ensures.rows) w.bytes
+    (laws.way c.if-wants-3.branch
+    (λ x. laws.page_put _ _ _ _ x.0.taken (x.5 ∙ x.2.ensures.0 ∙ ap (sets a.page.now 0) same))
+    (λ x. laws.page_left _ _ _ _ x.0.left x.1))
+    (listing.list_left _ _ _ _ _ (l 0) c.if-off_grid.false)
+    w.place

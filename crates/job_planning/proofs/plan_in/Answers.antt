@@ -1,0 +1,48 @@
+-- `job_planning::plan_in` meets its contract. Assumes nothing.
+use native.Mathlib.Omega.{arith}
+use Rattle.plan.proofs.TableReads as rows
+use Rattle.job_tables.specs.Came.{Sizes}
+use Rattle.job_tables.proofs.Ready.{tables_sound, routes_in}
+use Rattle.job_planning.proofs.PlanPhases as laws
+use borrow.Author.Rules.{rules}
+use Rattle.job_planning.proofs.plan_in.Goals as goal
+use Rattle.job_planning.proofs.plan_in.Goals.{Start}
+
+sizes : (s : Start) → Sizes s.args.j
+sizes s = record {
+  nodes = let g = s.well_formed.0.1.1.1.1.1.0 in search (rules, rows.length_mapped, g);
+  ports = let g = s.well_formed.0.1.1.1.1.1.1.0 in search (rules, rows.length_mapped, g);
+  edges = let g = s.well_formed.0.1.1.1.1.1.1.1.0 in search (rules, rows.length_mapped, g);
+  bundles = let g = s.well_formed.0.1.1.1.1.1.1.1.1.0 in search (rules, rows.length_mapped, g);
+  members = let g = s.well_formed.0.1.1.1.1.1.1.1.1.1.0 in search (rules, rows.length_mapped, g);
+}
+
+pub corridor_depth_offsets-offsets-requires : goal.corridor_depth_offsets-offsets-requires
+corridor_depth_offsets-offsets-requires c =
+    let a = c.args in
+    tables_sound a.j a.given.now c.requires.came.0 (sizes (goal.at.corridor_depth_offsets-offsets-requires c).Start)
+
+pub plan_interior_collectors-s-requires : goal.plan_interior_collectors-s-requires
+plan_interior_collectors-s-requires c =
+    let a = c.args in
+    record { sound = (tables_sound a.j a.given.now c.requires.came.0 (sizes (goal.at.plan_interior_collectors-s-requires c).Start), routes_in a.j a.given.now c.requires.came.0 (sizes (goal.at.plan_interior_collectors-s-requires c).Start)); search_room = (omega (arith, c.requires.sorted_len.0), omega (arith, c.requires.sorted_len.0, c.requires.sorted_len.1)); offsets_of = c.corridor_depth_offsets-offsets.ensures; }
+
+pub write_notice-requires : goal.write_notice-requires
+write_notice-requires c = omega (arith, c.requires.came.1)
+
+pub returns-then-s : goal.returns-then-s
+returns-then-s c =
+    let a = c.args in
+    let p = c.plan_interior_collectors-s in
+    let w = c.write_notice.ensures in
+    laws.notice_writes _ _ _ 13 _ (laws.plan_refused a.j a.given.now c.requires.came.0 (sizes (goal.at.returns-then-s c).Start) p.result p.ensures c.if-s.true) w.bytes w.place
+
+pub write_plan-requires : goal.write_plan-requires
+write_plan-requires c = (c.requires.came.0.fits.bundles, c.requires.came.1)
+
+pub returns : goal.returns
+returns c =
+    let a = c.args in
+    let p = c.plan_interior_collectors-s in
+    let w = c.write_plan.ensures in
+    laws.plan_writes _ _ _ _ _ (laws.plan_taken a.j a.given.now c.requires.came.0 (sizes (goal.at.returns c).Start) p.result p.ensures c.if-s.false) w.bytes w.place
