@@ -27,7 +27,7 @@ use Rattle.draw_job.proofs.Ready as ready
 use Rattle.draw_job.proofs.Phases as laws
 use borrow.Author.Rules.{rules}
 use Rattle.draw_job.proofs.draw_in.Goals as goal
-use Rattle.draw_job.proofs.draw_in.Goals.{After-normalize_layout-l, In-Clean, Joined-wants, Joined-wants-2, Start}
+use Rattle.draw_job.proofs.draw_in.Goals.{After-normalize_layout-l, In-Clean, Joined-wants, Joined-wants-2, Start, then-wants, else-wants, then-wants-2+else-too_many, else-wants-2, then-wants-3, else-wants-3}
 
 sizes : (s : Start) → Sizes s.args.j
 sizes s = record {
@@ -40,7 +40,7 @@ sizes s = record {
 
 -- the plan that was chosen, and the slices that our own was made in
 abbrev chosen-start : Joined-wants → Start
-chosen-start c = c
+chosen-start c = (goal.at.Joined-wants c).Start
 
 chosen : (c : Joined-wants) → told_plan (chosen-start c).args.j.bundles.count c.if-wants.p ≡ plan_phase (chosen-start c).args.wants.plan (job_in (chosen-start c).args.j (chosen-start c).args.given.now) (chosen-start c).args.plan.now
 chosen c =
@@ -48,22 +48,25 @@ chosen c =
     let a = s.args in
     let n = a.j.bundles.count in
     let same : PlanRead → Type 0 = λ r. told_plan n r ≡ plan_phase a.wants.plan (job_in a.j a.given.now) a.plan.now in
-    laws.way c.if-wants.branch
-    (λ x. subst same (sym x.4) (laws.given_phase a.j a.given.now a.wants.plan x.0.taken (bundles_in a.j a.given.now s.pre.0.0 (sizes s)) a.plan.now x.1.result x.1.ensures))
-    (λ x. subst same (sym x.11) (laws.own_phase a.j a.given.now s.pre.0.0 (sizes s) x.3.result x.3.ensures a.wants.plan x.0.left a.plan.now x.8.result x.8.ensures))
+    elim c.if-wants.branch [
+      | then-wants x ↦ subst same (sym x.p-is) (laws.given_phase a.j a.given.now a.wants.plan x.if-wants.true (bundles_in a.j a.given.now s.requires.came.0 (sizes s)) a.plan.now x.read_plan-p.result x.read_plan-p.ensures)
+      | else-wants x ↦ subst same (sym x.p-is) (laws.own_phase a.j a.given.now s.requires.came.0 (sizes s) x.plan_interior_collectors.result x.plan_interior_collectors.ensures a.wants.plan x.if-wants.false a.plan.now x.own_plan-p.result x.own_plan-p.ensures)
+    ]
 
 points_kept : (c : Joined-wants) → length c.if-wants.points ≡ length (chosen-start c).args.points.now
 points_kept c =
     let a = (chosen-start c).args in
-    laws.way c.if-wants.branch (λ x. ap length x.3)
-    (λ x. ap length x.10 ∙ length_front a.points.now x.3.last.1.1.1.1.1.1.1.1.1.1.1.0 search_work x.3.kept.1.1.1.1.1.1.1.1.1.1.1.0)
+    elim c.if-wants.branch [
+      | then-wants x ↦ ap length x.points-is
+      | else-wants x ↦ ap length x.points-is ∙ length_front a.points.now x.plan_interior_collectors.new.scratch search_work x.plan_interior_collectors.auto.scratch
+    ]
 
 sorted-kept : (c : Joined-wants) → length c.if-wants.sorted ≡ length (chosen-start c).args.sorted.now
-sorted-kept c = laws.way c.if-wants.branch (λ x. ap length x.2) (λ x. ap length x.9 ∙ x.3.kept.1.1.1.1.1.1.1.1.1.1.0)
+sorted-kept c = elim c.if-wants.branch [ then-wants x ↦ ap length x.sorted-is | else-wants x ↦ ap length x.sorted-is ∙ x.plan_interior_collectors.auto.xs ]
 
 -- where every turn was clean: the slices after the last one
 abbrev start : In-Clean → Start
-start c = c
+start c = (goal.at.In-Clean c).Start
 
 abbrev drawn_by : In-Clean → DrawnBundles
 drawn_by c = c.draw_sheet-d.result.drawn
@@ -85,8 +88,8 @@ on_sheet c =
     let s = start c in
     let a = s.args in
     let d = c.draw_sheet-d in
-    let lent = laws.lent_as a.j _ _ _ _ c.if-wants.points _ _ _ (points_kept (goal.at.In-Clean c).Joined-wants) s.pre.1.1.1 in
-    laws.on_sheet a.j a.given.now s.pre.0.0 (sizes s) _ _ _ _ _ _ _ lent d.result.verdict (drawn_by c) (edges_by c) d.new.lanes (taps_by c) (points-by c) (counts-by c) d.auto.taps d.auto.points d.auto.counts _ c.in-Clean.is d.ensures.members d.ensures.rows d.ensures.full d.ensures.hold
+    let lent = laws.lent_as a.j _ _ _ _ c.if-wants.points _ _ _ (points_kept (goal.at.In-Clean c).Joined-wants) s.requires.lent in
+    laws.on_sheet a.j a.given.now s.requires.came.0 (sizes s) _ _ _ _ _ _ _ lent d.result.verdict (drawn_by c) (edges_by c) d.new.lanes (taps_by c) (points-by c) (counts-by c) d.auto.taps d.auto.points d.auto.counts _ c.in-Clean.is d.ensures.members d.ensures.rows d.ensures.full d.ensures.hold
 
 windows : (c : In-Clean) → Windows (drawn_by c).count (drawn_by c).rows (start c).args.j.members.count
 windows c = answers.windows (start c).args.j (edges_by c) (drawn_by c) (points-by c) (counts-by c) (taps_by c) (on_sheet c) (sizes (start c))
@@ -99,9 +102,10 @@ long-drawn c = search (rules, rows.length_mapped)
 listed_by : (c : Joined-wants-2) (rest : ℕ) → Listed c.args.wants (finished c.args.j c.args.given.now c.if-wants.p.plan (edges_by (goal.at.Joined-wants-2 c).In-Clean) (drawn_by (goal.at.Joined-wants-2 c).In-Clean) (points-by (goal.at.Joined-wants-2 c).In-Clean) (counts-by (goal.at.Joined-wants-2 c).In-Clean) (taps_by (goal.at.Joined-wants-2 c).In-Clean) rest) (c.args.wants.page && not c.args.j.flags.on_grid) c.args.crossings.now c.if-wants-2.crossings
 listed_by c rest =
     let a = c.args in
-    laws.way c.if-wants-2.branch
-    (λ x. listing.wanted_listed a.j a.given.now c.if-wants.p.plan (edges_by (goal.at.Joined-wants-2 c).In-Clean) (drawn_by (goal.at.Joined-wants-2 c).In-Clean) (points-by (goal.at.Joined-wants-2 c).In-Clean) (counts-by (goal.at.Joined-wants-2 c).In-Clean) (taps_by (goal.at.Joined-wants-2 c).In-Clean) rest (on_sheet (goal.at.Joined-wants-2 c).In-Clean) a.wants _ x.4.result _ _ x.0.taken x.4.ensures.0 (x.8 ∙ x.4.ensures.1) x.7.left)
-    (λ x. listing.unwanted_listed a.wants _ _ _ _ x.0.left x.1)
+    elim c.if-wants-2.branch [
+      | then-wants-2+else-too_many x ↦ listing.wanted_listed a.j a.given.now c.if-wants.p.plan (edges_by (goal.at.Joined-wants-2 c).In-Clean) (drawn_by (goal.at.Joined-wants-2 c).In-Clean) (points-by (goal.at.Joined-wants-2 c).In-Clean) (counts-by (goal.at.Joined-wants-2 c).In-Clean) (taps_by (goal.at.Joined-wants-2 c).In-Clean) rest (on_sheet (goal.at.Joined-wants-2 c).In-Clean) a.wants _ x.list_crossings-too_many.result _ _ x.if-wants-2.true x.list_crossings-too_many.ensures.too_many (x.crossings-is ∙ x.list_crossings-too_many.ensures.bytes) x.if-too_many.false
+      | else-wants-2 x ↦ listing.unwanted_listed a.wants _ _ _ _ x.if-wants-2.false x.crossings-is
+    ]
 
 pub corridor_depth_offsets-offsets-requires : goal.corridor_depth_offsets-offsets-requires
 corridor_depth_offsets-offsets-requires c =
@@ -120,7 +124,7 @@ pub plan_interior_collectors-requires : goal.plan_interior_collectors-requires
 plan_interior_collectors-requires c =
     let a = c.args in
     let x = length-take-le search_work a.points.now c.requires.search_work_in_bounds.0 in
-    record { sound = (tables_sound a.j a.given.now c.requires.came.0 (sizes (goal.at.plan_interior_collectors-requires c).Start), routes_in a.j a.given.now c.requires.came.0 (sizes (goal.at.plan_interior_collectors-requires c).Start)); search_room = (omega (arith, c.requires.search_work_in_bounds.1), omega (arith, x, c.requires.search_work_in_bounds.1)); offsets_of = c.corridor_depth_offsets-offsets.ensures; }
+    record { sound = (tables_sound a.j a.given.now c.requires.came.0 (sizes (goal.at.plan_interior_collectors-requires c).Start), routes_in a.j a.given.now c.requires.came.0 (sizes (goal.at.plan_interior_collectors-requires c).Start)); search_room = (omega (arith, c.requires.search_work_in_bounds.1), omega (arith, x, c.requires.search_work_in_bounds.1)); offsets_of = c.corridor_depth_offsets-offsets.ensures }
 
 pub write_notice-requires : goal.write_notice-requires
 write_notice-requires c = c.requires.came.1
@@ -141,7 +145,7 @@ pub draw_sheet-d-requires : goal.draw_sheet-d-requires
 draw_sheet-d-requires c =
     let a = c.args in
     let lent = laws.lent_as a.j _ _ _ _ _ _ _ _ (points_kept (goal.at.draw_sheet-d-requires c).Joined-wants) c.requires.lent in
-    record { tables = (tables_sound a.j a.given.now c.requires.came.0 (sizes (goal.at.draw_sheet-d-requires c).Start), routes_in a.j a.given.now c.requires.came.0 (sizes (goal.at.draw_sheet-d-requires c).Start)); once = (ready.follow a.j a.given.now c.requires.came.0 (sizes (goal.at.draw_sheet-d-requires c).Start), ready.once_a_role a.j a.given.now c.requires.came.0 (sizes (goal.at.draw_sheet-d-requires c).Start)); exact = (lent.edges_long, lent.lanes_long, lent.counts_long); room = lent.room; }
+    record { tables = (tables_sound a.j a.given.now c.requires.came.0 (sizes (goal.at.draw_sheet-d-requires c).Start), routes_in a.j a.given.now c.requires.came.0 (sizes (goal.at.draw_sheet-d-requires c).Start)); once = (ready.follow a.j a.given.now c.requires.came.0 (sizes (goal.at.draw_sheet-d-requires c).Start), ready.once_a_role a.j a.given.now c.requires.came.0 (sizes (goal.at.draw_sheet-d-requires c).Start)); exact = (lent.edges_long, lent.lanes_long, lent.counts_long); room = lent.room }
 
 pub write_notice-requires-in-Refused : goal.write_notice-requires-in-Refused
 write_notice-requires-in-Refused c = c.requires.came.1
@@ -149,7 +153,7 @@ write_notice-requires-in-Refused c = c.requires.came.1
 pub list_crossings-too_many-requires : goal.list_crossings-too_many-requires
 list_crossings-too_many-requires c =
     let on = on_sheet (goal.at.list_crossings-too_many-requires c).In-Clean in
-    record { count_le_max_edges = (on.fits.edges, omega (arith, on.all_drawn, on.fits.bundles), wanted_room c.args.wants.crossings _ _ c.if-wants-2.true c.requires.came.3); counts_len = (on.counted, on.slots, on.hold); }
+    record { count_le_max_edges = (on.fits.edges, omega (arith, on.all_drawn, on.fits.bundles), wanted_room c.args.wants.crossings _ _ c.if-wants-2.true c.requires.came.3); counts_len = (on.counted, on.slots, on.hold) }
 
 pub write_notice-requires-then-too_many : goal.write_notice-requires-then-too_many
 write_notice-requires-then-too_many c = c.requires.came.1
@@ -190,7 +194,7 @@ shape_of-points-then-off_grid c =
     omega (arith, kept, c.draw_sheet-d.auto.points)
 
 pub shape_of-crossings-then-off_grid : goal.shape_of-crossings-then-off_grid
-shape_of-crossings-then-off_grid c = laws.way c.if-wants-2.branch (λ x. ap length x.8 ∙ x.4.kept.1.1.1.1.1.1.0) (λ x. ap length x.1)
+shape_of-crossings-then-off_grid c = elim c.if-wants-2.branch [ then-wants-2+else-too_many x ↦ ap length x.crossings-is ∙ x.list_crossings-too_many.auto.out | else-wants-2 x ↦ ap length x.crossings-is ]
 
 pub returns-then-off_grid : goal.returns-then-off_grid
 returns-then-off_grid c =
@@ -204,13 +208,13 @@ returns-then-off_grid c =
 pub normalize_layout-l-requires : goal.normalize_layout-l-requires
 normalize_layout-l-requires c =
     let on = on_sheet (goal.at.normalize_layout-l-requires c).In-Clean in
-    record { tables = (on.fits.nodes, omega (arith, on.all_drawn, on.fits.bundles)); slots = (on.slots, on.hold); taps = (on.places, windows (goal.at.normalize_layout-l-requires c).In-Clean); }
+    record { tables = (on.fits.nodes, omega (arith, on.all_drawn, on.fits.bundles)); slots = (on.slots, on.hold); taps = (on.places, windows (goal.at.normalize_layout-l-requires c).In-Clean) }
 
 pub tap_rows-t-requires : goal.tap_rows-t-requires
 tap_rows-t-requires c =
     let on = on_sheet (goal.at.tap_rows-t-requires c).In-Clean in
     let n = c.normalize_layout-l in
-    record { count_le_max_members = (on.fits.members, on.fits.edges, omega (arith, on.places, n.auto.taps)); members_on = on.members_on; }
+    record { count_le_max_members = (on.fits.members, on.fits.edges, omega (arith, on.places, n.auto.taps)); members_on = on.members_on }
 
 pub put_page-requires : goal.put_page-requires
 put_page-requires c =
@@ -288,10 +292,10 @@ pub shape_of-scratch-after-wants-3 : goal.shape_of-scratch-after-wants-3
 shape_of-scratch-after-wants-3 c = omega (arith, c.draw_sheet-d.auto.scratch)
 
 pub shape_of-page : goal.shape_of-page
-shape_of-page c = laws.way c.if-wants-3.branch (λ x. ap length x.5 ∙ x.2.kept.0) (λ x. ap length x.1)
+shape_of-page c = elim c.if-wants-3.branch [ then-wants-3 x ↦ ap length x.page-is ∙ x.put_page.auto.out | else-wants-3 x ↦ ap length x.page-is ]
 
 pub shape_of-crossings : goal.shape_of-crossings
-shape_of-crossings c = laws.way c.if-wants-2.branch (λ x. ap length x.8 ∙ x.4.kept.1.1.1.1.1.1.0) (λ x. ap length x.1)
+shape_of-crossings c = elim c.if-wants-2.branch [ then-wants-2+else-too_many x ↦ ap length x.crossings-is ∙ x.list_crossings-too_many.auto.out | else-wants-2 x ↦ ap length x.crossings-is ]
 
 pub returns-after-wants-3 : goal.returns-after-wants-3
 returns-after-wants-3 c =
@@ -306,8 +310,9 @@ returns-after-wants-3 c =
     let same = page_of_tables id_columns (record { tap_visits = 0; geometry_visits = 0; width = n.result.width; height = n.result.height }) n.result.nodes a.j.edges n.new.points (counts-by (goal.at.returns-after-wants-3 c).In-Clean) r t.result in
     let l = listed_by (goal.at.returns-after-wants-3 c).Joined-wants-2 in
     laws.drawn_writes a.wants _ _ (laws.all_drawn a.j a.given.now c.requires.came.0 (sizes (goal.at.returns-after-wants-3 c).Start) a.wants.plan a.plan.now c.if-wants.p (chosen (goal.at.returns-after-wants-3 c).Joined-wants) c.if-p-ne0.false (take a.j.bundles.count o.result.rows) d.result.verdict (edges_by (goal.at.returns-after-wants-3 c).In-Clean) (drawn_by (goal.at.returns-after-wants-3 c).In-Clean) (points-by (goal.at.returns-after-wants-3 c).In-Clean) (counts-by (goal.at.returns-after-wants-3 c).In-Clean) (taps_by (goal.at.returns-after-wants-3 c).In-Clean) (o.ensures (take a.j.edges.count a.j.edges.rows)) d.ensures.told _ c.in-Clean.is) (l _).few c.if-off_grid.false _ _ _ _ (laws.all_told a.j a.given.now c.requires.came.0 (sizes (goal.at.returns-after-wants-3 c).Start) a.wants.plan a.plan.now c.if-wants.p (chosen (goal.at.returns-after-wants-3 c).Joined-wants) c.if-p-ne0.false (take a.j.bundles.count o.result.rows) d.result.verdict (edges_by (goal.at.returns-after-wants-3 c).In-Clean) (drawn_by (goal.at.returns-after-wants-3 c).In-Clean) (points-by (goal.at.returns-after-wants-3 c).In-Clean) (counts-by (goal.at.returns-after-wants-3 c).In-Clean) (taps_by (goal.at.returns-after-wants-3 c).In-Clean) (o.ensures (take a.j.edges.count a.j.edges.rows)) d.ensures.told _ on n.result n.new.points n.new.taps t.result t.ensures (n.ensures.page (edges_by (goal.at.returns-after-wants-3 c).In-Clean)) n.ensures.drawn n.ensures.rows) w.bytes
-    (laws.way c.if-wants-3.branch
-    (λ x. laws.page_put _ _ _ _ x.0.taken (x.5 ∙ x.2.ensures.0 ∙ ap (sets a.page.now 0) same))
-    (λ x. laws.page_left _ _ _ _ x.0.left x.1))
+    (elim c.if-wants-3.branch [
+      | then-wants-3 x ↦ laws.page_put _ _ _ _ x.if-wants-3.true (x.page-is ∙ x.put_page.ensures.bytes ∙ ap (sets a.page.now 0) same)
+      | else-wants-3 x ↦ laws.page_left _ _ _ _ x.if-wants-3.false x.page-is
+    ])
     (listing.list_left _ _ _ _ _ (l 0) c.if-off_grid.false)
     w.place
