@@ -1,0 +1,166 @@
+-- `job_drawing::read_and_draw` meets its contract. Assumes nothing.
+use mathlib.Core.Path.{◌≡◌, refl, sym, ◌∙◌, ap, subst}
+use Prim.Native.Nat.{ℕ, ◌+◌, ◌*◌, ◌≤◌, ◌<◌}
+use native.Mathlib.Omega.{arith}
+use lib.ListN.{length, take}
+use lib.Seq.{length-take-le, length_front}
+use borrow.Author.Tests.{not-true, not-false}
+use Rattle.limits.specs.Limits.{point_numbers}
+use Rattle.job_tables.proofs.Ready.{came}
+use Rattle.draw_job.proofs.Phases as laws
+use borrow.Author.Rules.{rules}
+use Rattle.job_drawing.proofs.read_and_draw.Goals as goal
+
+pub read_job-r-requires : goal.read_job-r-requires
+read_job-r-requires c = c.requires.given_len.0
+
+pub write_notice-requires : goal.write_notice-requires
+write_notice-requires c = omega (arith, c.requires.given_len.1)
+
+pub returns-then-not-r : goal.returns-then-not-r
+returns-then-not-r c =
+    let a = c.args in
+    let r = c.read_job-r in
+    let w = c.write_notice.ensures in
+    laws.notice_writes _ _ _ r.result.refusal _ (laws.refused_outputs a.wants _ _ (laws.read_refused r.result _ a.job.now r.ensures a.wants.plan a.plan.now (not-true r.result.ok c.if-not-r.true))) w.bytes refl refl w.place
+
+pub slice_bounds-draw_in-end : goal.slice_bounds-draw_in-end
+slice_bounds-draw_in-end c =
+    let a = c.args in
+    let r = c.read_job-r in
+    omega (arith, r.ensures.fits.members, c.requires.edges_len.0)
+
+pub slice_bounds-draw_in-end-then-n-le-FEW_ROUTES : goal.slice_bounds-draw_in-end-then-n-le-FEW_ROUTES
+slice_bounds-draw_in-end-then-n-le-FEW_ROUTES c =
+    let a = c.args in
+    let r = c.read_job-r in
+    let e : r.result.job.members.count ≤ length a.edges.now = omega (arith, r.ensures.fits.members, c.requires.edges_len.0) in
+    sym (length-take-le _ _ e)
+
+pub slice_bounds-draw_in-end-then-n-le-FEW_ROUTES-2 : goal.slice_bounds-draw_in-end-then-n-le-FEW_ROUTES-2
+slice_bounds-draw_in-end-then-n-le-FEW_ROUTES-2 c =
+    let a = c.args in
+    let r = c.read_job-r in
+    omega (arith, r.ensures.fits.members, c.requires.edges_len.1)
+
+pub slice_bounds-draw_in-end-then-n-le-FEW_ROUTES-3 : goal.slice_bounds-draw_in-end-then-n-le-FEW_ROUTES-3
+slice_bounds-draw_in-end-then-n-le-FEW_ROUTES-3 c =
+    let a = c.args in
+    let r = c.read_job-r in
+    let e : r.result.job.members.count ≤ length a.lanes.now = omega (arith, r.ensures.fits.members, c.requires.edges_len.1) in
+    sym (length-take-le _ _ e)
+
+pub slice_bounds-draw_in-end-then-n-le-FEW_ROUTES-5 : goal.slice_bounds-draw_in-end-then-n-le-FEW_ROUTES-5
+slice_bounds-draw_in-end-then-n-le-FEW_ROUTES-5 c =
+    let a = c.args in
+    let r = c.read_job-r in
+    omega (arith, r.ensures.fits.edges, c.requires.edges_len.3)
+
+pub slice_bounds-draw_in-end-then-n-le-FEW_ROUTES-6 : goal.slice_bounds-draw_in-end-then-n-le-FEW_ROUTES-6
+slice_bounds-draw_in-end-then-n-le-FEW_ROUTES-6 c =
+    let a = c.args in
+    let r = c.read_job-r in
+    let e : r.result.job.edges.count ≤ length a.counts.now = omega (arith, r.ensures.fits.edges, c.requires.edges_len.3) in
+    sym (length-take-le _ _ e)
+
+pub draw_in-requires : goal.draw_in-requires
+draw_in-requires c =
+    let a = c.args in
+    let r = c.read_job-r in
+    let ok = not-false r.result.ok c.if-not-r.false in
+    let long : length r.new.points ≡ point_numbers = omega (arith, r.auto.points, c.requires.given_len.0) in
+    let fits = r.ensures.fits in
+    let p = c.requires.edges_len in
+    let edges : r.result.job.members.count ≤ length a.edges.now = omega (arith, fits.members, p.0) in
+    let lanes : r.result.job.members.count ≤ length a.lanes.now = omega (arith, fits.members, p.1) in
+    let counts : r.result.job.edges.count ≤ length a.counts.now = omega (arith, fits.edges, p.3) in record { came = (came r.result _ a.job.now r.ensures long ok, omega (arith, c.requires.given_len.1), c.requires.given_len.2, c.requires.given_len.3); plan_in_bounds = laws.phase_room r.result _ a.job.now r.ensures a.wants.plan a.plan.now (length a.answer.now) c.requires.given_len.1 ok; search_work_in_bounds = (omega arith, c.requires.sorted_len); lent = record {
+            edges_long = length-take-le _ _ edges;
+            lanes_long = length-take-le _ _ lanes;
+            counts_long = length-take-le _ _ counts;
+            room = laws.room_for _ _ _ _ _ _ _ fits.members fits.edges p.2 (omega (arith, c.if-n-le-FEW_ROUTES.true)) (length-take-le _ _ counts) p.4 p.5;
+          }; }
+
+pub shape_of-given-then-n-le-FEW_ROUTES : goal.shape_of-given-then-n-le-FEW_ROUTES
+shape_of-given-then-n-le-FEW_ROUTES c = omega (arith, c.read_job-r.auto.points)
+
+pub returns-then-n-le-FEW_ROUTES : goal.returns-then-n-le-FEW_ROUTES
+returns-then-n-le-FEW_ROUTES c =
+    let a = c.args in
+    let r = c.read_job-r in
+    let ok = not-false r.result.ok c.if-not-r.false in
+    laws.writes_as _ _ _ _ _ (ap (laws.outputs_for a.wants) (sym (laws.told_phase r.result _ a.job.now r.ensures a.wants.plan a.plan.now ok))) c.draw_in.ensures
+
+pub slice_bounds-draw_in-end-2 : goal.slice_bounds-draw_in-end-2
+slice_bounds-draw_in-end-2 c =
+    let a = c.args in
+    let r = c.read_job-r in
+    omega (arith, r.ensures.fits.members, c.requires.edges_len.0)
+
+pub slice_bounds-draw_in-end-3 : goal.slice_bounds-draw_in-end-3
+slice_bounds-draw_in-end-3 c =
+    let a = c.args in
+    let r = c.read_job-r in
+    let e : r.result.job.members.count ≤ length a.edges.now = omega (arith, r.ensures.fits.members, c.requires.edges_len.0) in
+    sym (length-take-le _ _ e)
+
+pub slice_bounds-draw_in-end-4 : goal.slice_bounds-draw_in-end-4
+slice_bounds-draw_in-end-4 c =
+    let a = c.args in
+    let r = c.read_job-r in
+    omega (arith, r.ensures.fits.members, c.requires.edges_len.1)
+
+pub slice_bounds-draw_in-end-5 : goal.slice_bounds-draw_in-end-5
+slice_bounds-draw_in-end-5 c =
+    let a = c.args in
+    let r = c.read_job-r in
+    let e : r.result.job.members.count ≤ length a.lanes.now = omega (arith, r.ensures.fits.members, c.requires.edges_len.1) in
+    sym (length-take-le _ _ e)
+
+pub slice_bounds-draw_in-end-7 : goal.slice_bounds-draw_in-end-7
+slice_bounds-draw_in-end-7 c =
+    let a = c.args in
+    let r = c.read_job-r in
+    omega (arith, r.ensures.fits.edges, c.requires.edges_len.3)
+
+pub slice_bounds-draw_in-end-8 : goal.slice_bounds-draw_in-end-8
+slice_bounds-draw_in-end-8 c =
+    let a = c.args in
+    let r = c.read_job-r in
+    let e : r.result.job.edges.count ≤ length a.counts.now = omega (arith, r.ensures.fits.edges, c.requires.edges_len.3) in
+    sym (length-take-le _ _ e)
+
+pub draw_in-requires-2 : goal.draw_in-requires-2
+draw_in-requires-2 c =
+    let a = c.args in
+    let r = c.read_job-r in
+    let ok = not-false r.result.ok c.if-not-r.false in
+    let long : length r.new.points ≡ point_numbers = omega (arith, r.auto.points, c.requires.given_len.0) in
+    let fits = r.ensures.fits in
+    let p = c.requires.edges_len in
+    let edges : r.result.job.members.count ≤ length a.edges.now = omega (arith, fits.members, p.0) in
+    let lanes : r.result.job.members.count ≤ length a.lanes.now = omega (arith, fits.members, p.1) in
+    let counts : r.result.job.edges.count ≤ length a.counts.now = omega (arith, fits.edges, p.3) in record { came = (came r.result _ a.job.now r.ensures long ok, omega (arith, c.requires.given_len.1), c.requires.given_len.2, c.requires.given_len.3); plan_in_bounds = laws.phase_room r.result _ a.job.now r.ensures a.wants.plan a.plan.now (length a.answer.now) c.requires.given_len.1 ok; search_work_in_bounds = (omega arith, c.requires.sorted_len); lent = record {
+            edges_long = length-take-le _ _ edges;
+            lanes_long = length-take-le _ _ lanes;
+            counts_long = length-take-le _ _ counts;
+            room = laws.room_for _ _ _ _ _ _ _ fits.members fits.edges p.2 (omega (arith, fits.edges)) (length-take-le _ _ counts) p.4 p.5;
+          }; }
+
+pub shape_of-given : goal.shape_of-given
+shape_of-given c = omega (arith, c.read_job-r.auto.points)
+
+pub shape_of-sorted : goal.shape_of-sorted
+shape_of-sorted c = omega (arith, c.read_job-r.auto.points)
+
+pub shape_of-edges : goal.shape_of-edges
+shape_of-edges c = omega (arith, length_front c.args.edges.now c.draw_in-2.new.edges c.read_job-r.result.job.members.count c.draw_in-2.auto.edges)
+
+pub shape_of-lanes : goal.shape_of-lanes
+shape_of-lanes c = omega (arith, length_front c.args.lanes.now c.draw_in-2.new.lanes c.read_job-r.result.job.members.count c.draw_in-2.auto.lanes)
+
+pub returns : goal.returns
+returns c =
+    let a = c.args in
+    let r = c.read_job-r in
+    let ok = not-false r.result.ok c.if-not-r.false in
+    laws.writes_as _ _ _ _ _ (ap (laws.outputs_for a.wants) (sym (laws.told_phase r.result _ a.job.now r.ensures a.wants.plan a.plan.now ok))) c.draw_in-2.ensures

@@ -1,0 +1,39 @@
+-- `sheet_replay::draw` is safe and ends. Assumes nothing.
+use mathlib.Core.Path.{◌≡◌, refl, sym, ◌∙◌, ap}
+use Prim.Native.Nat.{ℕ, ◌+◌, ◌*◌, ◌≤◌, ◌<◌}
+use native.Mathlib.Omega.{arith}
+use lib.ListN.{length, take}
+use lib.Seq.{length-take-le}
+use Rattle.limits.specs.Limits.{slot_numbers, all_slot_numbers}
+use Rattle.draw_job.proofs.Phases as laws
+use borrow.Author.Rules.{rules}
+use Rattle.sheet_replay.proofs.draw.Goals as goal
+
+pub slice_bounds-edges-end : goal.slice_bounds-edges-end
+slice_bounds-edges-end c = let h = c.requires.0.fits.members in search rules
+
+pub slice_bounds-draw_in-end : goal.slice_bounds-draw_in-end
+slice_bounds-draw_in-end c = sym (length-take-le _ _ c.requires.0.fits.members)
+
+pub slice_bounds-lanes-end : goal.slice_bounds-lanes-end
+slice_bounds-lanes-end c = let h = c.requires.0.fits.members in search rules
+
+pub slice_bounds-draw_in-end-2 : goal.slice_bounds-draw_in-end-2
+slice_bounds-draw_in-end-2 c = sym (length-take-le _ _ c.requires.0.fits.members)
+
+pub slice_bounds-counts-end : goal.slice_bounds-counts-end
+slice_bounds-counts-end c = let h = c.requires.0.fits.edges in search rules
+
+pub slice_bounds-draw_in-end-5 : goal.slice_bounds-draw_in-end-5
+slice_bounds-draw_in-end-5 c = sym (length-take-le _ _ c.requires.0.fits.edges)
+
+pub draw_in-requires : goal.draw_in-requires
+draw_in-requires c =
+    let fits = c.requires.0.fits in
+    let h = fits.edges in
+    let slots : slot_numbers * c.args.j.edges.count ≤ all_slot_numbers = omega (arith, h) in record { came = c.requires; lent = record {
+        edges_long = length-take-le _ _ fits.members;
+        lanes_long = length-take-le _ _ fits.members;
+        counts_long = length-take-le _ _ fits.edges;
+        room = laws.room_for _ _ _ _ _ _ _ fits.members fits.edges refl slots (length-take-le _ _ fits.edges) refl refl;
+      }; }
