@@ -13,7 +13,7 @@ use Rattle.plan_replay.proofs.answer.Goals.{After-read_job-r}
 
 sizes : (c : After-read_job-r) → Sizes c.read_job-r.result.job
 sizes c =
-    let j = c.read_job-r.type-inv.1.1.1.1.0 in
+    let j = c.read_job-r.type_inv.1.1.1.1.0 in
     record {
       nodes = let g = j.1.1.1.1.1.0 in search (g, rules, length_mapped);
       ports = let g = j.1.1.1.1.1.1.0 in search (g, rules, length_mapped);
