@@ -52,14 +52,14 @@ room e = laws.rooms most_kept promotion_scratch promotion_scratch _ _ _ (accepte
 pub returns-then-number-ne0 : goal.returns-then-number-ne0
 returns-then-number-ne0 c =
     let a = c.args in
-    let parts = laws.refused_all (number_of (goal.at.returns-then-number-ne0 c).Start) (says_of (goal.at.returns-then-number-ne0 c).Start (role_of a.role)) a.granted c.refuse.result c.refusal_of-number.result a.xs.now a.candidates.now a.scratch.now (number_is (goal.at.returns-then-number-ne0 c).After-refusal_of-number) c.if-number-ne0.true c.refuse.ensures in record { replied = parts.0; untouched = parts.1; }
+    let parts = laws.refused_all (number_of (goal.at.returns-then-number-ne0 c).Start) (says_of (goal.at.returns-then-number-ne0 c).Start (role_of a.role)) a.granted c.refuse.result c.refusal_of-number.result a.xs.now a.candidates.now a.scratch.now (number_is (goal.at.returns-then-number-ne0 c).After-refusal_of-number) c.if-number-ne0.true c.refuse.ensures in record { replied = parts.0; untouched = parts.1 }
 
 pub returns-then-not-present : goal.returns-then-not-present
 unfolding of_bits
 returns-then-not-present c =
     let a = c.args in
     let parts = laws.accepted_all (number_of (goal.at.returns-then-not-present c).Start) (says_of (goal.at.returns-then-not-present c).Start (role_of a.role)) a.granted _ a.xs.now a.xs.now a.candidates.now a.candidates.now a.scratch.now a.scratch.now (none-refused (goal.at.returns-then-not-present c).Else-number-ne0)
-    (laws.absent_replied (role_of a.role) a.pitch a.present (bounds a.minimum a.desired a.maximum) _ a.granted a.xs.now (not-true a.present (ap not c.if-not-present.true))) in record { replied = parts.0; untouched = parts.1; }
+    (laws.absent_replied (role_of a.role) a.pitch a.present (bounds a.minimum a.desired a.maximum) _ a.granted a.xs.now (not-true a.present (ap not c.if-not-present.true))) in record { replied = parts.0; untouched = parts.1 }
 
 pub slice_bounds-promotion_candidates-end : goal.slice_bounds-promotion_candidates-end
 slice_bounds-promotion_candidates-end c = (room (goal.at.slice_bounds-promotion_candidates-end c).Else-number-ne0).1
@@ -77,7 +77,7 @@ promotion_candidates-p-requires c =
     let a = c.args in
     let h = length-take-le promotion_scratch a.candidates.now (room (goal.at.promotion_candidates-p-requires c).Else-number-ne0).1 in
     let f = (accepted (goal.at.promotion_candidates-p-requires c).Else-number-ne0).few c.role_from-side.result a.pitch in
-    record { windows = (accepted (goal.at.promotion_candidates-p-requires c).Else-number-ne0).placed; counts_in_bounds = omega arith; counts_in_bounds_2 = omega arith; }
+    record { windows = (accepted (goal.at.promotion_candidates-p-requires c).Else-number-ne0).placed; counts_in_bounds = omega arith; counts_in_bounds_2 = omega arith }
 
 pub promotion_reply-requires : goal.promotion_reply-requires
 promotion_reply-requires c =
@@ -94,4 +94,4 @@ returns c =
     let l = laws.promotion_list_said g.new.xs a.candidates.now promotion_scratch (room (goal.at.returns c).Else-number-ne0).1 g.auto.xs g.result _ g.ensures in
     let p = laws.present_says c.role_from-side.result a.pitch a.present (bounds a.minimum a.desired a.maximum) _ a.granted (not-false a.present (ap not c.if-not-present.false)) in
     let parts = laws.accepted_all (number_of (goal.at.returns c).Start) (says_of (goal.at.returns c).Start (role_of a.role)) a.granted c.promotion_reply.result a.xs.now _ a.candidates.now _ a.scratch.now _ (none-refused (goal.at.returns c).Else-number-ne0)
-    (subst (λ (s : Said). Replied 0 s c.promotion_reply.result a.xs.now c.promotion_reply.new.xs) (l ∙ p ∙ ap (says_of (goal.at.returns c).Start) c.role_from-side.ensures) c.promotion_reply.ensures) in record { replied = parts.0; untouched = parts.1; }
+    (subst (λ (s : Said). Replied 0 s c.promotion_reply.result a.xs.now c.promotion_reply.new.xs) (l ∙ p ∙ ap (says_of (goal.at.returns c).Start) c.role_from-side.ensures) c.promotion_reply.ensures) in record { replied = parts.0; untouched = parts.1 }

@@ -50,7 +50,7 @@ room e = laws.rooms largest_list search_scratch search_scratch _ _ _ (accepted e
 pub returns-then-number-ne0 : goal.returns-then-number-ne0
 returns-then-number-ne0 c =
     let a = c.args in
-    let parts = laws.refused_all (number_of (goal.at.returns-then-number-ne0 c).Start) (says_of (goal.at.returns-then-number-ne0 c).Start (role_of a.role)) a.granted c.refuse.result c.refusal_of-number.result a.xs.now a.candidates.now a.scratch.now (number_is (goal.at.returns-then-number-ne0 c).After-refusal_of-number) c.if-number-ne0.true c.refuse.ensures in record { replied = parts.0; untouched = parts.1; }
+    let parts = laws.refused_all (number_of (goal.at.returns-then-number-ne0 c).Start) (says_of (goal.at.returns-then-number-ne0 c).Start (role_of a.role)) a.granted c.refuse.result c.refusal_of-number.result a.xs.now a.candidates.now a.scratch.now (number_is (goal.at.returns-then-number-ne0 c).After-refusal_of-number) c.if-number-ne0.true c.refuse.ensures in record { replied = parts.0; untouched = parts.1 }
 
 -- the part of the candidates that is lent
 lent : (e : Else-number-ne0) → largest_list ≤ length e.args.candidates.now
@@ -72,7 +72,7 @@ common_horizontal_collector_xs-g-requires c =
     let a = c.args in
     let h = length-take-le largest_list a.candidates.now (lent (goal.at.common_horizontal_collector_xs-g-requires c).Else-number-ne0) in
     let f = (accepted (goal.at.common_horizontal_collector_xs-g-requires c).Else-number-ne0).few c.role_from-side.result a.pitch in
-    record { windows = (accepted (goal.at.common_horizontal_collector_xs-g-requires c).Else-number-ne0).placed; counts_in_bounds = omega arith; counts_in_bounds_2 = omega arith; }
+    record { windows = (accepted (goal.at.common_horizontal_collector_xs-g-requires c).Else-number-ne0).placed; counts_in_bounds = omega arith; counts_in_bounds_2 = omega arith }
 
 pub search_reply-requires : goal.search_reply-requires
 search_reply-requires c =
@@ -89,4 +89,4 @@ returns c =
     let g = c.common_horizontal_collector_xs-g in
     let l = laws.list_said g.new.xs a.candidates.now largest_list (lent (goal.at.returns c).Else-number-ne0) g.auto.xs g.result _ g.ensures in
     let parts = laws.accepted_all (number_of (goal.at.returns c).Start) (says_of (goal.at.returns c).Start (role_of a.role)) a.granted c.search_reply.result a.xs.now _ a.candidates.now _ a.scratch.now _ (none-refused (goal.at.returns c).Else-number-ne0)
-    (subst (λ (s : Said). Replied 0 s c.search_reply.result a.xs.now c.search_reply.new.xs) (l ∙ ap (says_of (goal.at.returns c).Start) c.role_from-side.ensures) c.search_reply.ensures) in record { replied = parts.0; untouched = parts.1; }
+    (subst (λ (s : Said). Replied 0 s c.search_reply.result a.xs.now c.search_reply.new.xs) (l ∙ ap (says_of (goal.at.returns c).Start) c.role_from-side.ensures) c.search_reply.ensures) in record { replied = parts.0; untouched = parts.1 }

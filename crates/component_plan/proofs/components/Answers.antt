@@ -59,7 +59,7 @@ treat-step-requires c =
     let w = c.component-w in
     let p = c.requires.searchable in
     let k : length w.result.order ≡ max_bundles = search (rules, rows.length_mapped) in
-    let few : w.result.count ≤ max_bundles = omega (arith, w.ensures.0, c.requires.all_among.bundles_few) in record { searchable = record { paired = p.paired; windows = p.windows; room = omega (arith, p.room, l.invariant.2); scratch_room = omega (arith, p.scratch_room, l.invariant.2, l.invariant.3) }; all_among = c.requires.all_among; count_le_max_bundles = (few, laws.component_listed a.adjacent.now n l.i w.result.count w.result.order (take n (set l.seen l.i true)) (take n w.result.seen) c.loop-i-test.true (omega (arith, few, k)) w.ensures.1); }
+    let few : w.result.count ≤ max_bundles = omega (arith, w.ensures.0, c.requires.all_among.bundles_few) in record { searchable = record { paired = p.paired; windows = p.windows; room = omega (arith, p.room, l.invariant.2); scratch_room = omega (arith, p.scratch_room, l.invariant.2, l.invariant.3) }; all_among = c.requires.all_among; count_le_max_bundles = (few, laws.component_listed a.adjacent.now n l.i w.result.count w.result.order (take n (set l.seen l.i true)) (take n w.result.seen) c.loop-i-test.true (omega (arith, few, k)) w.ensures.1) }
 
 pub returns-then-step : goal.returns-then-step
 returns-then-step c =

@@ -8,10 +8,10 @@ use Rattle.component_settling.proofs.limited.Goals as goal
 pub required_output_collector_x-r-requires : goal.required_output_collector_x-r-requires
 required_output_collector_x-r-requires c =
     let p = c.requires in
-    record { starts_len = p.searchable.paired; inside = p.searchable.windows; all_among = p.all_among; listing = p.listing; }
+    record { starts_len = p.searchable.paired; inside = p.searchable.windows; all_among = p.all_among; listing = p.listing }
 
 pub search_again-requires : goal.search_again-requires
-search_again-requires c = record { searchable = c.requires.searchable; all_among = c.requires.all_among; listing = c.requires.listing; }
+search_again-requires c = record { searchable = c.requires.searchable; all_among = c.requires.all_among; listing = c.requires.listing }
 
 pub returns-then-exceeds : goal.returns-then-exceeds
 returns-then-exceeds c =

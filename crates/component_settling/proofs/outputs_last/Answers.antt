@@ -8,12 +8,12 @@ use Rattle.component_settling.proofs.outputs_last.Goals as goal
 pub required_output_collector_x-r-requires : goal.required_output_collector_x-r-requires
 required_output_collector_x-r-requires c =
     let p = c.requires in
-    record { starts_len = p.searchable.paired; inside = p.searchable.windows; all_among = p.all_among; listing = p.listing; }
+    record { starts_len = p.searchable.paired; inside = p.searchable.windows; all_among = p.all_among; listing = p.listing }
 
 pub search_again-requires : goal.search_again-requires
 search_again-requires c =
     let p = c.requires in
-    record { searchable = p.searchable; all_among = p.all_among; listing = p.listing_2; }
+    record { searchable = p.searchable; all_among = p.all_among; listing = p.listing_2 }
 
 pub returns : goal.returns
 returns c =

@@ -22,7 +22,7 @@ returns-then-near-pitch c =
 pub split-s-requires : goal.split-s-requires
 split-s-requires c =
     let p = c.requires in
-    record { searchable = p.searchable; all_among = p.all_among; listing = p.listing_2; }
+    record { searchable = p.searchable; all_among = p.all_among; listing = p.listing_2 }
 
 pub returns-then-s : goal.returns-then-s
 returns-then-s c =
@@ -35,13 +35,13 @@ returns-then-s c =
 pub limited-q-requires : goal.limited-q-requires
 limited-q-requires c =
     let p = c.requires in
-    let f = c.split-s in record { searchable = record { paired = p.searchable.paired; windows = p.searchable.windows; room = omega (arith, p.searchable.room, f.auto.xs); scratch_room = omega (arith, p.searchable.scratch_room, f.auto.xs, f.auto.scratch) }; all_among = p.all_among; listing = p.listing_2; }
+    let f = c.split-s in record { searchable = record { paired = p.searchable.paired; windows = p.searchable.windows; room = omega (arith, p.searchable.room, f.auto.xs); scratch_room = omega (arith, p.searchable.scratch_room, f.auto.xs, f.auto.scratch) }; all_among = p.all_among; listing = p.listing_2 }
 
 pub outputs_last-last-requires : goal.outputs_last-last-requires
 outputs_last-last-requires c =
     let p = c.requires in
     let f = c.split-s in
-    let g = c.limited-q in record { searchable = record { paired = p.searchable.paired; windows = p.searchable.windows; room = omega (arith, p.searchable.room, f.auto.xs, g.auto.xs); scratch_room = omega (arith, p.searchable.scratch_room, f.auto.xs, f.auto.scratch, g.auto.xs, g.auto.scratch) }; all_among = p.all_among; listing = p.listing_2; listing_2 = p.listing_3; }
+    let g = c.limited-q in record { searchable = record { paired = p.searchable.paired; windows = p.searchable.windows; room = omega (arith, p.searchable.room, f.auto.xs, g.auto.xs); scratch_room = omega (arith, p.searchable.scratch_room, f.auto.xs, f.auto.scratch, g.auto.xs, g.auto.scratch) }; all_among = p.all_among; listing = p.listing_2; listing_2 = p.listing_3 }
 
 pub returns : goal.returns
 returns c =

@@ -13,7 +13,7 @@ returns-then-inputs-outputs c =
     c.if-inputs-pitch.true c.if-inputs-outputs.true
 
 pub search_again-q-requires : goal.search_again-q-requires
-search_again-q-requires c = record { searchable = c.requires.searchable; all_among = c.requires.all_among; listing = c.requires.listing; }
+search_again-q-requires c = record { searchable = c.requires.searchable; all_among = c.requires.all_among; listing = c.requires.listing }
 
 pub returns-then-inputs-pitch : goal.returns-then-inputs-pitch
 returns-then-inputs-pitch c =

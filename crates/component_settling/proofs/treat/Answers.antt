@@ -48,7 +48,7 @@ pub settle-requires : goal.settle-requires
 settle-requires c =
     let n = c.args.t.count in
     let p = c.requires in
-    record { searchable = p.searchable; all_among = p.all_among; listing = p.count_le_max_bundles.1; listing_2 = (c.of_role-i.ensures n p.count_le_max_bundles.1).listed; listing_3 = (c.of_role-o.ensures n p.count_le_max_bundles.1).listed; }
+    record { searchable = p.searchable; all_among = p.all_among; listing = p.count_le_max_bundles.1; listing_2 = (c.of_role-i.ensures n p.count_le_max_bundles.1).listed; listing_3 = (c.of_role-o.ensures n p.count_le_max_bundles.1).listed }
 
 pub returns : goal.returns
 returns c =

@@ -73,12 +73,17 @@ draw_in-requires c =
     let p = c.requires.edges_len in
     let edges : r.result.job.members.count ≤ length a.edges.now = omega (arith, fits.members, p.0) in
     let lanes : r.result.job.members.count ≤ length a.lanes.now = omega (arith, fits.members, p.1) in
-    let counts : r.result.job.edges.count ≤ length a.counts.now = omega (arith, fits.edges, p.3) in record { came = (came r.result _ a.job.now r.ensures long ok, omega (arith, c.requires.given_len.1), c.requires.given_len.2, c.requires.given_len.3); plan_in_bounds = laws.phase_room r.result _ a.job.now r.ensures a.wants.plan a.plan.now (length a.answer.now) c.requires.given_len.1 ok; search_work_in_bounds = (omega arith, c.requires.sorted_len); lent = record {
-            edges_long = length-take-le _ _ edges;
-            lanes_long = length-take-le _ _ lanes;
-            counts_long = length-take-le _ _ counts;
-            room = laws.room_for _ _ _ _ _ _ _ fits.members fits.edges p.2 (omega (arith, c.if-n-le-FEW_ROUTES.true)) (length-take-le _ _ counts) p.4 p.5;
-          }; }
+    let counts : r.result.job.edges.count ≤ length a.counts.now = omega (arith, fits.edges, p.3) in record {
+      came = (came r.result _ a.job.now r.ensures long ok, omega (arith, c.requires.given_len.1), c.requires.given_len.2, c.requires.given_len.3);
+      plan_in_bounds = laws.phase_room r.result _ a.job.now r.ensures a.wants.plan a.plan.now (length a.answer.now) c.requires.given_len.1 ok;
+      search_work_in_bounds = (omega arith, c.requires.sorted_len);
+      lent = record {
+        edges_long = length-take-le _ _ edges;
+        lanes_long = length-take-le _ _ lanes;
+        counts_long = length-take-le _ _ counts;
+        room = laws.room_for _ _ _ _ _ _ _ fits.members fits.edges p.2 (omega (arith, c.if-n-le-FEW_ROUTES.true)) (length-take-le _ _ counts) p.4 p.5;
+      };
+    }
 
 pub shape_of-given-then-n-le-FEW_ROUTES : goal.shape_of-given-then-n-le-FEW_ROUTES
 shape_of-given-then-n-le-FEW_ROUTES c = omega (arith, c.read_job-r.auto.points)
@@ -139,12 +144,17 @@ draw_in-requires-2 c =
     let p = c.requires.edges_len in
     let edges : r.result.job.members.count ≤ length a.edges.now = omega (arith, fits.members, p.0) in
     let lanes : r.result.job.members.count ≤ length a.lanes.now = omega (arith, fits.members, p.1) in
-    let counts : r.result.job.edges.count ≤ length a.counts.now = omega (arith, fits.edges, p.3) in record { came = (came r.result _ a.job.now r.ensures long ok, omega (arith, c.requires.given_len.1), c.requires.given_len.2, c.requires.given_len.3); plan_in_bounds = laws.phase_room r.result _ a.job.now r.ensures a.wants.plan a.plan.now (length a.answer.now) c.requires.given_len.1 ok; search_work_in_bounds = (omega arith, c.requires.sorted_len); lent = record {
-            edges_long = length-take-le _ _ edges;
-            lanes_long = length-take-le _ _ lanes;
-            counts_long = length-take-le _ _ counts;
-            room = laws.room_for _ _ _ _ _ _ _ fits.members fits.edges p.2 (omega (arith, fits.edges)) (length-take-le _ _ counts) p.4 p.5;
-          }; }
+    let counts : r.result.job.edges.count ≤ length a.counts.now = omega (arith, fits.edges, p.3) in record {
+      came = (came r.result _ a.job.now r.ensures long ok, omega (arith, c.requires.given_len.1), c.requires.given_len.2, c.requires.given_len.3);
+      plan_in_bounds = laws.phase_room r.result _ a.job.now r.ensures a.wants.plan a.plan.now (length a.answer.now) c.requires.given_len.1 ok;
+      search_work_in_bounds = (omega arith, c.requires.sorted_len);
+      lent = record {
+        edges_long = length-take-le _ _ edges;
+        lanes_long = length-take-le _ _ lanes;
+        counts_long = length-take-le _ _ counts;
+        room = laws.room_for _ _ _ _ _ _ _ fits.members fits.edges p.2 (omega (arith, fits.edges)) (length-take-le _ _ counts) p.4 p.5;
+      };
+    }
 
 pub shape_of-given : goal.shape_of-given
 shape_of-given c = omega (arith, c.read_job-r.auto.points)

@@ -21,7 +21,7 @@ plan_in-requires c =
     let r = c.read_job-r in
     let ok = not-false r.result.ok c.if-not-r.false in
     let long : length r.new.points ≡ point_numbers = omega (arith, r.auto.points, c.requires.given_len.0) in
-    record { came = (came r.result _ c.args.job.now r.ensures long ok, c.requires.given_len.1); sorted_len = c.requires.sorted_len; }
+    record { came = (came r.result _ c.args.job.now r.ensures long ok, c.requires.given_len.1); sorted_len = c.requires.sorted_len }
 
 pub returns : goal.returns
 returns c =

@@ -23,7 +23,7 @@ pub read_ports-p-requires : goal.read_ports-p-requires
 read_ports-p-requires c =
     let l = c.requires.0 in
     let x = c.read_nodes-n.ensures.place (not-false _ c.if-not-n.false) in
-    record { from_bound = (omega arith, l.ports, omega arith); node_ids_len = (c.read_nodes-n.auto.ids, refl, refl, refl); }
+    record { from_bound = (omega arith, l.ports, omega arith); node_ids_len = (c.read_nodes-n.auto.ids, refl, refl, refl) }
 
 pub returns-then-not-p : goal.returns-then-not-p
 returns-then-not-p c =
@@ -39,7 +39,7 @@ read_edges-e-requires c =
     let l = p.0 in
     let x = c.read_nodes-n.ensures.place (not-false _ c.if-not-n.false) in
     let y = c.read_ports-p.ensures.place (not-false _ c.if-not-p.false) in
-    record { from_bound = (omega arith, l.edges, omega arith, p.1); node_ids_len = (c.read_nodes-n.auto.ids, refl, refl); }
+    record { from_bound = (omega arith, l.edges, omega arith, p.1); node_ids_len = (c.read_nodes-n.auto.ids, refl, refl) }
 
 pub returns-then-not-e : goal.returns-then-not-e
 returns-then-not-e c =
@@ -56,7 +56,7 @@ read_bundles-b-requires c =
     let y = c.read_ports-p.ensures.place (not-false _ c.if-not-p.false) in
     let z = c.read_edges-e.ensures.place (not-false _ c.if-not-e.false) in
     let t = c.read_edges-e.ensures.total (not-false _ c.if-not-e.false) in
-    record { from_bound = (omega arith, l.bundles, omega arith, l.ports, l.edges); node_ids_len = (c.read_nodes-n.auto.ids, c.read_ports-p.auto.nodes, c.read_ports-p.auto.ids, c.read_edges-e.auto.ids, refl); ids_len = (refl, refl, refl); }
+    record { from_bound = (omega arith, l.bundles, omega arith, l.ports, l.edges); node_ids_len = (c.read_nodes-n.auto.ids, c.read_ports-p.auto.nodes, c.read_ports-p.auto.ids, c.read_edges-e.auto.ids, refl); ids_len = (refl, refl, refl) }
 
 pub shape_of-points-then-not-b : goal.shape_of-points-then-not-b
 shape_of-points-then-not-b c = c.read_edges-e.auto.points
@@ -81,7 +81,7 @@ returns-then-b-s c =
     }
 
 pub any_twice-is_twice-requires : goal.any_twice-is_twice-requires
-any_twice-is_twice-requires c = record { limits = (c.requires.0, c.read_bundles-b.ensures.total); nodes_len = (c.read_nodes-n.auto.ids, c.read_ports-p.auto.nodes, c.read_ports-p.auto.ids, c.read_edges-e.auto.ids); bundles_len = (c.read_bundles-b.auto.ids, c.read_bundles-b.auto.edges, c.read_bundles-b.auto.roles, refl); }
+any_twice-is_twice-requires c = record { limits = (c.requires.0, c.read_bundles-b.ensures.total); nodes_len = (c.read_nodes-n.auto.ids, c.read_ports-p.auto.nodes, c.read_ports-p.auto.ids, c.read_edges-e.auto.ids); bundles_len = (c.read_bundles-b.auto.ids, c.read_bundles-b.auto.edges, c.read_bundles-b.auto.roles, refl) }
 
 pub shape_of-points-then-is_twice : goal.shape_of-points-then-is_twice
 shape_of-points-then-is_twice c = c.read_edges-e.auto.points

@@ -55,10 +55,15 @@ returns-then-o c =
     let n = c.shift_nodes-n in
     let p = c.shift_points in
     let r = c.shift_routes in
-    let o = c.outermost_of_sheet-o in record { page = (λ edges.
+    let o = c.outermost_of_sheet-o in record {
+      page = (λ edges.
           laid_is (sheet_in edges n.result d.result r.new.points a.counts.now p.new.points) z.result (z.ensures ∙ size_is edges n.result d.result r.new.points a.counts.now p.new.points)
           ∙ page_shifted (sheet_in edges a.nodes a.drawn a.points.now a.counts.now a.taps.now) o.result (o.ensures ∙ least_corner edges a.nodes a.drawn a.points.now a.counts.now a.taps.now) _ c.if-o.true
-          (sheet_shifted o.result edges a.nodes n.result a.drawn d.result a.points.now r.new.points a.counts.now a.taps.now p.new.points a.tap_count n.ensures.rows d.ensures.rows r.ensures p.ensures.placed c.requires.taps.1)); nodes = n.ensures.count; drawn = d.ensures.count; rows = rows_shifted o.result a.drawn d.result d.ensures.rows; }
+          (sheet_shifted o.result edges a.nodes n.result a.drawn d.result a.points.now r.new.points a.counts.now a.taps.now p.new.points a.tap_count n.ensures.rows d.ensures.rows r.ensures p.ensures.placed c.requires.taps.1));
+      nodes = n.ensures.count;
+      drawn = d.ensures.count;
+      rows = rows_shifted o.result a.drawn d.result d.ensures.rows;
+    }
 
 pub outermost_of_sheet-size-requires-2 : goal.outermost_of_sheet-size-requires-2
 outermost_of_sheet-size-requires-2 c =
@@ -70,6 +75,11 @@ unfolding of_bits
 returns c =
     let a = c.args in
     let z = c.outermost_of_sheet-size-2 in
-    let o = c.outermost_of_sheet-o in record { page = (λ edges.
+    let o = c.outermost_of_sheet-o in record {
+      page = (λ edges.
           laid_is (sheet_in edges a.nodes a.drawn a.points.now a.counts.now a.taps.now) z.result (z.ensures ∙ size_is edges a.nodes a.drawn a.points.now a.counts.now a.taps.now)
-          ∙ page_still (sheet_in edges a.nodes a.drawn a.points.now a.counts.now a.taps.now) o.result (o.ensures ∙ least_corner edges a.nodes a.drawn a.points.now a.counts.now a.taps.now) c.if-o.false); nodes = refl; drawn = refl; rows = refl; }
+          ∙ page_still (sheet_in edges a.nodes a.drawn a.points.now a.counts.now a.taps.now) o.result (o.ensures ∙ least_corner edges a.nodes a.drawn a.points.now a.counts.now a.taps.now) c.if-o.false);
+      nodes = refl;
+      drawn = refl;
+      rows = refl;
+    }

@@ -29,4 +29,4 @@ returns c =
     let a = c.args in
     let l = c.loop-i in
     let h = c.loop-i-test.false in
-    record { rows = mapped_end (shifted_row a.o) a.drawn.rows l.rows l.i a.drawn.count (omega arith) l.invariant.4; count = refl; }
+    record { rows = mapped_end (shifted_row a.o) a.drawn.rows l.rows l.i a.drawn.count (omega arith) l.invariant.4; count = refl }

@@ -35,4 +35,4 @@ returns c =
     let a = c.args in
     let l = c.loop-i in
     let h = c.loop-i-test.false in
-    record { placed = (λ k m. l.invariant.4 k (omega arith)); kept = untouched_more a.points.now l.points a.start l.i a.count (omega arith) l.invariant.3; }
+    record { placed = (λ k m. l.invariant.4 k (omega arith)); kept = untouched_more a.points.now l.points a.start l.i a.count (omega arith) l.invariant.3 }

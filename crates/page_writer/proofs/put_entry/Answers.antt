@@ -11,4 +11,4 @@ parts_of-high-requires c = rw c.max.ensures c.requires.1.high
 pub returns : goal.returns
 returns c =
     let a = c.args in
-    record { bytes = entry_written a.w a.b _ _ a.at _ _ _ _ _ c.parts_of-x.ensures c.min.ensures c.parts_of-low.ensures c.max.ensures c.parts_of-high.ensures c.put_line.ensures; place = search rules; }
+    record { bytes = entry_written a.w a.b _ _ a.at _ _ _ _ _ c.parts_of-x.ensures c.min.ensures c.parts_of-low.ensures c.max.ensures c.parts_of-high.ensures c.put_line.ensures; place = search rules }

@@ -58,4 +58,4 @@ returns c =
     let r = rows (goal.at.returns c).Start in
     let z = nothing_left (bundle_line id_columns) a.t.rows a.t.count l.i (omega arith) (omega arith) in
     let y = ap length z in
-    record { bytes = ap (λ x. sets l.out l.at x) (sym z) ∙ l.invariant.3; place = omega arith; }
+    record { bytes = ap (λ x. sets l.out l.at x) (sym z) ∙ l.invariant.3; place = omega arith }

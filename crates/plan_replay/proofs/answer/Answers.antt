@@ -28,4 +28,4 @@ call-requires c =
     let long : length r.new.points ≡ point_numbers = r.auto.points ∙ c.requires.0 in
     let from = came r.result r.new.points _ r.ensures long (not-false r.result.ok c.if-not-r.false) in
     let size = sizes (goal.at.call-requires c).After-read_job-r in
-    record { sound = (tables_sound r.result.job _ from size, routes_in r.result.job _ from size); search_room = c.requires.1; }
+    record { sound = (tables_sound r.result.job _ from size, routes_in r.result.job _ from size); search_room = c.requires.1 }

@@ -7,4 +7,4 @@ use Rattle.plan_replay.proofs.put_bundles.Goals as goal
 
 pub put_members-at-requires : goal.put_members-at-requires
 put_members-at-requires c =
-    record { count_le_max_members = (c.requires.members_few, (c.requires.bundles_on c.loop-i.i c.loop-i-test.true).members_in); by_index = c.requires.edges_low; }
+    record { count_le_max_members = (c.requires.members_few, (c.requires.bundles_on c.loop-i.i c.loop-i-test.true).members_in); by_index = c.requires.edges_low }

@@ -7,4 +7,4 @@ use Rattle.plan_replay.proofs.put_divergences.Goals as goal
 
 pub divergence_at-d-requires : goal.divergence_at-d-requires
 divergence_at-d-requires c =
-    record { starts_len = c.requires.starts_len; inside = c.requires.inside; count_in_bounds = (c.requires.all_among.each c.loop-i.i c.loop-i-test.true).fits; }
+    record { starts_len = c.requires.starts_len; inside = c.requires.inside; count_in_bounds = (c.requires.all_among.each c.loop-i.i c.loop-i-test.true).fits }

@@ -35,15 +35,15 @@ module _ (s : Start) (starts counts edges lanes : List ℕ) (w : RowsOf s.args.j
 
 pub member_rows-requires : goal.member_rows-requires
 member_rows-requires c =
-    record { count_le_max_edges = (c.requires.sound.1.edges_few, c.requires.sound.0.members_few); by_index = c.requires.sound.1.members_on; clear = (laws.clear, laws.clear, refl, refl); }
+    record { count_le_max_edges = (c.requires.sound.1.edges_few, c.requires.sound.0.members_few); by_index = c.requires.sound.1.members_on; clear = (laws.clear, laws.clear, refl, refl) }
 
 pub reach_bundles-t-requires : goal.reach_bundles-t-requires
 reach_bundles-t-requires c =
     let w = c.member_rows.ensures in
-    record { sound = (c.requires.sound.0, w.told); inside = inside (goal.at.reach_bundles-t-requires c).Start _ _ _ _ w max_members; starts_len = (w.starts_long, w.counts_long); offsets_of = c.corridor_depth_offsets-offsets.ensures; }
+    record { sound = (c.requires.sound.0, w.told); inside = inside (goal.at.reach_bundles-t-requires c).Start _ _ _ _ w max_members; starts_len = (w.starts_long, w.counts_long); offsets_of = c.corridor_depth_offsets-offsets.ensures }
 
 pub put_reached-requires : goal.put_reached-requires
 put_reached-requires c =
     let w = c.member_rows.ensures in
     let t = c.reach_bundles-t in
-    record { searchable = record { paired = w.starts_long ∙ sym w.counts_long; windows = inside (goal.at.put_reached-requires c).Start _ _ _ _ w _; room = c.requires.search_room.0; scratch_room = c.requires.search_room.1 }; all_among = among (goal.at.put_reached-requires c).Start _ _ _ _ w t.result t.ensures.same; }
+    record { searchable = record { paired = w.starts_long ∙ sym w.counts_long; windows = inside (goal.at.put_reached-requires c).Start _ _ _ _ w _; room = c.requires.search_room.0; scratch_room = c.requires.search_room.1 }; all_among = among (goal.at.put_reached-requires c).Start _ _ _ _ w t.result t.ensures.same }

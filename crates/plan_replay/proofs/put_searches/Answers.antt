@@ -9,7 +9,7 @@ use Rattle.plan_replay.proofs.put_searches.Goals as goal
 pub search_between-s-requires : goal.search_between-s-requires
 search_between-s-requires c =
     let l = c.loop-i in
-    let p = c.requires.searchable in record { searchable = record { paired = p.paired; windows = p.windows; room = omega (arith, p.room, l.invariant.1); scratch_room = omega (arith, p.scratch_room, l.invariant.1, l.invariant.2) }; among = c.requires.all_among.each l.i c.loop-i-test.true; }
+    let p = c.requires.searchable in record { searchable = record { paired = p.paired; windows = p.windows; room = omega (arith, p.room, l.invariant.1); scratch_room = omega (arith, p.scratch_room, l.invariant.1, l.invariant.2) }; among = c.requires.all_among.each l.i c.loop-i-test.true }
 
 pub overflow_add-i : goal.overflow_add-i
 overflow_add-i c = let h = c.loop-i-test.true in let few = c.requires.all_among.bundles_few in search rules

@@ -33,4 +33,4 @@ returns c =
     let r = rows (goal.at.returns c).Start in
     let z = nothing_left row_bytes a.p.rows a.n l.i (omega arith) (omega arith) in
     let y = ap length z in
-    record { bytes = ap (λ x. sets l.out l.at x) (sym z) ∙ l.invariant.4; place = omega (arith, y, l.invariant.3); }
+    record { bytes = ap (λ x. sets l.out l.at x) (sym z) ∙ l.invariant.4; place = omega (arith, y, l.invariant.3) }

@@ -50,22 +50,26 @@ module _ (s : Start) (starts counts edges lanes : List ℕ) (w : RowsOf s.args.t
 
 pub member_rows-requires : goal.member_rows-requires
 member_rows-requires c =
-    record { count_le_max_edges = (c.requires.sound.1.edges_few, c.requires.sound.0.members_few); by_index = c.requires.sound.1.members_on; clear = (laws.clear, laws.clear, refl, refl); }
+    record { count_le_max_edges = (c.requires.sound.1.edges_few, c.requires.sound.0.members_few); by_index = c.requires.sound.1.members_on; clear = (laws.clear, laws.clear, refl, refl) }
 
 pub reach_bundles-t-requires : goal.reach_bundles-t-requires
 reach_bundles-t-requires c =
     let w = c.member_rows.ensures in
-    record { sound = (c.requires.sound.0, w.told); inside = inside (goal.at.reach_bundles-t-requires c).Start _ _ _ _ w max_members; starts_len = (w.starts_long, w.counts_long); offsets_of = c.requires.offsets_of; }
+    record { sound = (c.requires.sound.0, w.told); inside = inside (goal.at.reach_bundles-t-requires c).Start _ _ _ _ w max_members; starts_len = (w.starts_long, w.counts_long); offsets_of = c.requires.offsets_of }
 
 pub plan_reached-requires : goal.plan_reached-requires
 plan_reached-requires c =
     let a = c.args in
     let w = c.member_rows.ensures in
-    let t = c.reach_bundles-t in record { searchable = record { paired = w.starts_long ∙ sym w.counts_long; windows = inside (goal.at.plan_reached-requires c).Start _ _ _ _ w _; room = c.requires.search_room.0; scratch_room = c.requires.search_room.1 }; all_among = (among (goal.at.plan_reached-requires c).Start _ _ _ _ w t.result t.ensures.same, omega (arith, w.starts_long, w.edges_long)); worked = record {
-          board = board (goal.at.plan_reached-requires c).Start _ _ _ _ w;
-          given = given (goal.at.plan_reached-requires c).Start _ _ _ _ w;
-          told = rw (c.boundary_bundle_rail_depth-rail.ensures, c.pitch_of_sheet-pitch.ensures) (t.ensures.told (take a.table.count a.table.rows) (given (goal.at.plan_reached-requires c).Start _ _ _ _ w) (windowed (goal.at.plan_reached-requires c).Start _ _ _ _ w));
-        }; }
+    let t = c.reach_bundles-t in record {
+      searchable = record { paired = w.starts_long ∙ sym w.counts_long; windows = inside (goal.at.plan_reached-requires c).Start _ _ _ _ w _; room = c.requires.search_room.0; scratch_room = c.requires.search_room.1 };
+      all_among = (among (goal.at.plan_reached-requires c).Start _ _ _ _ w t.result t.ensures.same, omega (arith, w.starts_long, w.edges_long));
+      worked = record {
+        board = board (goal.at.plan_reached-requires c).Start _ _ _ _ w;
+        given = given (goal.at.plan_reached-requires c).Start _ _ _ _ w;
+        told = rw (c.boundary_bundle_rail_depth-rail.ensures, c.pitch_of_sheet-pitch.ensures) (t.ensures.told (take a.table.count a.table.rows) (given (goal.at.plan_reached-requires c).Start _ _ _ _ w) (windowed (goal.at.plan_reached-requires c).Start _ _ _ _ w));
+      };
+    }
 
 pub returns : goal.returns
 returns c =

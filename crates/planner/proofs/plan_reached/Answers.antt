@@ -15,7 +15,7 @@ settle_components-s-requires c =
     let a = c.args in
     let p = c.requires.searchable in
     let w = c.requires.worked in
-    let f = c.first_pass-ranges in record { searchable = record { paired = p.paired; windows = p.windows; room = omega (arith, p.room, f.auto.xs); scratch_room = omega (arith, p.scratch_room, f.auto.xs, f.auto.scratch) }; all_among = c.requires.all_among.0; ranges_among = laws.fits w.board w.given a.points.now a.starts.now a.counts.now a.edges.now a.rail a.pitch a.t w.told f.result a.granted.0 (f.ensures w.board w.given w.told) c.requires.all_among.0 c.requires.all_among.1; }
+    let f = c.first_pass-ranges in record { searchable = record { paired = p.paired; windows = p.windows; room = omega (arith, p.room, f.auto.xs); scratch_room = omega (arith, p.scratch_room, f.auto.xs, f.auto.scratch) }; all_among = c.requires.all_among.0; ranges_among = laws.fits w.board w.given a.points.now a.starts.now a.counts.now a.edges.now a.rail a.pitch a.t w.told f.result a.granted.0 (f.ensures w.board w.given w.told) c.requires.all_among.0 c.requires.all_among.1 }
 
 pub returns-then-s : goal.returns-then-s
 returns-then-s c =
@@ -41,7 +41,7 @@ separate-q-requires c =
     let p = c.requires.searchable in
     let w = c.requires.worked in
     let g = c.settle_components-s in
-    let f = c.first_pass-ranges in record { searchable = record { paired = p.paired; windows = p.windows; room = omega (arith, p.room, f.auto.xs, g.auto.xs); scratch_room = omega (arith, p.scratch_room, f.auto.xs, f.auto.scratch, g.auto.xs, g.auto.scratch) }; ranges_fit = laws.ranges_fit w.board w.given a.points.now a.starts.now a.counts.now a.edges.now a.rail a.pitch a.t w.told f.result a.granted.0 (f.ensures w.board w.given w.told) c.requires.all_among.0; }
+    let f = c.first_pass-ranges in record { searchable = record { paired = p.paired; windows = p.windows; room = omega (arith, p.room, f.auto.xs, g.auto.xs); scratch_room = omega (arith, p.scratch_room, f.auto.xs, f.auto.scratch, g.auto.xs, g.auto.scratch) }; ranges_fit = laws.ranges_fit w.board w.given a.points.now a.starts.now a.counts.now a.edges.now a.rail a.pitch a.t w.told f.result a.granted.0 (f.ensures w.board w.given w.told) c.requires.all_among.0 }
 
 pub returns : goal.returns
 returns c =

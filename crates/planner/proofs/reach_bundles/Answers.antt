@@ -35,13 +35,13 @@ pub bundle_ends-ends-requires : goal.bundle_ends-ends-requires
 bundle_ends-ends-requires c = laws.standing c.args.nodes c.args.ports c.args.bundles c.args.members c.requires.sound.0
 
 pub fallback_corridors_by_edge-requires : goal.fallback_corridors_by_edge-requires
-fallback_corridors_by_edge-requires c = record { all_below = (edges_below (goal.at.fallback_corridors_by_edge-requires c).Start, lanes_below (goal.at.fallback_corridors_by_edge-requires c).Start); marks_len = (refl, refl); }
+fallback_corridors_by_edge-requires c = record { all_below = (edges_below (goal.at.fallback_corridors_by_edge-requires c).Start, lanes_below (goal.at.fallback_corridors_by_edge-requires c).Start); marks_len = (refl, refl) }
 
 pub fallback_corridors_by_edge-requires-2 : goal.fallback_corridors_by_edge-requires-2
-fallback_corridors_by_edge-requires-2 c = record { all_below = (edges_below (goal.at.fallback_corridors_by_edge-requires-2 c).Start, lanes_below (goal.at.fallback_corridors_by_edge-requires-2 c).Start); marks_len = (refl, refl); }
+fallback_corridors_by_edge-requires-2 c = record { all_below = (edges_below (goal.at.fallback_corridors_by_edge-requires-2 c).Start, lanes_below (goal.at.fallback_corridors_by_edge-requires-2 c).Start); marks_len = (refl, refl) }
 
 pub reaches-requires : goal.reaches-requires
-reaches-requires c = record { all_below = (edges_below (goal.at.reaches-requires c).Start, c.requires.inside); starts_len = c.requires.starts_len; }
+reaches-requires c = record { all_below = (edges_below (goal.at.reaches-requires c).Start, c.requires.inside); starts_len = c.requires.starts_len }
 
 pub returns : goal.returns
 unfolding of_bits
@@ -50,10 +50,13 @@ returns c =
     let e = c.bundle_ends-ends in
     let i = c.fallback_corridors_by_edge in
     let o = c.fallback_corridors_by_edge-2 in
-    let r = c.reaches.ensures in record { told = λ table given w.
+    let r = c.reaches.ensures in record {
+      told = λ table given w.
           let b : Board = board_of a.o a.nodes a.ports table a.bundles a.members in
           let rowed = laws.rowed a.nodes a.ports a.bundles a.members c.requires.sound.0 a.edges.now a.lanes.now c.requires.sound.1 a.o table (members_in (goal.at.returns c).Start) in
           let ended = laws.ended a.nodes a.ports a.bundles a.members c.requires.sound.0 a.edges.now a.lanes.now c.requires.sound.1 a.o table (members_in (goal.at.returns c).Start) e.result.rows e.ensures in
           r.told b given a.lanes.now ended rowed w
           (record { are = λ n. i.ensures b n rowed ended ∙ none_marked max_edges (replicate max_edges zero64) n _ ∙ ap (λ (l : List Float). corridor_from b Input n b.bundles l) (c.requires.offsets_of table) })
-          (record { are = λ n. o.ensures b n rowed ended ∙ none_marked max_edges (replicate max_edges zero64) n _ ∙ ap (λ (l : List Float). corridor_from b Output n b.bundles l) (c.requires.offsets_of table) }); same = r.same; }
+          (record { are = λ n. o.ensures b n rowed ended ∙ none_marked max_edges (replicate max_edges zero64) n _ ∙ ap (λ (l : List Float). corridor_from b Output n b.bundles l) (c.requires.offsets_of table) });
+      same = r.same;
+    }

@@ -79,8 +79,11 @@ returns c =
     let a = c.args in
     let l = c.loop-i in
     let e : l.i ≡ a.bundles.count = omega (arith, c.loop-i-test.false, l.invariant.0) in
-    let k = bundles-length (goal.at.returns c).Start in record { told = λ b given lanes n w q i o.
+    let k = bundles-length (goal.at.returns c).Start in record {
+      told = λ b given lanes n w q i o.
           record {
             bundles_are = n.bundles_are ∙ laws.same_rows a.bundles.count a.bundles.rows l.rows (omega (arith, c.requires.all_below.0.bundles_few)) (omega (arith, c.requires.all_below.0.bundles_few, l.invariant.1)) (λ j h. l.invariant.2 j (omega (arith, h, e)));
             each = λ j h. l.invariant.3 j (omega (arith, h, e)) b given lanes n w q i o;
-          }; same = record { as_many = refl; bundle_is = λ j h. l.invariant.2 j (omega (arith, h, e)) }; }
+          };
+      same = record { as_many = refl; bundle_is = λ j h. l.invariant.2 j (omega (arith, h, e)) };
+    }

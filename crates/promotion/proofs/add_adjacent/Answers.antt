@@ -62,7 +62,7 @@ pub common_horizontal_collector_xs-g-requires : goal.common_horizontal_collector
 common_horizontal_collector_xs-g-requires c =
     let h = c.requires.counts_in_bounds in
     let e = parts.back_length c.args.xs.now c.args.n (omega arith) in
-    record { windows = c.requires.windows; counts_in_bounds = omega arith; counts_in_bounds_2 = omega (arith, c.requires.counts_in_bounds_2); }
+    record { windows = c.requires.windows; counts_in_bounds = omega arith; counts_in_bounds_2 = omega (arith, c.requires.counts_in_bounds_2) }
 
 pub overflow_add-both : goal.overflow_add-both
 overflow_add-both c =

@@ -13,7 +13,7 @@ use Rattle.promotion.proofs.promotion_candidates.Goals as goal
 
 pub common_horizontal_collector_xs-g-requires : goal.common_horizontal_collector_xs-g-requires
 common_horizontal_collector_xs-g-requires c =
-    record { windows = c.requires.windows; counts_in_bounds = omega (arith, c.requires.counts_in_bounds); counts_in_bounds_2 = c.requires.counts_in_bounds_2; }
+    record { windows = c.requires.windows; counts_in_bounds = omega (arith, c.requires.counts_in_bounds); counts_in_bounds_2 = c.requires.counts_in_bounds_2 }
 
 pub add_adjacent-requires : goal.add_adjacent-requires
 add_adjacent-requires c =
@@ -23,7 +23,7 @@ add_adjacent-requires c =
     let n = c.in-All.n in
     let w = parts.count_within x.result n c.in-All.left _ c.in-All.is x.ensures.within in
     let h : n ≤ length x.new.xs = omega (arith, x.auto.xs) in
-    record { windows = c.requires.windows; counts_in_bounds = omega (arith, parts.count_few a.role a.b ms a.granted.0 x.result x.new.xs n c.in-All.left c.in-All.is h x.ensures.are, x.auto.xs, c.requires.counts_in_bounds); counts_in_bounds_2 = omega (arith, x.auto.xs, x.auto.scratch, c.requires.counts_in_bounds_2); }
+    record { windows = c.requires.windows; counts_in_bounds = omega (arith, parts.count_few a.role a.b ms a.granted.0 x.result x.new.xs n c.in-All.left c.in-All.is h x.ensures.are, x.auto.xs, c.requires.counts_in_bounds); counts_in_bounds_2 = omega (arith, x.auto.xs, x.auto.scratch, c.requires.counts_in_bounds_2) }
 
 pub returns-in-Spent : goal.returns-in-Spent
 returns-in-Spent c =

@@ -20,7 +20,7 @@ returns-then-not-windows_fit c =
     let unfit = sym c.windows_fit.ensures ∙ not-true c.windows_fit.result (ap not c.if-not-windows_fit.true) in
     let parts = laws.search_carried a.xs.now a.candidates.now a.scratch.now a.counts.now a.role a.granted g.result _ _ _ a.points.now (plus_zeros a.points.now) a.starts.now a.starts.now _ _ _ _ _ _ _ _
     c.plus_zero-lane.ensures c.plus_zero-low.ensures c.plus_zero-near.ensures c.plus_zero-high.ensures
-    (laws.unfit_call a.points.now a.starts.now a.counts.now a.role _ a.granted unfit) (g.ensures.replied, g.ensures.untouched) in record { replied = parts.0; untouched = parts.1; }
+    (laws.unfit_call a.points.now a.starts.now a.counts.now a.role _ a.granted unfit) (g.ensures.replied, g.ensures.untouched) in record { replied = parts.0; untouched = parts.1 }
 
 fit : (e : Else-not-windows_fit) → let a = e.args in Fitting a.points.now a.starts.now a.counts.now
 fit e =
@@ -34,7 +34,7 @@ pub slice_bounds-copy_routes-end-2 : goal.slice_bounds-copy_routes-end-2
 slice_bounds-copy_routes-end-2 c = sym (length-take-le _ _ (fit (goal.at.slice_bounds-copy_routes-end-2 c).Else-not-windows_fit).few)
 
 pub copy_routes-requires : goal.copy_routes-requires
-copy_routes-requires c = let f = fit (goal.at.copy_routes-requires c).Else-not-windows_fit in record { fitting = f; copy_len = (refl, length-take-le _ _ f.few); }
+copy_routes-requires c = let f = fit (goal.at.copy_routes-requires c).Else-not-windows_fit in record { fitting = f; copy_len = (refl, length-take-le _ _ f.few) }
 
 -- the rows as they were written
 front : (k : After-copy_routes) → laws.Front (length k.args.starts.now) (replicate 64 0) k.copy_routes.new.rows
@@ -56,4 +56,4 @@ returns c =
     let copied = laws.copied_call a.points.now a.starts.now a.counts.now copy rows a.role _ a.granted c.copy_routes.ensures f.size (fit (goal.at.returns c).Else-not-windows_fit) c.copy_routes.auto.copy in
     let parts = laws.search_carried a.xs.now a.candidates.now a.scratch.now a.counts.now a.role a.granted g.result _ _ _ copy (plus_zeros a.points.now) _ a.starts.now _ _ _ _ _ _ _ _
     c.plus_zero-lane.ensures c.plus_zero-low.ensures c.plus_zero-near.ensures c.plus_zero-high.ensures
-    (subst (λ (l : List ℕ). laws.SameCall copy (plus_zeros a.points.now) l a.starts.now a.counts.now a.role c.plus_zero-lane.result a.granted) (sym f.is) copied) (g.ensures.replied, g.ensures.untouched) in record { replied = parts.0; untouched = parts.1; }
+    (subst (λ (l : List ℕ). laws.SameCall copy (plus_zeros a.points.now) l a.starts.now a.counts.now a.role c.plus_zero-lane.result a.granted) (sym f.is) copied) (g.ensures.replied, g.ensures.untouched) in record { replied = parts.0; untouched = parts.1 }

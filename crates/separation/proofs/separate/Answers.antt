@@ -33,7 +33,7 @@ pub beside_planned-r-requires : goal.beside_planned-r-requires
 beside_planned-r-requires c =
     let l = c.loop-i in
     let p = c.requires.searchable in
-    let few = c.lanes_of-taken.ensures.few l.i l.invariant.4 l.invariant.5 in record { searchable = record { paired = p.paired; windows = p.windows; room = omega (arith, p.room, l.invariant.2); scratch_room = omega (arith, p.scratch_room, l.invariant.2, l.invariant.3) }; among = c.requires.ranges_fit.each l.i c.loop-i-test.true; count_in_bounds = omega (arith, few, c.lanes_of-taken.ensures.size, c.loop-i-test.true, c.requires.ranges_fit.bundles_few); }
+    let few = c.lanes_of-taken.ensures.few l.i l.invariant.4 l.invariant.5 in record { searchable = record { paired = p.paired; windows = p.windows; room = omega (arith, p.room, l.invariant.2); scratch_room = omega (arith, p.scratch_room, l.invariant.2, l.invariant.3) }; among = c.requires.ranges_fit.each l.i c.loop-i-test.true; count_in_bounds = omega (arith, few, c.lanes_of-taken.ensures.size, c.loop-i-test.true, c.requires.ranges_fit.bundles_few) }
 
 pub slice_bounds-if_clear-end : goal.slice_bounds-if_clear-end
 slice_bounds-if_clear-end c = let n = c.lanes_of-taken.ensures.size in search rules

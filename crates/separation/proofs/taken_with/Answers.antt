@@ -15,4 +15,4 @@ returns c =
     let a = c.args in
     let one : a.t.count + 1 ≡ suc a.t.count = omega arith in
     let n : length a.t.xs ≡ max_bundles = search rules in
-    record { told = ap (λ (k : ℕ). take k (set a.t.xs a.t.count a.x)) one ∙ take-suc-set a.t.xs a.t.count a.x (omega (arith, n, c.requires)); one = refl; }
+    record { told = ap (λ (k : ℕ). take k (set a.t.xs a.t.count a.x)) one ∙ take-suc-set a.t.xs a.t.count a.x (omega (arith, n, c.requires)); one = refl }

@@ -31,9 +31,12 @@ pub draw_in-requires : goal.draw_in-requires
 draw_in-requires c =
     let fits = c.requires.0.fits in
     let h = fits.edges in
-    let slots : slot_numbers * c.args.j.edges.count ≤ all_slot_numbers = omega (arith, h) in record { came = c.requires; lent = record {
+    let slots : slot_numbers * c.args.j.edges.count ≤ all_slot_numbers = omega (arith, h) in record {
+      came = c.requires;
+      lent = record {
         edges_long = length-take-le _ _ fits.members;
         lanes_long = length-take-le _ _ fits.members;
         counts_long = length-take-le _ _ fits.edges;
         room = laws.room_for _ _ _ _ _ _ _ fits.members fits.edges refl slots (length-take-le _ _ fits.edges) refl refl;
-      }; }
+      };
+    }

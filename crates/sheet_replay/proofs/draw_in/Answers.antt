@@ -27,10 +27,10 @@ pub draw_sheet-d-requires : goal.draw_sheet-d-requires
 draw_sheet-d-requires c =
     let a = c.args in
     let lent = c.requires.lent in
-    record { tables = (tables_sound a.j a.given.now c.requires.came.0 (sizes (goal.at.draw_sheet-d-requires c).Start), routes_in a.j a.given.now c.requires.came.0 (sizes (goal.at.draw_sheet-d-requires c).Start)); once = (ready.follow a.j a.given.now c.requires.came.0 (sizes (goal.at.draw_sheet-d-requires c).Start), ready.once_a_role a.j a.given.now c.requires.came.0 (sizes (goal.at.draw_sheet-d-requires c).Start)); exact = (lent.edges_long, lent.lanes_long, lent.counts_long); room = lent.room; }
+    record { tables = (tables_sound a.j a.given.now c.requires.came.0 (sizes (goal.at.draw_sheet-d-requires c).Start), routes_in a.j a.given.now c.requires.came.0 (sizes (goal.at.draw_sheet-d-requires c).Start)); once = (ready.follow a.j a.given.now c.requires.came.0 (sizes (goal.at.draw_sheet-d-requires c).Start), ready.once_a_role a.j a.given.now c.requires.came.0 (sizes (goal.at.draw_sheet-d-requires c).Start)); exact = (lent.edges_long, lent.lanes_long, lent.counts_long); room = lent.room }
 
 pub put_pages-requires : goal.put_pages-requires
 put_pages-requires c =
     let a = c.args in
     let d = c.draw_sheet-d in
-    record { on_sheet = laws.on_sheet a.j a.given.now c.requires.came.0 (sizes (goal.at.put_pages-requires c).Start) _ _ _ _ _ _ _ c.requires.lent d.result.verdict d.result.drawn d.new.edges d.new.lanes d.new.taps d.new.points d.new.counts d.auto.taps d.auto.points d.auto.counts _ c.in-Clean.is d.ensures.members d.ensures.rows d.ensures.full d.ensures.hold; any_answer_room_in_bounds = c.requires.came.1; }
+    record { on_sheet = laws.on_sheet a.j a.given.now c.requires.came.0 (sizes (goal.at.put_pages-requires c).Start) _ _ _ _ _ _ _ c.requires.lent d.result.verdict d.result.drawn d.new.edges d.new.lanes d.new.taps d.new.points d.new.counts d.auto.taps d.auto.points d.auto.counts _ c.in-Clean.is d.ensures.members d.ensures.rows d.ensures.full d.ensures.hold; any_answer_room_in_bounds = c.requires.came.1 }

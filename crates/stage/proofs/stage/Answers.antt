@@ -18,4 +18,4 @@ returns c =
     let b = e.answer ∙ ap (sets a.answer.now 0) w in
     let n = e.count ∙ ap length w in
     let turns = w ∙ sym (stage_in_turn a.job.now (length a.answer.now)) in
-    record { buffer = b; count = n; in_turn = e.answer ∙ ap (sets a.answer.now 0) turns; demand = f.demand; in_answer = f.in_answer; on_grid = grid_in a.job.now a.answer.now _ _ b n; in_answer_on_grid = f.in_answer_on_grid; crossings_on_sheet = laws.own_crossings a.job.now _ _ e.crossings_on_sheet; }
+    record { buffer = b; count = n; in_turn = e.answer ∙ ap (sets a.answer.now 0) turns; demand = f.demand; in_answer = f.in_answer; on_grid = grid_in a.job.now a.answer.now _ _ b n; in_answer_on_grid = f.in_answer_on_grid; crossings_on_sheet = laws.own_crossings a.job.now _ _ e.crossings_on_sheet }

@@ -16,4 +16,4 @@ returns c =
     let b = e.answer ∙ ap (sets a.answer.now 0) w in
     let n = e.count ∙ ap length w in
     let f = promised_in_from a.job.now a.plan.now a.answer.now _ _ b n in
-    record { buffer = b; count = n; demand = f.demand; in_answer = f.in_answer; on_grid = f.on_grid; in_answer_on_grid = f.in_answer_on_grid; crossings_on_sheet = laws.plan_crossings a.job.now a.plan.now _ e.crossings_on_sheet; }
+    record { buffer = b; count = n; demand = f.demand; in_answer = f.in_answer; on_grid = f.on_grid; in_answer_on_grid = f.in_answer_on_grid; crossings_on_sheet = laws.plan_crossings a.job.now a.plan.now _ e.crossings_on_sheet }

@@ -9,10 +9,10 @@ pub returns-then-plan-lt-PLAN_ROOM : goal.returns-then-plan-lt-PLAN_ROOM
 returns-then-plan-lt-PLAN_ROOM c =
     let a = c.args in
     let p = phases.short_plan a.job.now a.plan.now c.if-plan-lt-PLAN_ROOM.true in
-    record { buffer = p.0; count = p.1; there = plan_there a.job.now a.plan.now _ _ p.0 p.1; }
+    record { buffer = p.0; count = p.1; there = plan_there a.job.now a.plan.now _ _ p.0 p.1 }
 
 pub returns : goal.returns
 returns c =
     let a = c.args in
     let p = phases.whole_plan a.job.now a.plan.now _ _ (omega (arith, c.if-plan-lt-PLAN_ROOM.false)) c.read_and_plan.ensures in
-    record { buffer = p.0; count = p.1; there = plan_there a.job.now a.plan.now _ _ p.0 p.1; }
+    record { buffer = p.0; count = p.1; there = plan_there a.job.now a.plan.now _ _ p.0 p.1 }

@@ -27,7 +27,7 @@ returns-then-not-rewrite_member_routes c =
     let f = c.rewrite_member_routes in
     let p = c.pitch_of_bundle-pitch in
     let g = c.build_geometry-d in
-    let e = rw p.ensures at f.ensures.told in record { told = (λ b s. turn_off b a.allow a.o a.boxes.now a.ends.now a.u a.end a.planned a.offset a.edges.now a.lanes.now g.result _ (routes_of a.points.now a.counts.now) s g.ensures.row (g.ensures.drawn b s.seen) _ _ _ _ a.visits f.result (not-true f.result (ap not c.if-not-rewrite_member_routes.true)) e); row = g.ensures.row; hold = f.ensures.hold; longer = longer_refused 10 a.visits _ _ _; }
+    let e = rw p.ensures at f.ensures.told in record { told = (λ b s. turn_off b a.allow a.o a.boxes.now a.ends.now a.u a.end a.planned a.offset a.edges.now a.lanes.now g.result _ (routes_of a.points.now a.counts.now) s g.ensures.row (g.ensures.drawn b s.seen) _ _ _ _ a.visits f.result (not-true f.result (ap not c.if-not-rewrite_member_routes.true)) e); row = g.ensures.row; hold = f.ensures.hold; longer = longer_refused 10 a.visits _ _ _ }
 
 pub verify_bundle-v-requires : goal.verify_bundle-v-requires
 verify_bundle-v-requires c =
@@ -60,4 +60,4 @@ returns c =
     let p = c.pitch_of_bundle-pitch in
     let g = c.build_geometry-d in
     let e = rw p.ensures at f.ensures.told in
-    let d = not-false f.result (ap not c.if-not-rewrite_member_routes.false) in record { told = (λ b s. turn_on b a.allow a.o a.boxes.now a.ends.now a.u a.end a.planned a.offset a.edges.now a.lanes.now g.result _ (routes_of a.points.now a.counts.now) s g.ensures.row (g.ensures.drawn b s.seen) a.taps.now (take a.priors.count a.priors.rows) a.visits.0 _ _ g.ensures.kept c.requires.1.earlier v.result f.result d e v.ensures); row = g.ensures.row; hold = f.ensures.hold; longer = longer_made v.result _ _ _ _ _ _ _ _ _ _ f.result d e; }
+    let d = not-false f.result (ap not c.if-not-rewrite_member_routes.false) in record { told = (λ b s. turn_on b a.allow a.o a.boxes.now a.ends.now a.u a.end a.planned a.offset a.edges.now a.lanes.now g.result _ (routes_of a.points.now a.counts.now) s g.ensures.row (g.ensures.drawn b s.seen) a.taps.now (take a.priors.count a.priors.rows) a.visits.0 _ _ g.ensures.kept c.requires.1.earlier v.result f.result d e v.ensures); row = g.ensures.row; hold = f.ensures.hold; longer = longer_made v.result _ _ _ _ _ _ _ _ _ _ f.result d e }

@@ -164,11 +164,16 @@ returns-in-Refused c =
     let end = c.point_at-end in
     let p = c.planned_of-x in
     let r = split (goal.at.returns-in-Refused c).Start l.i h (take l.drawn.count l.drawn.rows) a.edges.now a.lanes.now l.counts l.invariant.7 in
-    let count = l.invariant.1 in record { told = (λ b s.
+    let count = l.invariant.1 in record {
+      told = (λ b s.
           sheet_off b a.allow (turn-here (goal.at.returns-in-Refused c).Start l.i h) (turns-later (goal.at.returns-in-Refused c).Start l.i h) (standing (routes_of l.points l.counts) (map (drawn_of a.edges.now l.taps) (take l.drawn.count l.drawn.rows)) l.left.0) f.result.verdict _ _
           (f.ensures.told b (faces (this (goal.at.returns-in-Refused c).Start l.i h) (later (goal.at.returns-in-Refused c).Start l.i h) (take l.drawn.count l.drawn.rows) a.edges.now a.lanes.now l.counts r b a.o a.boxes.now a.ends.now a.spots.now a.bundles end.result s (s.stand l.i h ∙ sym end.ensures)) ∙ ap (λ (x : Bound). turn b a.allow (turn_of (this (goal.at.returns-in-Refused c).Start l.i h) x (get_or a.offsets.rows l.i nan)) (standing (routes_of l.points l.counts) (map (drawn_of a.edges.now l.taps) (take l.drawn.count l.drawn.rows)) l.left.0)) p.ensures) _ _ _ _ c.in-Refused.is
           ∙ ap (λ (ts : List Turn). sheet_of b a.allow ts (standing (routes_of l.points l.counts) (map (drawn_of a.edges.now l.taps) (take l.drawn.count l.drawn.rows)) l.left.0)) (sym (turns-are (goal.at.returns-in-Refused c).Start l.i h))
-          ∙ l.invariant.9 b s); rows = l.invariant.8; full = full_off _ _ l.drawn.count a.bundles.count (omega (arith, count, h)); hold = f.ensures.hold; }
+          ∙ l.invariant.9 b s);
+      rows = l.invariant.8;
+      full = full_off _ _ l.drawn.count a.bundles.count (omega (arith, count, h));
+      hold = f.ensures.hold;
+    }
 
 pub offset_bounds-drawn-k : goal.offset_bounds-drawn-k
 offset_bounds-drawn-k c =
@@ -237,6 +242,11 @@ returns c =
     let count = l.invariant.1 in
     let least = l.invariant.0 in
     let long = bundles-length (goal.at.returns c).Start in
-    let few = c.requires.tables.0 in record { told = (λ b s.
+    let few = c.requires.tables.0 in record {
+      told = (λ b s.
           sheet_end b a.allow l.left _ _ (turns_at a.bundles.rows a.plan a.offsets.rows a.bundles.count l.i) (turns_end a.bundles.rows a.plan a.offsets.rows a.bundles.count l.i (omega (arith, h)) (omega (arith, long, few)))
-          ∙ l.invariant.9 b s); rows = l.invariant.8; full = full_on l.left l.drawn.count a.bundles.count (omega (arith, count, least, h)); hold = l.invariant.7.hold; }
+          ∙ l.invariant.9 b s);
+      rows = l.invariant.8;
+      full = full_on l.left l.drawn.count a.bundles.count (omega (arith, count, least, h));
+      hold = l.invariant.7.hold;
+    }

@@ -92,7 +92,7 @@ draw_bundles-requires c =
     let cut = length-take-le (2 * a.table.count) r.new.ends room in
     let places = w.places in
     let slots = w.slots in
-    let masked = w.masked in record { tables = (bundles, omega (arith, ks, bundles), omega (arith, kc, k, cut)); lists = lists _ _ a.members.rows a.members.count (omega (arith, long, few)) (omega (arith, ke, e)) m.ensures (take a.bundles.count a.bundles.rows) _ (omega (arith, kl, l)) (λ i h. let z = g.members_on i h in omega (arith, z, kc, k)) s.lanes_few o.0 o.1; room = (record { places = omega (arith, ke, e, places); slots = omega (arith, kp, kc, slots); masked = omega (arith, kc, masked); spare = w.spare }, r.ensures.short); }
+    let masked = w.masked in record { tables = (bundles, omega (arith, ks, bundles), omega (arith, kc, k, cut)); lists = lists _ _ a.members.rows a.members.count (omega (arith, long, few)) (omega (arith, ke, e)) m.ensures (take a.bundles.count a.bundles.rows) _ (omega (arith, kl, l)) (λ i h. let z = g.members_on i h in omega (arith, z, kc, k)) s.lanes_few o.0 o.1; room = (record { places = omega (arith, ke, e, places); slots = omega (arith, kp, kc, slots); masked = omega (arith, kc, masked); spare = w.spare }, r.ensures.short) }
 
 pub shape_of-edges : goal.shape_of-edges
 shape_of-edges c =
@@ -136,7 +136,8 @@ returns c =
     let long-table = table-length (goal.at.returns c).Start in
     let edges = c.requires.tables.1.edges_few in
     let h : a.nodes.count ≤ length a.nodes.rows = omega (arith, long-nodes, nodes) in
-    let b = board_of a.o a.nodes a.ports (take a.table.count a.table.rows) a.bundles a.members in record { told = f.ensures.told b (
+    let b = board_of a.o a.nodes a.ports (take a.table.count a.table.rows) a.bundles a.members in record {
+      told = f.ensures.told b (
           record {
             options = refl;
             sliced = sliced a.o a.nodes a.ports a.table a.bundles a.members s n.new.boxes p.new.spots r.new.ends h n.ensures (omega (arith, kn, nodes)) (omega (arith, long-table, edges)) (omega (arith, kr, edges)) r.ensures.ends;
@@ -144,4 +145,9 @@ returns c =
             members = members_are _ _ a.members.rows a.members.count (omega (arith, long, few)) (omega (arith, ke, e)) m.ensures;
           }
           )
-          ∙ ap (λ (rs : List Route). sheet_of b a.allow (turns_from (take a.bundles.count a.bundles.rows) (map x_of (take a.bundles.count a.plan)) (take a.bundles.count a.offsets.rows)) (blank rs a.granted.0)) r.ensures.routes; members = m.ensures; rows = f.ensures.rows; full = f.ensures.full; hold = f.ensures.hold; }
+          ∙ ap (λ (rs : List Route). sheet_of b a.allow (turns_from (take a.bundles.count a.bundles.rows) (map x_of (take a.bundles.count a.plan)) (take a.bundles.count a.offsets.rows)) (blank rs a.granted.0)) r.ensures.routes;
+      members = m.ensures;
+      rows = f.ensures.rows;
+      full = f.ensures.full;
+      hold = f.ensures.hold;
+    }

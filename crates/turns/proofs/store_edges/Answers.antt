@@ -122,4 +122,4 @@ returns c =
     let b = l.invariant.0 in
     let e = c.requires.2 in
     let lc = l.invariant.2 in
-    record { ends = (λ k x. l.invariant.6 k (omega (arith, h, x))); routes = fill_end a.given.now a.table.rows l.points l.counts l.i a.table.count (omega (arith, b, h)) (omega (arith, lc, e)) l.invariant.4; short = short_all l.counts l.i (omega (arith, lc, e, h)) l.invariant.3; }
+    record { ends = (λ k x. l.invariant.6 k (omega (arith, h, x))); routes = fill_end a.given.now a.table.rows l.points l.counts l.i a.table.count (omega (arith, b, h)) (omega (arith, lc, e)) l.invariant.4; short = short_all l.counts l.i (omega (arith, lc, e, h)) l.invariant.3 }
