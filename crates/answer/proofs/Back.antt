@@ -1,12 +1,12 @@
 -- An answer read back: the sheet that was written. So an answer has one meaning. Assumes nothing.
-use Rattle.std.specs.Prelude.{ℕ, zero, suc, ◌+◌, ◌*◌, ◌^◌, ◌≤◌, ◌<◌, ◌≡◌, refl, Bool, true, false, cond, List, [], ◌∷◌, ◌++◌, T, eqb, Float, length, take, drop}
-use Rattle.std.proofs.Common.{sym, ap, ◌∙◌, append_assoc, append-nil, arith, length-append, take_at, drop_at, le-leb, eq-eqb}
+use Rattle.std.specs.Prelude.{ℕ, ◌^◌, ◌≤◌, ◌<◌, ◌≡◌, refl, Bool, true, false, List, [], ◌∷◌, ◌++◌, T, eqb, Float, length}
+use Rattle.std.proofs.Common.{append_assoc, arith, length-append, take_at, drop_at, le-leb}
 use Rattle.std.specs.Float.{binary64}
 use Rattle.std.specs.Float.Ieee.{fits, to_bits, of_bits}
 use Rattle.std.specs.Float.Ieee.Bits.{of_bits-to_bits, to_bits-lt}
-use Rattle.wire.specs.Bytes.{number, bytes, number_bytes}
+use Rattle.wire.specs.Bytes.{bytes, number_bytes}
 use Rattle.wire.proofs.BytesLaws.{bytes_length, number_back}
-use Rattle.wire.specs.Read.{Read, refused, got, Reader, after, read, give, field, list_of}
+use Rattle.wire.specs.Read.{got, Reader, after, read, give, field, list_of}
 use Rattle.wire.proofs.All.{All}
 use Rattle.geometry.specs.declared.Point.{Point}
 use Rattle.geometry.specs.declared.Segment.{Segment}

@@ -1,11 +1,12 @@
 -- Runs of stores one behind the other, and the lengths of what is written. Assumes nothing.
-use Rattle.std.specs.Prelude.{ℕ, zero, suc, ◌+◌, ◌*◌, ◌-◌, ◌≤◌, ◌<◌, ◌≡◌, refl, Bool, true, false, List, [], ◌∷◌, ◌++◌, map, Float, take, drop, get_or, set}
-use Rattle.std.proofs.Common.{sym, ◌∙◌, append-nil, append_assoc, length-drop, drop_of_length-le, get_or-take, length-take-le, take-take, take-add, drop_at}
+use Rattle.std.specs.Int.{from_bool}
+use Rattle.std.specs.Prelude.{ℕ, suc, ◌+◌, ◌*◌, ◌-◌, ◌/◌, ◌%◌, ◌≤◌, ◌<◌, ◌≡◌, refl, Bool, true, false, List, [], ◌∷◌, ◌++◌, map, Float, take, drop, get_or, set}
+use Rattle.std.proofs.Common.{sym, ◌∙◌, length-drop, drop_of_length-le, get_or-take, length-take-le, take-take, take-add, drop_at}
 use Rattle.std.proofs.Math.Path.{ap}
 use native.Mathlib.Omega.{arith}
 use Rattle.std.proofs.Math.Numerals.{add-one}
 use Rattle.std.proofs.Math.ListN.{length, length-append}
-use Rattle.std.proofs.lemmas.List.{length-map, set_comm}
+use Rattle.std.proofs.lemmas.List.{set_comm}
 use Rattle.std.proofs.Math.Seq.{sets, drop-cons}
 use Rattle.limits.specs.Limits.{max_nodes, max_edges, max_bundles, max_members, slot_points, max_drawn_points, largest_answer}
 use Rattle.wire.specs.Bytes.{bytes, number_bytes}
@@ -19,8 +20,9 @@ use Rattle.board.specs.Board.{taps_of}
 use Rattle.geometry.specs.Points.{point_at, points_from}
 use Rattle.route.specs.Window.{points_next, points_none, points_length}
 use Rattle.route.specs.Slots.{routes_from}
-use Rattle.answer.specs.Answer.{Spot, Line, Trunk, Sheet, all_bytes, point_bytes, segment_bytes, spot_bytes, line_bytes, tap_bytes, mark, trunk_head, trunk_bytes, counts_bytes, head_bytes, body_bytes, answer_bytes, notice_bytes, lines_of, trunk_of}
-use Rattle.answer.specs.SheetTables.{drawn_bytes}
+use Rattle.answer.specs.Answer.{Line, Trunk, Sheet, all_bytes, point_bytes, segment_bytes, spot_bytes, line_bytes, tap_bytes, mark, trunk_head, trunk_bytes, counts_bytes, head_bytes, body_bytes, answer_bytes, notice_bytes, lines_of, trunk_of}
+use Rattle.answer.specs.SheetTables.{drawn_bytes, Windows}
+pub use Rattle.answer.specs.Widths.{spot_length, tap_length}
 
 -- ---- stores
 pub sets_append : (d : List ℕ) (i : ℕ) (bs cs : List ℕ) → sets (sets d i bs) (i + length bs) cs ≡ sets d i (bs ++ cs)
@@ -47,6 +49,23 @@ sets_before d i j [] cs e =
 sets_before d i j (b ∷ bs) cs e =
     ap (λ (l : List ℕ). sets l (suc i) bs) (set_sets d i j b cs (omega arith)) ∙ sets_before (set d i b) (suc i) j bs cs (omega arith)
 
+-- ---- the low bytes
+pub low_four : (v : ℕ) → bytes 4 (v % 4294967296) ≡ bytes 4 v
+unfolding bytes
+low_four v =
+    let a : v % 4294967296 / 256 / 256 / 256 % 256 ≡ v / 256 / 256 / 256 % 256 = omega arith in
+    let b : v % 4294967296 / 256 / 256 % 256 ≡ v / 256 / 256 % 256 = omega arith in
+    let c : v % 4294967296 / 256 % 256 ≡ v / 256 % 256 = omega arith in
+    let d : v % 4294967296 % 256 ≡ v % 256 = omega arith in
+    cc
+
+pub low_two : (v : ℕ) → bytes 2 (v % 65536) ≡ bytes 2 v
+unfolding bytes
+low_two v =
+    let c : v % 65536 / 256 % 256 ≡ v / 256 % 256 = omega arith in
+    let d : v % 65536 % 256 ≡ v % 256 = omega arith in
+    cc
+
 -- ---- lengths
 pub number_length : (x : Float) → length (number_bytes x) ≡ 8
 number_length x = bytes_length 8 _
@@ -58,14 +77,6 @@ point_length p = simp (length-append, bytes_length)
 pub segment_length : (s : Segment) → length (segment_bytes s) ≡ 32
 unfolding segment_bytes
 segment_length s = simp (length-append, point_length)
-
-pub spot_length : (n : Spot) → length (spot_bytes n) ≡ 20
-unfolding spot_bytes
-spot_length n = simp (length-append, bytes_length, point_length)
-
-pub tap_length : (t : DrawnTap) → length (tap_bytes t) ≡ 20
-unfolding tap_bytes
-tap_length t = simp (length-append, bytes_length, point_length)
 
 -- records of one length
 pub all_length : {A : Type 0} (f : A → List ℕ) (w : ℕ) (l : List A) → ((a : A) → length (f a) ≡ w) → length (all_bytes f l) ≡ w * length l
@@ -140,6 +151,12 @@ pub notice_length : (n : ℕ) → length (notice_bytes n) ≡ 6
 unfolding notice_bytes
 notice_length n = simp (length-append, bytes_length)
 
+-- a bool converted to a number is the mark
+pub mark_is : (b : Bool) → from_bool b ≡ mark b
+unfolding mark
+mark_is true = refl
+mark_is false = refl
+
 -- ---- turns of the loops
 module _ {A : Type 0} (f : A → List ℕ) (l : List A) (n i : ℕ) (d : A) (fits : n ≤ length l) where
   pub rest_next : i < n → drop i (take n l) ≡ get_or l i d ∷ drop (i + 1) (take n l)
@@ -172,6 +189,19 @@ pub all_map : {A B : Type 0} (f : B → List ℕ) (g : A → B) (l : List A) →
 unfolding all_bytes
 all_map f g [] = refl
 all_map f g (a ∷ l) = rw (all_map f g l)
+
+-- a list of records of one width, what is left of it
+module _ {A : Type 0} (f : A → List ℕ) (w : ℕ) (sized : (a : A) → length (f a) ≡ w) (l : List A) (i : ℕ) where
+  pub record_turn : (o o' : List ℕ) (at : ℕ) (a : A) → i < length l → a ≡ get_or l i a → o' ≡ sets o at (f a)
+      → sets o' (at + w) (all_bytes f (drop (i + 1) l)) ≡ sets o at (all_bytes f (drop i l))
+  unfolding all_bytes
+  record_turn o o' at a h r e =
+      rw (e, drop-cons l i a h, add-one i, ← r)
+      (sets_then o at (at + w) (f a) (all_bytes f (drop (suc i) l)) (ap (λ (z : ℕ). at + z) (sym (sized a))))
+
+pub records_done : {A : Type 0} (f : A → List ℕ) (l : List A) (i : ℕ) → length l ≤ i → all_bytes f (drop i l) ≡ []
+unfolding all_bytes
+records_done f l i h = rw (drop_of_length-le l h)
 
 -- points of a slice
 pub points_turn : (s : List Float) (i end at : ℕ) (o o' : List ℕ) (p : Point) → i < end → p ≡ point_at s i → o' ≡ sets o at (point_bytes p)
@@ -224,31 +254,32 @@ lines_done rows slots counts n i f h =
     let k : length (take n rows) ≤ i = rw (length-take-le n rows f) h in
     rw (drop_of_length-le (take n rows) k)
 
--- bundles with their taps
+-- a window of the rows that count
 window_of : {A : Type 0} (l : List A) (f c : ℕ) → f ≤ length l → drop f (take (f + c) l) ≡ take c (drop f l)
 window_of l f c h = ap (λ m. drop f m) (take-add f c l) ∙ drop_at (take f l) (take c (drop f l)) f (length-take-le f l h)
 
-module _ (rows : List DrawnTap) (n : ℕ) (b : DrawnBundle) (fits : n ≤ length rows) (inside : b.first + b.count ≤ n) where
-  pub same_taps : drop b.first (take (b.first + b.count) rows) ≡ taps_of (take n rows) b
-  same_taps =
-      let k : b.first ≤ length (take n rows) = rw (length-take-le n rows fits) (omega arith) in
-      ap (λ m. drop b.first m) (sym (take-take (b.first + b.count) n rows inside)) ∙ window_of (take n rows) b.first b.count k
+pub same_taps : (rows : List DrawnTap) (n : ℕ) (b : DrawnBundle) → n ≤ length rows → b.first + b.count ≤ n → drop b.first (take (b.first + b.count) rows) ≡ taps_of (take n rows) b
+same_taps rows n b fits inside =
+    let k : b.first ≤ length (take n rows) = rw (length-take-le n rows fits) (omega arith) in
+    ap (λ m. drop b.first m) (sym (take-take (b.first + b.count) n rows inside)) ∙ window_of (take n rows) b.first b.count k
 
-  pub taps_count : length (taps_of (take n rows) b) ≡ b.count
+-- a bundle with its taps
+module _ (taps : List DrawnTap) (b : DrawnBundle) (inside : b.first + b.count ≤ length taps) where
+  taps_count : length (taps_of taps b) ≡ b.count
   taps_count =
-      let k : b.count ≤ length (drop b.first (take n rows)) = rw (length-drop, length-take-le n rows fits) (omega arith) in
-      length-take-le b.count (drop b.first (take n rows)) k
+      let k : b.count ≤ length (drop b.first taps) = rw length-drop (omega arith) in
+      length-take-le b.count (drop b.first taps) k
 
   pub trunk_joined : (o o' o'' : List ℕ) (at : ℕ) → o' ≡ sets o at (trunk_head b.id b.interior b.collector b.spine b.count)
-      → o'' ≡ sets o' (at + 71) (all_bytes tap_bytes (drop b.first (take (b.first + b.count) rows))) → o'' ≡ sets o at (drawn_bytes (take n rows) b)
+      → o'' ≡ sets o' (at + 71) (all_bytes tap_bytes (taps_of taps b)) → o'' ≡ sets o at (drawn_bytes taps b)
   unfolding trunk_bytes
   trunk_joined o o' o'' at e f =
       let h = trunk_head b.id b.interior b.collector b.spine b.count in
-      rw (f, e, same_taps, taps_count)
-      (sets_then o at (at + 71) h (all_bytes tap_bytes (taps_of (take n rows) b)) (ap (λ (z : ℕ). at + z) (sym (trunk_head_length b.id b.interior b.collector b.spine b.count))))
+      rw (f, e, taps_count)
+      (sets_then o at (at + 71) h (all_bytes tap_bytes (taps_of taps b)) (ap (λ (z : ℕ). at + z) (sym (trunk_head_length b.id b.interior b.collector b.spine b.count))))
 
-  pub drawn_length : length (drawn_bytes (take n rows) b) ≡ 71 + 20 * b.count
-  drawn_length = trunk_length (trunk_of (take n rows) b) ∙ ap (λ (z : ℕ). 71 + 20 * z) taps_count
+  pub drawn_length : length (drawn_bytes taps b) ≡ 71 + 20 * b.count
+  drawn_length = trunk_length (trunk_of taps b) ∙ ap (λ (z : ℕ). 71 + 20 * z) taps_count
 
 -- the writes of a record joined
 module _ (o : List ℕ) (at : ℕ) where
@@ -320,10 +351,24 @@ module _ (o : List ℕ) (at : ℕ) where
       ∙ sets_then o 0 4 (bytes 4 2) (bytes 1 1 ++ bytes 1 n) (omega (arith, bytes_length 4 2))
 
 -- the loop over bundles
-module _ (taps : List DrawnTap) (m : ℕ) (rows : List DrawnBundle) (n i : ℕ) (d : DrawnBundle) (ft : m ≤ length taps) (fr : n ≤ length rows) (inside : (get_or rows i d).first + (get_or rows i d).count ≤ m) where
-  pub bundle_room : i < n → length (all_bytes (drawn_bytes (take m taps)) (drop i (take n rows))) ≡ 71 + 20 * (get_or rows i d).count + length (all_bytes (drawn_bytes (take m taps)) (drop (i + 1) (take n rows)))
-  bundle_room h = shorter (drawn_bytes (take m taps)) rows n i d fr h ∙ ap (λ (z : ℕ). z + length (all_bytes (drawn_bytes (take m taps)) (drop (i + 1) (take n rows)))) (drawn_length taps m (get_or rows i d) ft inside)
+module _ (taps : List DrawnTap) (rows : List DrawnBundle) (i : ℕ) (d : DrawnBundle) (within : i < length rows) (inside : (get_or rows i d).first + (get_or rows i d).count ≤ length taps) where
+  bundle_next : all_bytes (drawn_bytes taps) (drop i rows) ≡ drawn_bytes taps (get_or rows i d) ++ all_bytes (drawn_bytes taps) (drop (i + 1) rows)
+  unfolding all_bytes
+  bundle_next = rw (drop-cons rows i d within, add-one i)
 
-  pub bundle_written : (o o' : List ℕ) (at next : ℕ) → next ≡ at + (71 + 20 * (get_or rows i d).count) → i < n → o' ≡ sets o at (drawn_bytes (take m taps) (get_or rows i d))
-      → sets o' next (all_bytes (drawn_bytes (take m taps)) (drop (i + 1) (take n rows))) ≡ sets o at (all_bytes (drawn_bytes (take m taps)) (drop i (take n rows)))
-  bundle_written o o' at next q h e = rw q (written_as (drawn_bytes (take m taps)) rows n i d fr (71 + 20 * (get_or rows i d).count) o o' at (drawn_length taps m (get_or rows i d) ft inside) h e)
+  pub bundle_room : length (all_bytes (drawn_bytes taps) (drop i rows)) ≡ 71 + 20 * (get_or rows i d).count + length (all_bytes (drawn_bytes taps) (drop (i + 1) rows))
+  bundle_room =
+      let k = drawn_length taps (get_or rows i d) inside in
+      ap length bundle_next ∙ length-append (drawn_bytes taps (get_or rows i d)) (all_bytes (drawn_bytes taps) (drop (i + 1) rows)) ∙ omega arith
+
+  pub bundle_written : (o o' : List ℕ) (at next : ℕ) → next ≡ at + (71 + 20 * (get_or rows i d).count) → o' ≡ sets o at (drawn_bytes taps (get_or rows i d))
+      → sets o' next (all_bytes (drawn_bytes taps) (drop (i + 1) rows)) ≡ sets o at (all_bytes (drawn_bytes taps) (drop i rows))
+  bundle_written o o' at next q e =
+      rw (e, bundle_next)
+      (sets_then o at next (drawn_bytes taps (get_or rows i d)) (all_bytes (drawn_bytes taps) (drop (i + 1) rows)) (q ∙ ap (λ (z : ℕ). at + z) (sym (drawn_length taps (get_or rows i d) inside))))
+
+-- the windows, in the rows that count
+pub windows_taken : (n m : ℕ) (rows : List DrawnBundle) (taps : List DrawnTap) → n ≤ length rows → m ≤ length taps → Windows n rows m → Windows (length (take n rows)) (take n rows) (length (take m taps))
+windows_taken n m rows taps fn fm w i d h =
+    let k : i < n = omega (arith, length-take-le n rows fn) in
+    rw (length-take-le m taps fm, get_or-take n rows i d k) (w i d k)

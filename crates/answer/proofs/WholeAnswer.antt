@@ -1,12 +1,12 @@
 -- The whole answer from the tables: its parts, their lengths, and the writes joined. Assumes nothing.
-use Rattle.std.specs.Prelude.{ℕ, zero, suc, ◌+◌, ◌*◌, ◌-◌, ◌≤◌, ◌<◌, ◌≡◌, refl, List, [], ◌∷◌, ◌++◌, map, Float, take}
-use Rattle.std.proofs.Common.{sym, ap, ◌∙◌, arith, length-append}
+use Rattle.std.specs.Prelude.{ℕ, suc, ◌+◌, ◌*◌, ◌-◌, ◌≤◌, ◌≡◌, refl, List, [], ◌∷◌, ◌++◌, map, Float, take}
+use Rattle.std.proofs.Common.{ap, ◌∙◌, arith, length-append}
 use Rattle.std.proofs.Math.ListN.{length, length-map}
 use Rattle.std.proofs.lemmas.List.Edits.{sets}
 use Rattle.std.proofs.Math.Seq.{length-take-le}
 use Rattle.wire.specs.Bytes.{bytes}
 use Rattle.wire.proofs.BytesLaws.{bytes_length}
-use Rattle.route.specs.Slots.{routes_of, routes_from, routes_length}
+use Rattle.route.specs.Slots.{routes_of, routes_length}
 use Rattle.board.specs.declared.Edge.{Edge}
 use Rattle.board.specs.declared.Nodes.{Nodes}
 use Rattle.board.specs.declared.Edges.{Edges}

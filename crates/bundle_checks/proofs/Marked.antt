@@ -1,4 +1,4 @@
--- A mask cleared place after place, and marked member after member.
+-- A cleared mask, marked member after member.
 -- Assumes nothing.
 use Prim.Native.Nat.{ℕ, zero, suc, ◌+◌, ◌-◌, ◌≤◌, ◌<◌}
 use mathlib.Core.Path.{◌≡◌, refl, sym, ap, ◌∙◌}
@@ -11,17 +11,6 @@ use lib.Seq.{get_or-set_same, get_or-set_other}
 use borrow.Author.Tests.{eqb-true, eqb-false}
 use Rattle.drawing.specs.Check.{among}
 use Rattle.checks.specs.MemberSlices.{members_from, Blank, Marks}
-
--- the first i places are false
-abbrev pub BlankTo : List Bool → ℕ → Type 0
-BlankTo mask i = (k : ℕ) → k < i → get_or mask k false ≡ false
-
-pub blank_next : (mask : List Bool) (i : ℕ) → i < length mask → BlankTo mask i → BlankTo (set mask i false) (i + 1)
-blank_next mask i l h k m = go (eqb k i) refl
-  where
-    go : (b : Bool) → eqb k i ≡ b → get_or (set mask i false) k false ≡ false
-    go true e = let z : k ≡ i = eqb-true k i e in rw z (get_or-set_same mask i false false l)
-    go false e = let z = eqb-false k i e in get_or-set_other mask i k false false z ∙ h k (omega (arith, z))
 
 module _ (edges : List ℕ) (first count : ℕ) where
   abbrev pub among_rest : ℕ → ℕ → Bool

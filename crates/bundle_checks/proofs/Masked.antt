@@ -11,8 +11,7 @@ use Rattle.geometry.specs.Points.{Route}
 use Rattle.board.specs.declared.Options.{Options}
 use Rattle.board.specs.declared.Member.{Member}
 use Rattle.drawing.specs.declared.GeometryVisits.{GeometryVisits}
-use Rattle.drawing.specs.declared.Verdict.{Verdict}
-use Rattle.drawing.specs.declared.Verdict.TheVariants.{Clean, Refused}
+use Rattle.drawing.specs.Verdict.{Verdict, Clean, Refused}
 use Rattle.drawing.specs.Build.{Drawn}
 use Rattle.drawing.specs.Check.{Test, walk, over_routes, every_route, among, route_tests, drawn_tests, pair_tests, prior_tests, contact_tests}
 use Rattle.checks.specs.CheckRows.{chosen_by, inside_route}
@@ -59,12 +58,12 @@ module _ (ms : List Member) (mask : List Bool) (rs : List Route) (marks : Marks 
 
 -- ---- one check after the other
 
-pub both_off : (xs ys zs : List Test) (n e : ℕ) (p : GeometryVisits) → walk 12 xs n ≡ Refused e p → xs ≡ ys → Refused e p ≡ then_walk (walk 12 ys n) (λ k. walk 11 zs k)
+pub both_off : (xs ys zs : List Test) (n e : ℕ) (p : GeometryVisits) → Refused e p ≡ walk 12 xs n → xs ≡ ys → Refused e p ≡ then_walk (walk 12 ys n) (λ k. walk 11 zs k)
 unfolding then_walk
-both_off xs ys zs n e p h q = sym (ap (λ (v : Verdict). then_walk v (λ k. walk 11 zs k)) (ap (λ (x : List Test). walk 12 x n) (sym q) ∙ h))
+both_off xs ys zs n e p h q = ap (λ (v : Verdict). then_walk v (λ k. walk 11 zs k)) (h ∙ ap (λ (x : List Test). walk 12 x n) q)
 
-pub both_on : (xs ys ws zs : List Test) (n : ℕ) (p : GeometryVisits) → walk 12 xs n ≡ Clean p → xs ≡ ys → ws ≡ zs → walk 11 ws p.0 ≡ then_walk (walk 12 ys n) (λ k. walk 11 zs k)
+pub both_on : (xs ys ws zs : List Test) (n : ℕ) (p : GeometryVisits) → Clean p ≡ walk 12 xs n → xs ≡ ys → ws ≡ zs → walk 11 ws p.0 ≡ then_walk (walk 12 ys n) (λ k. walk 11 zs k)
 unfolding then_walk
 both_on xs ys ws zs n p h q r =
     ap (λ (x : List Test). walk 11 x p.0) r
-    ∙ sym (ap (λ (v : Verdict). then_walk v (λ k. walk 11 zs k)) (ap (λ (x : List Test). walk 12 x n) (sym q) ∙ h))
+    ∙ ap (λ (v : Verdict). then_walk v (λ k. walk 11 zs k)) (h ∙ ap (λ (x : List Test). walk 12 x n) q)

@@ -9,36 +9,26 @@
 
 ghost use Rattle.std.specs.Prelude.{◌≡◌, [], map, ◌+◌, ◌*◌, ◌≤◌, length, take};
 ghost use Rattle.limits.specs.Limits.{max_bundles};
-ghost use Rattle.route.specs.Slots.{routes_of};
 ghost use Rattle.drawing.specs.Check.{walk, among, over_routes, contact_tests};
-ghost use Rattle.checks.specs.CheckRows.{drawn_of, inside_route, Tabled, AllTabled, Slotted};
-ghost use Rattle.checks.specs.MemberSlices.{members_from, Blank, Known, Marks, then_walk};
+ghost use Rattle.checks.specs.Purse.{told};
+ghost use Rattle.checks.specs.CheckRows.{inside_route, Tabled};
+ghost use Rattle.checks.specs.Lent.{routes_lent, SlotsLent, drawn_lent, RowsLent};
+ghost use Rattle.checks.specs.MemberSlices.{members_from, Known, Marks, then_walk};
 
 use board::{DrawnBundle, DrawnBundles, Options};
-use drawing::{GeometryVisits, Verdict};
+use checks::{MemberTaps, PresentRoutes};
+use drawing::GeometryVisits;
+use refusal::Refusal;
 
-// ---- which routes a bundle changes
-
-fn clear_mask(mask: &mut [bool])
-    ensures { Blank mask.new }
-{
-    let mut i: usize = 0;
-    while i < mask.len() {
-        mask[i] = false;
-        i += 1;
-    }
-}
-
-// The mask becomes true at the edges of a bundle's members, and false elsewhere.
+// The mask becomes true at the edges of a bundle's members, and false elsewhere: the routes that the
+// bundle changes.
 pub fn mark_members(edges: &[usize], first: usize, count: usize, mask: &mut [bool])
     requires { (first + count ≤ length edges.now) × Known edges.now first count (length mask.old) }
     ensures { Marks (members_from edges.now [] first count) mask.new }
 {
-    clear_mask(&mut mask[..]);
-    let mut i: usize = 0;
-    while i < count {
-        mask[edges[first + i]] = true;
-        i += 1;
+    mask.fill(false);
+    for &e in &edges[first..first + count] {
+        mask[e] = true;
     }
 }
 
@@ -50,31 +40,17 @@ pub fn verify_bundle(
     ends: &[usize],
     new: DrawnBundle,
     priors: DrawnBundles,
-    edges: &[usize],
-    taps: &[f64],
-    points: &[f64],
-    counts: &[usize],
+    table: MemberTaps,
+    present: PresentRoutes,
     mask: &mut [bool],
-    visits: GeometryVisits,
-) -> Verdict
-    requires { (2 * length counts.now ≤ length ends.now) × (priors.count ≤ max_bundles) × AllTabled (take priors.count priors.rows) edges.now taps.now × Tabled new.first new.count edges.now taps.now × Slotted points.now counts.now mask.old × Known edges.now new.first new.count (length mask.old) }
-    ensures { result ≡ then_walk (walk 12 (over_routes (inside_route boxes.now ends.now) (among (members_from edges.now [] new.first new.count)) (routes_of points.now counts.now) 0) visits.0) (λ k. walk 11 (contact_tests o allow (drawn_of edges.now taps.now new) (among (members_from edges.now [] new.first new.count)) (map (drawn_of edges.now taps.now) (take priors.count priors.rows)) (routes_of points.now counts.now)) k) }
+    visits: &mut GeometryVisits,
+) -> Result<(), Refusal>
+    requires { (2 * length present.counts.now ≤ length ends.now) × (priors.count ≤ max_bundles) × RowsLent table (take priors.count priors.rows) × Tabled new.first new.count table.edges.now table.taps.now × SlotsLent present mask.old × Known table.edges.now new.first new.count (length mask.old) }
+    ensures { told result visits.new.0 ≡ then_walk (walk 12 (over_routes (inside_route boxes.now ends.now) (among (members_from table.entry.edges.now [] new.first new.count)) (routes_lent present.entry) 0) visits.old.0) (λ k. walk 11 (contact_tests o allow (drawn_lent table.entry new) (among (members_from table.entry.edges.now [] new.first new.count)) (map (drawn_lent table.entry) (take priors.count priors.rows)) (routes_lent present.entry)) k) }
 {
-    mark_members(edges, new.first, new.count, &mut mask[..]);
-    let v = paid_checks::interiors_paid(visits, boxes, ends, &mask[..], points, counts);
-    match v {
-        Verdict::Refused(r, p) => Verdict::Refused(r, p),
-        Verdict::Clean(q) => paid_checks::contacts_paid(
-            q,
-            o,
-            allow,
-            new,
-            priors,
-            edges,
-            taps,
-            &mask[..],
-            points,
-            counts,
-        ),
-    }
+    mark_members(table.edges, new.first, new.count, mask);
+    paid_checks::verify_one_bundle_route_node_interiors(boxes, ends, mask, present, visits)?;
+    paid_checks::verify_new_bundle_route_contacts(
+        o, allow, new, priors, table, mask, present, visits,
+    )
 }

@@ -6,21 +6,22 @@
 
 #![tactic(auto)]
 
-ghost use Rattle.std.specs.Prelude.{◌≡◌, false, [], ◌∷◌, ◌++◌, map, ◌+◌, ◌*◌, ◌≤◌, length, take};
+ghost use Rattle.std.specs.Prelude.{◌≡◌, false, [], ◌∷◌, ◌++◌, map, ◌+◌, ◌*◌, ◌≤◌, length, take, None};
 ghost use Rattle.limits.specs.Limits.{max_bundles};
-ghost use Rattle.geometry.specs.declared.Tap.TheVariants.{Absent};
 ghost use Rattle.geometry.specs.Apart.{trunk};
 ghost use Rattle.geometry.specs.Points.{points_from, runs};
-ghost use Rattle.route.specs.Slots.{routes_of};
 ghost use Rattle.drawing.specs.Build.{tap_of};
 ghost use Rattle.drawing.specs.Check.{due, walk, clash, run_tests, over_routes, route_tests, drawn_tests, pair_tests, prior_tests};
 ghost use Rattle.checks.specs.Purse.{told};
-ghost use Rattle.checks.specs.CheckRows.{taps_from, drawn_of, chosen_by, Tabled, AllTabled, Slotted};
+ghost use Rattle.checks.specs.CheckRows.{drawn_of, chosen_by, Tabled};
+ghost use Rattle.checks.specs.Lent.{routes_lent, SlotsLent, drawn_lent, RowsLent, taps_lent, TapsLent};
 
 use board::{DrawnBundle, DrawnBundles, Options};
-use drawing::Finding;
-use geometry::{Segment, Tap, Trunk};
+use checks::{BundleTaps, MemberTaps, PresentRoutes};
+use drawing::GeometryVisits;
+use geometry::{Point, RouteView, Segment, Trunk};
 use limits::SLOT_POINTS;
+use refusal::Refusal;
 
 // ---- verify_new_bundle_route_contacts
 
@@ -29,19 +30,17 @@ fn bus_on_run(
     o: Options,
     allow: bool,
     bus: Segment,
-    tap: Tap,
+    tap: Option<Point>,
     run: Segment,
-    left: &mut u32,
-) -> Finding
-    ensures { told result left.new ≡ walk 11 (due (clash o allow bus tap run) ∷ []) left.old }
+    visits: &mut GeometryVisits,
+) -> Result<(), Refusal>
+    ensures { told result visits.new.0 ≡ walk 11 (due (clash o allow bus tap run) ∷ []) visits.old.0 }
 {
-    if !looks::charge(&mut *left) {
-        return Finding::Refused(14);
-    }
+    looks::charge(visits)?;
     if looks::clashes(o, allow, bus, tap, run) {
-        return Finding::Refused(11);
+        return Err(Refusal::ForbiddenContact);
     }
-    Finding::Clean
+    Ok(())
 }
 
 // A bundle's segment, whose trunk is t, against a run of route e. Most runs are apart from it, so the
@@ -51,62 +50,43 @@ fn bus_on_route_run(
     allow: bool,
     bus: Segment,
     t: Trunk,
-    edges: &[usize],
-    taps: &[f64],
-    first: usize,
-    count: usize,
+    own: BundleTaps,
     e: usize,
     run: Segment,
-    left: &mut u32,
-) -> Finding
-    requires { (t ≡ trunk bus) × Tabled first count edges.now taps.now }
-    ensures { told result left.new ≡ walk 11 (due (clash o allow bus (tap_of (taps_from edges.now taps.now first count) e) run) ∷ []) left.old }
+    visits: &mut GeometryVisits,
+) -> Result<(), Refusal>
+    requires { (t ≡ trunk bus) × TapsLent own }
+    ensures { told result visits.new.0 ≡ walk 11 (due (clash o allow bus (tap_of (taps_lent own.entry) e) run) ∷ []) visits.old.0 }
 {
-    let paid = looks::charge(&mut *left);
-    if !paid {
-        return Finding::Refused(14);
-    }
+    looks::charge(visits)?;
     if contact_test::is_apart(t, o.minimum_parallel_wire_spacing, run.start, run.end) {
-        return Finding::Clean;
+        return Ok(());
     }
-    let tap = looks::tap_on_route(edges, taps, first, count, e);
-    if !looks::clashes(o, allow, bus, tap, run) {
-        return Finding::Clean;
+    if looks::clashes(o, allow, bus, looks::tap_on_route(own, e), run) {
+        return Err(Refusal::ForbiddenContact);
     }
-    Finding::Refused(11)
+    Ok(())
 }
 
-// A bundle's segment against route e, which has long points from point start on.
+// A bundle's segment against route e.
 fn bus_on_route(
     o: Options,
     allow: bool,
     bus: Segment,
     t: Trunk,
-    edges: &[usize],
-    taps: &[f64],
-    first: usize,
-    count: usize,
+    own: BundleTaps,
     e: usize,
-    points: &[f64],
-    start: usize,
-    long: usize,
-    left: &mut u32,
-) -> Finding
-    requires { (t ≡ trunk bus) × Tabled first count edges.now taps.now × (2 * (start + long) ≤ length points.now) }
-    ensures { told result left.new ≡ walk 11 (run_tests o allow bus (tap_of (taps_from edges.now taps.now first count) e) (runs (points_from points.now start long))) left.old }
+    route: RouteView,
+    visits: &mut GeometryVisits,
+) -> Result<(), Refusal>
+    requires { (t ≡ trunk bus) × TapsLent own × (2 * (route.start + route.count) ≤ length route.points.now) }
+    ensures { told result visits.new.0 ≡ walk 11 (run_tests o allow bus (tap_of (taps_lent own.entry) e) (runs (points_from route.entry.points.now route.entry.start route.entry.count))) visits.old.0 }
 {
-    let mut i: usize = 0;
-    while i + 1 < long {
-        let run = route_views::route_run(points, start, long, i);
-        let f = bus_on_route_run(
-            o, allow, bus, t, edges, taps, first, count, e, run, &mut *left,
-        );
-        if let Finding::Refused(r) = f {
-            return Finding::Refused(r);
-        }
-        i += 1;
+    for i in 0..route.count.saturating_sub(1) {
+        let run = route_views::view_run(route, i);
+        bus_on_route_run(o, allow, bus, t, own, e, run, visits)?;
     }
-    Finding::Clean
+    Ok(())
 }
 
 // A bundle's segment against the chosen routes.
@@ -114,46 +94,27 @@ fn bus_on_routes(
     o: Options,
     allow: bool,
     bus: Segment,
-    first: usize,
-    count: usize,
-    edges: &[usize],
-    taps: &[f64],
+    own: BundleTaps,
     all: bool,
     mask: &[bool],
-    points: &[f64],
-    counts: &[usize],
-    left: &mut u32,
-) -> Finding
-    requires { Tabled first count edges.now taps.now × Slotted points.now counts.now mask.now }
-    ensures { told result left.new ≡ walk 11 (over_routes (route_tests o allow bus (taps_from edges.now taps.now first count)) (chosen_by all mask.now) (routes_of points.now counts.now) 0) left.old }
+    present: PresentRoutes,
+    visits: &mut GeometryVisits,
+) -> Result<(), Refusal>
+    requires { TapsLent own × SlotsLent present mask.now }
+    ensures { told result visits.new.0 ≡ walk 11 (over_routes (route_tests o allow bus (taps_lent own.entry)) (chosen_by all mask.now) (routes_lent present.entry) 0) visits.old.0 }
 {
     let t = contact_test::trunk_of(bus);
-    let mut e: usize = 0;
-    while e < counts.len() {
-        let k = e;
-        e += 1;
-        if all | mask[k] {
-            let f = bus_on_route(
-                o,
-                allow,
-                bus,
-                t,
-                edges,
-                taps,
-                first,
-                count,
-                k,
-                points,
-                SLOT_POINTS * k,
-                counts[k],
-                &mut *left,
-            );
-            if let Finding::Refused(r) = f {
-                return Finding::Refused(r);
-            }
+    for e in 0..present.counts.len() {
+        if all | mask[e] {
+            let route = RouteView {
+                points: present.points,
+                start: SLOT_POINTS * e,
+                count: present.counts[e],
+            };
+            bus_on_route(o, allow, bus, t, own, e, route, visits)?;
         }
     }
-    Finding::Clean
+    Ok(())
 }
 
 // A bundle's collector, then its spine, against the chosen routes.
@@ -161,48 +122,36 @@ pub fn drawn_on_routes(
     o: Options,
     allow: bool,
     d: DrawnBundle,
-    edges: &[usize],
-    taps: &[f64],
+    table: MemberTaps,
     all: bool,
     mask: &[bool],
-    points: &[f64],
-    counts: &[usize],
-    left: &mut u32,
-) -> Finding
-    requires { Tabled d.first d.count edges.now taps.now × Slotted points.now counts.now mask.now }
-    ensures { told result left.new ≡ walk 11 (drawn_tests o allow (drawn_of edges.now taps.now d) (chosen_by all mask.now) (routes_of points.now counts.now)) left.old }
+    present: PresentRoutes,
+    visits: &mut GeometryVisits,
+) -> Result<(), Refusal>
+    requires { Tabled d.first d.count table.edges.now table.taps.now × SlotsLent present mask.now }
+    ensures { told result visits.new.0 ≡ walk 11 (drawn_tests o allow (drawn_lent table.entry d) (chosen_by all mask.now) (routes_lent present.entry)) visits.old.0 }
 {
-    let f = bus_on_routes(
-        o,
-        allow,
-        d.collector,
-        d.first,
-        d.count,
-        edges,
-        taps,
-        all,
-        mask,
-        points,
-        counts,
-        &mut *left,
-    );
-    match f {
-        Finding::Refused(e) => Finding::Refused(e),
-        Finding::Clean => bus_on_routes(
-            o, allow, d.spine, d.first, d.count, edges, taps, all, mask, points, counts, &mut *left,
-        ),
-    }
+    let own = BundleTaps {
+        table,
+        first: d.first,
+        count: d.count,
+    };
+    bus_on_routes(o, allow, d.collector, own, all, mask, present, visits)?;
+    bus_on_routes(o, allow, d.spine, own, all, mask, present, visits)
 }
 
 // A segment of the new bundle against the two of an earlier one.
-fn bus_on_drawn(o: Options, allow: bool, a: Segment, prior: DrawnBundle, left: &mut u32) -> Finding
-    ensures { told result left.new ≡ walk 11 (due (clash o allow a Absent prior.collector) ∷ due (clash o allow a Absent prior.spine) ∷ []) left.old }
+fn bus_on_drawn(
+    o: Options,
+    allow: bool,
+    a: Segment,
+    prior: DrawnBundle,
+    visits: &mut GeometryVisits,
+) -> Result<(), Refusal>
+    ensures { told result visits.new.0 ≡ walk 11 (due (clash o allow a None prior.collector) ∷ due (clash o allow a None prior.spine) ∷ []) visits.old.0 }
 {
-    let f = bus_on_run(o, allow, a, Tap::Absent, prior.collector, &mut *left);
-    match f {
-        Finding::Refused(e) => Finding::Refused(e),
-        Finding::Clean => bus_on_run(o, allow, a, Tap::Absent, prior.spine, &mut *left),
-    }
+    bus_on_run(o, allow, a, None, prior.collector, visits)?;
+    bus_on_run(o, allow, a, None, prior.spine, visits)
 }
 
 fn drawn_on_drawn(
@@ -210,15 +159,12 @@ fn drawn_on_drawn(
     allow: bool,
     new: DrawnBundle,
     prior: DrawnBundle,
-    left: &mut u32,
-) -> Finding
-    ensures { told result left.new ≡ walk 11 (pair_tests o allow (drawn_of [] [] new) (drawn_of [] [] prior)) left.old }
+    visits: &mut GeometryVisits,
+) -> Result<(), Refusal>
+    ensures { told result visits.new.0 ≡ walk 11 (pair_tests o allow (drawn_of [] [] new) (drawn_of [] [] prior)) visits.old.0 }
 {
-    let f = bus_on_drawn(o, allow, new.collector, prior, &mut *left);
-    match f {
-        Finding::Refused(e) => Finding::Refused(e),
-        Finding::Clean => bus_on_drawn(o, allow, new.spine, prior, &mut *left),
-    }
+    bus_on_drawn(o, allow, new.collector, prior, visits)?;
+    bus_on_drawn(o, allow, new.spine, prior, visits)
 }
 
 // An earlier bundle against the changed routes, then against the new bundle.
@@ -227,23 +173,16 @@ fn verify_prior(
     allow: bool,
     new: DrawnBundle,
     prior: DrawnBundle,
-    edges: &[usize],
-    taps: &[f64],
+    table: MemberTaps,
     changed: &[bool],
-    points: &[f64],
-    counts: &[usize],
-    left: &mut u32,
-) -> Finding
-    requires { Tabled prior.first prior.count edges.now taps.now × Slotted points.now counts.now changed.now }
-    ensures { told result left.new ≡ walk 11 (drawn_tests o allow (drawn_of edges.now taps.now prior) (chosen_by false changed.now) (routes_of points.now counts.now) ++ pair_tests o allow (drawn_of edges.now taps.now new) (drawn_of edges.now taps.now prior)) left.old }
+    present: PresentRoutes,
+    visits: &mut GeometryVisits,
+) -> Result<(), Refusal>
+    requires { Tabled prior.first prior.count table.edges.now table.taps.now × SlotsLent present changed.now }
+    ensures { told result visits.new.0 ≡ walk 11 (drawn_tests o allow (drawn_lent table.entry prior) (chosen_by false changed.now) (routes_lent present.entry) ++ pair_tests o allow (drawn_lent table.entry new) (drawn_lent table.entry prior)) visits.old.0 }
 {
-    let f = drawn_on_routes(
-        o, allow, prior, edges, taps, false, changed, points, counts, &mut *left,
-    );
-    match f {
-        Finding::Refused(e) => Finding::Refused(e),
-        Finding::Clean => drawn_on_drawn(o, allow, new, prior, &mut *left),
-    }
+    drawn_on_routes(o, allow, prior, table, false, changed, present, visits)?;
+    drawn_on_drawn(o, allow, new, prior, visits)
 }
 
 // Each earlier bundle in turn.
@@ -252,35 +191,25 @@ pub fn verify_priors(
     allow: bool,
     new: DrawnBundle,
     priors: DrawnBundles,
-    edges: &[usize],
-    taps: &[f64],
+    table: MemberTaps,
     changed: &[bool],
-    points: &[f64],
-    counts: &[usize],
-    left: &mut u32,
-) -> Finding
-    requires { (priors.count ≤ max_bundles) × AllTabled (take priors.count priors.rows) edges.now taps.now × Slotted points.now counts.now changed.now }
-    ensures { told result left.new ≡ walk 11 (prior_tests o allow (drawn_of edges.now taps.now new) (chosen_by false changed.now) (map (drawn_of edges.now taps.now) (take priors.count priors.rows)) (routes_of points.now counts.now)) left.old }
+    present: PresentRoutes,
+    visits: &mut GeometryVisits,
+) -> Result<(), Refusal>
+    requires { (priors.count ≤ max_bundles) × RowsLent table (take priors.count priors.rows) × SlotsLent present changed.now }
+    ensures { told result visits.new.0 ≡ walk 11 (prior_tests o allow (drawn_lent table.entry new) (chosen_by false changed.now) (map (drawn_lent table.entry) (take priors.count priors.rows)) (routes_lent present.entry)) visits.old.0 }
 {
-    let n = priors.count;
-    let mut i: usize = 0;
-    while i < n {
-        let f = verify_prior(
+    for i in 0..priors.count {
+        verify_prior(
             o,
             allow,
             new,
             priors.rows[i],
-            edges,
-            taps,
+            table,
             changed,
-            points,
-            counts,
-            &mut *left,
-        );
-        if let Finding::Refused(e) = f {
-            return Finding::Refused(e);
-        }
-        i += 1;
+            present,
+            visits,
+        )?;
     }
-    Finding::Clean
+    Ok(())
 }

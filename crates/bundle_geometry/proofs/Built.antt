@@ -1,10 +1,10 @@
 -- A bundle drawn from its parts is the one that the definitions draw.
 -- Assumes nothing.
-use Prim.Native.Nat.{ℕ, ◌+◌, ◌<◌}
+use Rattle.std.specs.Prelude.{Option, Some, None}
+use Prim.Native.Nat.{ℕ, ◌+◌}
 use mathlib.Core.Path.{◌≡◌, refl, sym, ap, ◌∙◌}
-use mathlib.Core.List.{List, [], ◌∷◌}
-use mathlib.Core.Option.{Option, none, some}
-use mathlib.Core.Bool.{Bool, true, false}
+use mathlib.Core.List.{List, []}
+use mathlib.Core.Bool.{true, false}
 use lib.ListN.{get_or}
 use lib.Ieee.{Float}
 use Rattle.geometry.specs.declared.Point.{Point}
@@ -101,14 +101,14 @@ module _ (edges lanes : List ℕ) (t : List Float) (o : Options) (u : Bundle) (e
         ∙ ap (λ (q : List Member). trunk_taps u.role (bundle_pitch o u) x q rs) s.members
         ∙ sym (trunk_any u.role (bundle_pitch o u) x edges lanes rs u.first u.count)
 
-    pub none_built : (rs : List Route) → OnRail → drawn_of edges t (railed_with o u end bare) ≡ build b u none rs
+    pub none_built : (rs : List Route) → OnRail → drawn_of edges t (railed_with o u end bare) ≡ build b u None rs
     unfolding build
     none_built rs p = railed_seen p
 
-    pub inside_built : (x : Float) (rs : List Route) → tapped_in true edges t u.first u.count ≡ trunk_taps u.role (bundle_pitch o u) x (members_from edges [] u.first u.count) rs → drawn_of edges t (inside_with o u end x bare) ≡ build b u (some x) rs
+    pub inside_built : (x : Float) (rs : List Route) → tapped_in true edges t u.first u.count ≡ trunk_taps u.role (bundle_pitch o u) x (members_from edges [] u.first u.count) rs → drawn_of edges t (inside_with o u end x bare) ≡ build b u (Some x) rs
     unfolding build inside_or tapped_in
     inside_built x rs e = inside_seen x ∙ ap (λ (q : Option (List TapOn)). inside_or q b u x) (e ∙ sym (trunk_seen x rs))
 
-    pub rail_built : (x : Float) (rs : List Route) (old : List Float) → tapped_in false edges old u.first u.count ≡ trunk_taps u.role (bundle_pitch o u) x (members_from edges [] u.first u.count) rs → OnRail → drawn_of edges t (railed_with o u end bare) ≡ build b u (some x) rs
+    pub rail_built : (x : Float) (rs : List Route) (old : List Float) → tapped_in false edges old u.first u.count ≡ trunk_taps u.role (bundle_pitch o u) x (members_from edges [] u.first u.count) rs → OnRail → drawn_of edges t (railed_with o u end bare) ≡ build b u (Some x) rs
     unfolding build inside_or tapped_in
     rail_built x rs old e p = railed_seen p ∙ ap (λ (q : Option (List TapOn)). inside_or q b u x) (e ∙ sym (trunk_seen x rs))

@@ -1,23 +1,19 @@
 -- The taps of a bundle written one after the other, and what is read of them.
 -- Assumes nothing.
+use Rattle.std.specs.Prelude.{Some, None, Option}
 use Prim.Native.Nat.{ℕ, zero, suc, ◌+◌, ◌*◌, ◌-◌, ◌≤◌, ◌<◌}
 use mathlib.Core.Path.{◌≡◌, refl, sym, ap, ◌∙◌}
-use mathlib.Core.Logic.{◌⊎◌, inl, inr, ⊎_elim}
+use mathlib.Core.Logic.{inl, inr, ⊎_elim}
 use mathlib.Core.List.{List, [], ◌∷◌, ◌++◌, append_assoc, append-nil}
-use mathlib.Core.Option.{Option, none, some}
-use mathlib.Core.Bool.{Bool, true, false, cond, ◌&&◌}
+use mathlib.Core.Bool.{Bool, true, false, ◌&&◌}
 use native.Mathlib.Omega.{arith}
 use lib.ListN.{length, get_or}
 use lib.Ieee.{Float, binary64, eq, div}
 use Rattle.binary64.specs.Order.{least, greatest}
 use Rattle.geometry.specs.declared.Point.{Point}
 use Rattle.geometry.specs.declared.Role.{Role}
-use Rattle.geometry.specs.Points.{Route, point_at, put_point, points_from}
-use Rattle.route.specs.declared.Crossing.{Crossing}
-use Rattle.route.specs.declared.Crossing.TheVariants.{Nowhere, On}
+use Rattle.geometry.specs.Points.{Route, point_at, put_point}
 use Rattle.route.specs.Window.{put_other, put_here}
-use Rattle.route.specs.Slots.{routes_of, slot_is}
-use Rattle.board.specs.declared.Member.{Member}
 use Rattle.plan.specs.Depths.{number, lane_count}
 use Rattle.drawing.specs.Build.{TapOn, route_at, trunk_met, tap_then, trunk_taps, lowest, highest, rail_tap, rail_taps, rail_low, rail_high, center, all_at}
 use Rattle.checks.specs.CheckRows.{taps_from}
@@ -70,18 +66,18 @@ taps_put edges t first i p h =
 -- ---- taps on a trunk
 
 unfoldable pub prepend : List TapOn → Option (List TapOn) → Option (List TapOn)
-prepend ts none = none
-prepend ts (some us) = some (ts ++ us)
+prepend ts None = None
+prepend ts (Some us) = Some (ts ++ us)
 
 prepend_nil : (o : Option (List TapOn)) → prepend [] o ≡ o
 unfolding prepend
-prepend_nil none = refl
-prepend_nil (some us) = refl
+prepend_nil None = refl
+prepend_nil (Some us) = refl
 
-prepend_then : (ts : List TapOn) (k i : ℕ) (p : Point) (o : Option (List TapOn)) → prepend ts (tap_then (On k p) i o) ≡ prepend (ts ++ (record { edge = i; place = p } ∷ [])) o
+prepend_then : (ts : List TapOn) (k i : ℕ) (p : Point) (o : Option (List TapOn)) → prepend ts (tap_then (Some (k, p)) i o) ≡ prepend (ts ++ (record { edge = i; place = p } ∷ [])) o
 unfolding prepend tap_then
-prepend_then ts k i p none = refl
-prepend_then ts k i p (some us) = ap (λ (l : List TapOn). some l) (sym (append_assoc ts (record { edge = i; place = p } ∷ []) us))
+prepend_then ts k i p None = refl
+prepend_then ts k i p (Some us) = ap (λ (l : List TapOn). Some l) (sym (append_assoc ts (record { edge = i; place = p } ∷ []) us))
 
 module _ (role : Role) (pitch x : Float) (edges : List ℕ) (first count : ℕ) (rs : List Route) where
   abbrev pub trunk_rest : ℕ → Option (List TapOn)
@@ -104,15 +100,15 @@ module _ (role : Role) (pitch x : Float) (edges : List ℕ) (first count : ℕ) 
       let b : first + (i + 1) ≡ suc (first + i) = omega arith in
       rw (a, b)
 
-  pub trunk_off : (t : List Float) (i : ℕ) → i < count → trunk_met role pitch x (route_at rs (get_or edges (first + i) 0)) ≡ Nowhere → tapped_in false edges t first count ≡ trunk_at t i
+  pub trunk_off : (t : List Float) (i : ℕ) → i < count → trunk_met role pitch x (route_at rs (get_or edges (first + i) 0)) ≡ None → tapped_in false edges t first count ≡ trunk_at t i
   unfolding tapped_in prepend tap_then
   trunk_off t i h e = rw (rest_next i h, e)
 
-  pub trunk_on : (t : List Float) (i k : ℕ) (p : Point) → i < count → 2 * (first + i) + 1 < length t → trunk_met role pitch x (route_at rs (get_or edges (first + i) 0)) ≡ On k p → trunk_at (put_point t (first + i) p) (i + 1) ≡ trunk_at t i
+  pub trunk_on : (t : List Float) (i k : ℕ) (p : Point) → i < count → 2 * (first + i) + 1 < length t → trunk_met role pitch x (route_at rs (get_or edges (first + i) 0)) ≡ Some (k, p) → trunk_at (put_point t (first + i) p) (i + 1) ≡ trunk_at t i
   trunk_on t i k p h l e =
       ap (λ (ts : List TapOn). prepend ts (trunk_rest (i + 1))) (taps_put edges t first i p l)
       ∙ sym (prepend_then (taps_from edges t first i) k (get_or edges (first + i) 0) p (trunk_rest (i + 1)))
-      ∙ sym (ap (λ (o : Option (List TapOn)). prepend (taps_from edges t first i) o) (rest_next i h ∙ ap (λ (c : Crossing). tap_then c (get_or edges (first + i) 0) (trunk_rest (i + 1))) e))
+      ∙ sym (ap (λ (o : Option (List TapOn)). prepend (taps_from edges t first i) o) (rest_next i h ∙ ap (λ (c : Option (ℕ × Point)). tap_then c (get_or edges (first + i) 0) (trunk_rest (i + 1))) e))
 
   pub trunk_end : (t : List Float) (i : ℕ) → i ≡ count → tapped_in true edges t first count ≡ trunk_at t i
   unfolding tapped_in trunk_taps members_from prepend

@@ -24,7 +24,6 @@ use board::{Bundle, DrawnBundle, Options};
 use geometry::{Point, Role, Segment};
 use limits::SLOT_POINTS;
 use plan::Bound;
-use route::Crossing;
 
 // The lowest and the highest y of a bundle's taps and its endpoint.
 #[derive(Clone, Copy)]
@@ -35,8 +34,16 @@ pub struct Reach {
 
 // ---- build_interior_geometry
 
-// Where a route of count points from point start on has its tap at x.
-fn trunk_tap(role: Role, pitch: f64, x: f64, points: &[f64], start: usize, count: usize) -> Crossing
+// Where a route of count points from point start on has its tap at x: an input's is its first crossing,
+// an output's its last, two functions of the Rust.
+fn trunk_tap(
+    role: Role,
+    pitch: f64,
+    x: f64,
+    points: &[f64],
+    start: usize,
+    count: usize,
+) -> Option<(usize, Point)>
     requires { 2 * (start + count) ≤ length points.now }
     ensures { result ≡ trunk_met role pitch x (points_from points.now start count) }
 {
@@ -67,19 +74,17 @@ fn trunk_taps(
     ensures told { tapped_in result edges.now taps.new first count ≡ trunk_taps role pitch x (members_from edges.now [] first count) (routes_of points.now counts.now) }
     ensures kept { Untouched taps.old taps.new first count }
 {
-    let mut i: usize = 0;
-    while i < count {
+    for i in 0..count {
         let e = edges[first + i];
         let c = trunk_tap(role, pitch, x, points, SLOT_POINTS * e, counts[e]);
         match c {
-            Crossing::Nowhere => {
+            None => {
                 return false;
             }
-            Crossing::On(k, p) => {
+            Some((k, p)) => {
                 route_views::put_point(&mut taps[..], first + i, p);
             }
         }
-        i += 1;
     }
     true
 }
@@ -92,17 +97,12 @@ fn tap_reach(y: f64, taps: &[f64], first: usize, count: usize) -> Reach
 {
     let mut low = y;
     let mut high = y;
-    let mut i: usize = 0;
-    while i < count {
+    for i in 0..count {
         let p = route_views::point_at(taps, first + i);
         low = binary64::min(low, p.y);
         high = binary64::max(high, p.y);
-        i += 1;
     }
-    Reach {
-        low: low,
-        high: high,
-    }
+    Reach { low, high }
 }
 
 // ---- the interior test of rewrite_member_routes
@@ -112,13 +112,11 @@ fn taps_are_at(x: f64, taps: &[f64], first: usize, count: usize) -> bool
     requires { 2 * (first + count) ≤ length taps.now }
     ensures { result ≡ all_at x (taps_from [] taps.now first count) }
 {
-    let mut i: usize = 0;
-    while i < count {
+    for i in 0..count {
         let p = route_views::point_at(taps, first + i);
         if !(p.x == x) {
             return false;
         }
-        i += 1;
     }
     true
 }
@@ -164,9 +162,9 @@ fn drawn_with(
     let interior = counts_interior(depth, pitch, collector, spine, taps, u.first, u.count);
     DrawnBundle {
         id: u.id,
-        interior: interior,
-        collector: collector,
-        spine: spine,
+        interior,
+        collector,
+        spine,
         first: u.first,
         count: u.count,
     }
@@ -178,12 +176,9 @@ fn build_inside(o: Options, end: Point, u: Bundle, x: f64, taps: &[f64]) -> Draw
     ensures { result ≡ inside_with o u end x (taps_from [] taps.now u.first u.count) }
 {
     let reach = tap_reach(end.y, taps, u.first, u.count);
-    let low = Point { x: x, y: reach.low };
-    let high = Point {
-        x: x,
-        y: reach.high,
-    };
-    let corner = Point { x: x, y: end.y };
+    let low = Point { x, y: reach.low };
+    let high = Point { x, y: reach.high };
+    let corner = Point { x, y: end.y };
     drawn_with(
         o,
         u,
@@ -241,11 +236,9 @@ fn rail_taps(
     ensures placed { Placed taps.new first count (λ k. rail_point end middle pitch (get_or lanes.now (first + k) 0)) }
     ensures kept { Untouched taps.old taps.new first count }
 {
-    let mut i: usize = 0;
-    while i < count {
+    for i in 0..count {
         let p = rail_tap(end, middle, pitch, lanes[first + i]);
         route_views::put_point(&mut taps[..], first + i, p);
-        i += 1;
     }
 }
 
@@ -262,10 +255,7 @@ fn rail_reach(y: f64, taps: &[f64], first: usize, count: usize) -> Reach
     let b = route_views::point_at(taps, first + count - 1);
     let low = binary64::min(a.y, y);
     let high = binary64::max(b.y, y);
-    Reach {
-        low: low,
-        high: high,
-    }
+    Reach { low, high }
 }
 
 fn inward_of(role: Role, x: f64, depth: f64) -> f64
@@ -288,7 +278,7 @@ fn build_rail(o: Options, end: Point, u: Bundle, lanes: &[u32], taps: &mut [f64]
     let pitch = board::pitch_of_bundle(o, u);
     let role = u.role;
     let x = inward_of(role, end.x, depth);
-    let corner = Point { x: x, y: end.y };
+    let corner = Point { x, y: end.y };
     let middle = middle_lane(lanes, u.first, u.count);
     rail_taps(
         corner,

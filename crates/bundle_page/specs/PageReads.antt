@@ -1,7 +1,6 @@
 -- The bundle page read back, of its bytes alone: document 02's "each printed number reads back to the drawn one". Definitions only.
 -- Assumes nothing.
-use Rattle.std.specs.Prelude.{ℕ, ◌+◌, ◌≡◌, cond, List, [], ◌∷◌, pos, T, Float, length, take, drop, get_or}
-use Rattle.std.proofs.Math.Option.{some}
+use Rattle.std.specs.Prelude.{ℕ, ◌+◌, ◌≡◌, cond, List, [], ◌∷◌, pos, T, Float, length, take, drop, get_or, Some}
 use Rattle.std.proofs.Common.{lit<}
 use Rattle.std.specs.Float.Ieee.Scale.{finite}
 use Rattle.binary64.specs.Order.{least, greatest}
@@ -16,14 +15,14 @@ ten_millionths n = record { numerator = pos n; denominator = 10000000; above_zer
 -- the field is read as a number that is exactly x
 pub record ReadsAs (field : List ℕ) (x : Float) : Type 0 where
   pub number : ℕ
-  pub is_read : read field ≡ some number
+  pub is_read : read field ≡ Some number
   pub is_finite : T (finite x)
   pub is_exact : Sameℚ (ten_millionths number) (value x)
 
 -- the line, its id in w columns, is that of the bundle t. 32 is a space, 73 is I, 82 is R, 10 the newline
 pub record LineReads (w : ℕ) (line : List ℕ) (t : Trunk) : Type 0 where
   pub long : length line ≡ 66 + w
-  pub id : read_id (take w line) ≡ some t.id
+  pub id : read_id (take w line) ≡ Some t.id
   pub behind_id : get_or line w 0 ≡ 32
   pub letter : get_or line (w + 1) 0 ≡ cond t.interior 73 82
   pub behind_letter : get_or line (w + 2) 0 ≡ 32

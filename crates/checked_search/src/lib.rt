@@ -32,19 +32,19 @@ pub fn search_checked(
     ensures untouched { Untouched (search_number xs.old candidates.old scratch.old points.now starts.now counts.now role pitch (bounds minimum desired maximum) granted) candidates.old candidates.new scratch.old scratch.new }
 {
     let b = Bounds {
-        minimum: minimum,
-        desired: desired,
-        maximum: maximum,
+        minimum,
+        desired,
+        maximum,
     };
     let room = (LARGEST_LIST <= xs.len())
         & (SEARCH_SCRATCH <= candidates.len())
         & (SEARCH_SCRATCH <= scratch.len());
     let bounds = search_refusals::is_bounds(b);
-    let number = search_refusals::refusal_of(
+    let refused = search_refusals::refusal_of(
         room, points, starts, counts, role, pitch, bounds, granted,
     );
-    if number != 0 {
-        return search_replies::refuse(number, granted);
+    if let Err(refusal) = refused {
+        return search_replies::refuse(u8::from(refusal), granted);
     }
     let side = search_refusals::role_from(role);
     let mut work = [0.0; ENTRY_WORK];
@@ -81,20 +81,20 @@ pub fn promotion_checked(
     ensures untouched { Untouched (promotion_number xs.old candidates.old scratch.old points.now starts.now counts.now role pitch (collector_bounds present minimum desired maximum) granted) candidates.old candidates.new scratch.old scratch.new }
 {
     let b = Bounds {
-        minimum: minimum,
-        desired: desired,
-        maximum: maximum,
+        minimum,
+        desired,
+        maximum,
     };
     let room = (MOST_KEPT <= xs.len())
         & (PROMOTION_SCRATCH <= candidates.len())
         & (PROMOTION_SCRATCH <= scratch.len());
     let accepted = search_refusals::is_bounds(b);
     let bounds = !present | accepted;
-    let number = search_refusals::refusal_of(
+    let refused = search_refusals::refusal_of(
         room, points, starts, counts, role, pitch, bounds, granted,
     );
-    if number != 0 {
-        return search_replies::refuse(number, granted);
+    if let Err(refusal) = refused {
+        return search_replies::refuse(u8::from(refusal), granted);
     }
     if !present {
         return SearchAnswer {

@@ -1,7 +1,7 @@
 -- The tests of a check one after the other: run after run, tap after tap, route after route, bundle after bundle, node after node.
 -- Assumes nothing.
 use Prim.Native.Nat.{ℕ, zero, suc, ◌+◌, ◌*◌, ◌-◌, ◌≤◌, ◌<◌}
-use Rattle.std.specs.Prelude.{◌≡◌, refl, Bool, false, not, cond, length, get_or, take, drop, Float}
+use Rattle.std.specs.Prelude.{◌≡◌, refl, Bool, false, not, cond, length, get_or, take, drop, Float, Option, Some, None}
 use Rattle.std.proofs.Math.Path.{sym, ap, fun_ext}
 use Rattle.std.proofs.Common.{◌∙◌, add-one, drop_of_length-le, get_or-take, length-take-le}
 use mathlib.Core.List.{List, [], ◌∷◌, ◌++◌, map}
@@ -15,8 +15,6 @@ use Rattle.limits.specs.Limits.{slot_points}
 use Rattle.geometry.specs.declared.Node.{Node}
 use Rattle.geometry.specs.declared.Point.{Point}
 use Rattle.geometry.specs.declared.Segment.{Segment}
-use Rattle.geometry.specs.declared.Tap.{Tap}
-use Rattle.geometry.specs.declared.Tap.TheVariants.{Absent, At}
 use Rattle.geometry.specs.Points.{Route, runs, point_at, run_at, points_from}
 use Rattle.geometry.specs.Apart.{trunk, apart}
 use Rattle.geometry.proofs.Clear.{apart_contact, apart_spacing}
@@ -30,14 +28,12 @@ use Rattle.board.specs.declared.DrawnBundle.{DrawnBundle}
 use Rattle.board.specs.declared.PlacedNode.{PlacedNode}
 use Rattle.board.specs.declared.Edge.{Edge}
 use Rattle.board.specs.Board.{Board}
-use Rattle.drawing.specs.declared.Finding.{Finding}
-use Rattle.drawing.specs.declared.Finding.TheVariants as finding
 use Rattle.geometry.specs.Contact.{slanted}
 use Rattle.geometry.specs.Enters.{passes_inside}
 use Rattle.drawing.specs.Build.{seg, tap_of}
 use Rattle.drawing.specs.Check.{Test, due, barred, clean, failed, walk, own, node_tests, inside_tests, member_tests, no_edge, clash, run_tests, over_routes, drawn_tests, pair_tests, prior_tests}
 use Rattle.drawing.proofs.CleanChecks.{walk_on, walk_off}
-use Rattle.checks.specs.Purse.{told, charged}
+use Rattle.checks.specs.Purse.{charged}
 use Rattle.checks.specs.CheckRows.{taps_from, drawn_of, box_at, boxes_from, nodes_in, edge_at, bare_node, bare_edge, inside_route, Sliced, Tabled, AllTabled}
 
 -- ---- one test, and tests after tests
@@ -52,53 +48,53 @@ charge_one zero h = absurd (h refl)
 charge_one (suc n) h = let a : suc n - 1 ≡ n = omega arith in rw a
 
 -- a charge that is refused leaves nothing, as it found it; one that is paid leaves one less
-unpaid : (n m : ℕ) (r : Bool) → (r, m) ≡ charged n → not r ≡ true → (n ≡ 0) × (m ≡ 0)
+unpaid : (n m : ℕ) → (false, m) ≡ charged n → (n ≡ 0) × (m ≡ 0)
 unfolding charged
-unpaid zero m r p h = (refl, ap (λ (x : Bool × ℕ). x.1) p)
-unpaid (suc n) m r p h =
-    let t : false ≡ true = sym (ap (λ (x : Bool × ℕ). not x.0) p) ∙ h in
+unpaid zero m p = (refl, ap (λ (x : Bool × ℕ). x.1) p)
+unpaid (suc n) m p =
+    let t : false ≡ true = ap (λ (x : Bool × ℕ). x.0) p in
     let z : ◌≡◌ {A = ℕ} 0 1 = cc in
     absurd (omega arith)
 
-paid : (n m : ℕ) (r : Bool) → (r, m) ≡ charged n → not r ≡ false → n ≡ suc m
+paid : (n m : ℕ) → (true, m) ≡ charged n → n ≡ suc m
 unfolding charged
-paid zero m r p h =
-    let t : true ≡ false = sym (ap (λ (x : Bool × ℕ). not x.0) p) ∙ h in
+paid zero m p =
+    let t : true ≡ false = ap (λ (x : Bool × ℕ). x.0) p in
     let z : ◌≡◌ {A = ℕ} 0 1 = cc in
     absurd (omega arith)
-paid (suc n) m r p h = ap suc (sym (ap (λ (x : Bool × ℕ). x.1) p))
+paid (suc n) m p = ap suc (sym (ap (λ (x : Bool × ℕ). x.1) p))
 
-module _ (n m : ℕ) (r : Bool) (p : (r, m) ≡ charged n) (e : ℕ) (b : Bool) (ts : List Test) where
-  pub due_spent : not r ≡ true → failed 14 m ≡ walk e (due b ∷ ts) n
+module _ (n m e : ℕ) (b : Bool) (ts : List Test) where
+  pub due_spent : (false, m) ≡ charged n → failed 14 m ≡ walk e (due b ∷ ts) n
   unfolding walk
-  due_spent h =
-      let a = (unpaid n m r p h).0 in
-      let c = (unpaid n m r p h).1 in
+  due_spent p =
+      let a = (unpaid n m p).0 in
+      let c = (unpaid n m p).1 in
       rw (a, c)
 
-  pub due_hit : not r ≡ false → b ≡ true → failed e m ≡ walk e (due b ∷ ts) n
+  pub due_hit : (true, m) ≡ charged n → b ≡ true → failed e m ≡ walk e (due b ∷ ts) n
   unfolding walk
-  due_hit h k = let a = paid n m r p h in rw (a, k)
+  due_hit p k = let a = paid n m p in rw (a, k)
 
-  pub due_clean : not r ≡ false → b ≡ false → walk e ts m ≡ walk e (due b ∷ ts) n
+  pub due_clean : (true, m) ≡ charged n → b ≡ false → walk e ts m ≡ walk e (due b ∷ ts) n
   unfolding walk
-  due_clean h k = let a = paid n m r p h in rw (a, k)
+  due_clean p k = let a = paid n m p in rw (a, k)
 
 pub walk_done : (e n : ℕ) → clean n ≡ walk e [] n
 unfolding walk
 walk_done e n = refl
 
--- a check in two parts, of which the first found f and left m visits
-module _ (e : ℕ) (xs ys : List Test) (n m : ℕ) (f : Finding) (w : told f m ≡ walk e xs n) where
-  pub then_on : f ≡ finding.Clean → walk e ys m ≡ walk e (xs ++ ys) n
-  then_on h = sym (walk_on e xs ys n (record { 0 = m }) (sym w ∙ ap (λ (x : Finding). told x m) h))
+-- a check in two parts, of which the first left m visits
+module _ (e : ℕ) (xs ys : List Test) (n m : ℕ) where
+  pub then_on : clean m ≡ walk e xs n → walk e ys m ≡ walk e (xs ++ ys) n
+  then_on w = sym (walk_on e xs ys n (record { 0 = m }) (sym w))
 
-  pub then_off : (r : ℕ) → f ≡ finding.Refused r → failed r m ≡ walk e (xs ++ ys) n
-  then_off r h = sym (walk_off e xs ys n r (record { 0 = m }) (sym w ∙ ap (λ (x : Finding). told x m) h))
+  pub then_off : (r : ℕ) → failed r m ≡ walk e xs n → failed r m ≡ walk e (xs ++ ys) n
+  then_off r w = sym (walk_off e xs ys n r (record { 0 = m }) (sym w))
 
 -- ---- run after run
 
-module _ (o : Options) (allow : Bool) (bus : Segment) (tap : Tap) (s : List Float) (start n : ℕ) where
+module _ (o : Options) (allow : Bool) (bus : Segment) (tap : Option Point) (s : List Float) (start n : ℕ) where
   abbrev pub tests_at : ℕ → List Test
   tests_at i = run_tests o allow bus tap (runs (points_from s (start + i) (n - i)))
 
@@ -115,11 +111,11 @@ module _ (o : Options) (allow : Bool) (bus : Segment) (tap : Tap) (s : List Floa
       let b : n - 0 ≡ n = omega arith in
       rw (a, b)
 
-  pub walk_off_at : (i k m r : ℕ) (f : Finding) → i + 1 < n → told f m ≡ walk 11 (look_on i) k → f ≡ finding.Refused r → failed r m ≡ walk 11 (tests_at i) k
-  walk_off_at i k m r f h w x = then_off 11 (look_on i) (tests_at (i + 1)) k m f w r x ∙ ap (λ (l : List Test). walk 11 l k) (tests_next i h)
+  pub walk_off_at : (i k m r : ℕ) → i + 1 < n → failed r m ≡ walk 11 (look_on i) k → failed r m ≡ walk 11 (tests_at i) k
+  walk_off_at i k m r h w = then_off 11 (look_on i) (tests_at (i + 1)) k m r w ∙ ap (λ (l : List Test). walk 11 l k) (tests_next i h)
 
-  pub walk_next : (i k m : ℕ) (f : Finding) → i + 1 < n → told f m ≡ walk 11 (look_on i) k → f ≡ finding.Clean → walk 11 (tests_at (i + 1)) m ≡ walk 11 (tests_at i) k
-  walk_next i k m f h w x = then_on 11 (look_on i) (tests_at (i + 1)) k m f w x ∙ ap (λ (l : List Test). walk 11 l k) (tests_next i h)
+  pub walk_next : (i k m : ℕ) → i + 1 < n → clean m ≡ walk 11 (look_on i) k → walk 11 (tests_at (i + 1)) m ≡ walk 11 (tests_at i) k
+  walk_next i k m h w = then_on 11 (look_on i) (tests_at (i + 1)) k m w ∙ ap (λ (l : List Test). walk 11 l k) (tests_next i h)
 
   pub walk_end : (i k : ℕ) → n ≤ i + 1 → clean k ≡ walk 11 (tests_at i) k
   unfolding walk run_tests
@@ -127,34 +123,32 @@ module _ (o : Options) (allow : Bool) (bus : Segment) (tap : Tap) (s : List Floa
 
 -- ---- a run that is apart from a bus
 
-pub apart_clean : (o : Options) (allow : Bool) (bus : Segment) (tap : Tap) (run : Segment) → apart (trunk bus) o.minimum_parallel_wire_spacing run.start run.end ≡ true → clash o allow bus tap run ≡ false
+pub apart_clean : (o : Options) (allow : Bool) (bus : Segment) (tap : Option Point) (run : Segment) → apart (trunk bus) o.minimum_parallel_wire_spacing run.start run.end ≡ true → clash o allow bus tap run ≡ false
 unfolding clash
 apart_clean o allow bus tap run h = rw (kind_contact bus run.start run.end tap allow, apart_contact bus o.minimum_parallel_wire_spacing run.start run.end tap allow h, apart_spacing bus o.minimum_parallel_wire_spacing run.start run.end h)
 
 -- ---- tap after tap
 
-module _ (edges : List ℕ) (taps : List Float) (first n e : ℕ) where
-  abbrev pub tap_at : ℕ → Tap
-  tap_at i = tap_of (taps_from edges taps (first + i) (n - i)) e
+-- the taps from member i on, before member n
+module _ (edges : List ℕ) (taps : List Float) (n e : ℕ) where
+  abbrev pub tap_at : ℕ → Option Point
+  tap_at i = tap_of (taps_from edges taps i (n - i)) e
 
-  pub tap_start : tap_at 0 ≡ tap_of (taps_from edges taps first n) e
-  tap_start =
-      let a : first + 0 ≡ first = omega arith in
-      let b : n - 0 ≡ n = omega arith in
-      rw (a, b)
+  pub tap_start : (first m : ℕ) → n ≡ first + m → tap_at first ≡ tap_of (taps_from edges taps first m) e
+  tap_start first m h = let a : n - first ≡ m = omega arith in rw a
 
-  pub tap_here : (i : ℕ) → i < n → get_or edges (first + i) 0 ≡ e → tap_at i ≡ At (point_at taps (first + i))
+  pub tap_here : (i : ℕ) → i < n → get_or edges i 0 ≡ e → tap_at i ≡ Some (point_at taps i)
   unfolding taps_from tap_of
-  tap_here i h q = let a : n - i ≡ suc (n - (i + 1)) = omega arith in rw (a, eq-eqb (get_or edges (first + i) 0) e q)
+  tap_here i h q = let a : n - i ≡ suc (n - (i + 1)) = omega arith in rw (a, eq-eqb (get_or edges i 0) e q)
 
-  pub tap_next : (i : ℕ) → i < n → (get_or edges (first + i) 0 ≡ e → ⊥) → tap_at (i + 1) ≡ tap_at i
+  pub tap_next : (i : ℕ) → i < n → (get_or edges i 0 ≡ e → ⊥) → tap_at (i + 1) ≡ tap_at i
   unfolding taps_from tap_of
   tap_next i h q =
       let a : n - i ≡ suc (n - (i + 1)) = omega arith in
-      let b : first + (i + 1) ≡ suc (first + i) = omega arith in
-      rw (a, ne_eqb (get_or edges (first + i) 0) e q, b)
+      let b : suc i ≡ i + 1 = omega arith in
+      rw (a, ne_eqb (get_or edges i 0) e q, b)
 
-  pub tap_none : (i : ℕ) → n ≤ i → tap_at i ≡ Absent
+  pub tap_none : (i : ℕ) → n ≤ i → tap_at i ≡ None
   unfolding taps_from tap_of
   tap_none i h = let a : n - i ≡ 0 = omega arith in rw a
 
@@ -177,12 +171,12 @@ module _ (er : ℕ) (f : ℕ → Route → List Test) (chosen : ℕ → Bool) (s
   chosen_next : (i : ℕ) → i < length ns → chosen i ≡ true → rest_of i ≡ f i (slot_at i) ++ rest_of (i + 1)
   chosen_next i h e = rest_next i h ∙ ap (λ (c : Bool). cond c (f i (slot_at i)) [] ++ rest_of (i + 1)) e
 
-  module _ (i k m : ℕ) (x : Finding) (h : i < length ns) (e : chosen i ≡ true) (w : told x m ≡ walk er (f i (slot_at i)) k) where
-    pub over_on : x ≡ finding.Clean → walk er (rest_of (i + 1)) m ≡ walk er (rest_of i) k
-    over_on y = then_on er (f i (slot_at i)) (rest_of (i + 1)) k m x w y ∙ sym (ap (λ (l : List Test). walk er l k) (chosen_next i h e))
+  module _ (i k m : ℕ) (h : i < length ns) (e : chosen i ≡ true) where
+    pub over_on : clean m ≡ walk er (f i (slot_at i)) k → walk er (rest_of (i + 1)) m ≡ walk er (rest_of i) k
+    over_on w = then_on er (f i (slot_at i)) (rest_of (i + 1)) k m w ∙ sym (ap (λ (l : List Test). walk er l k) (chosen_next i h e))
 
-    pub over_off : (r : ℕ) → x ≡ finding.Refused r → failed r m ≡ walk er (rest_of i) k
-    over_off r y = then_off er (f i (slot_at i)) (rest_of (i + 1)) k m x w r y ∙ sym (ap (λ (l : List Test). walk er l k) (chosen_next i h e))
+    pub over_off : (r : ℕ) → failed r m ≡ walk er (f i (slot_at i)) k → failed r m ≡ walk er (rest_of i) k
+    over_off r w = then_off er (f i (slot_at i)) (rest_of (i + 1)) k m r w ∙ sym (ap (λ (l : List Test). walk er l k) (chosen_next i h e))
 
   pub over_end : (i k : ℕ) → length ns ≤ i → clean k ≡ walk er (rest_of i) k
   unfolding over_routes routes_from walk
@@ -207,12 +201,12 @@ module _ (o : Options) (allow : Bool) (new : DrawnBundle) (changed : ℕ → Boo
   unfolding prior_tests
   prior_next i d h k = rw (part_cons l n i d h k)
 
-  module _ (i : ℕ) (d : DrawnBundle) (k m : ℕ) (x : Finding) (h : i < n) (q : n ≤ length l) (w : told x m ≡ walk 11 (one_at (get_or l i d)) k) where
-    pub prior_on : x ≡ finding.Clean → walk 11 (priors_at (i + 1)) m ≡ walk 11 (priors_at i) k
-    prior_on y = then_on 11 (one_at (get_or l i d)) (priors_at (i + 1)) k m x w y ∙ sym (ap (λ (t : List Test). walk 11 t k) (prior_next i d h q))
+  module _ (i : ℕ) (d : DrawnBundle) (k m : ℕ) (h : i < n) (q : n ≤ length l) where
+    pub prior_on : clean m ≡ walk 11 (one_at (get_or l i d)) k → walk 11 (priors_at (i + 1)) m ≡ walk 11 (priors_at i) k
+    prior_on w = then_on 11 (one_at (get_or l i d)) (priors_at (i + 1)) k m w ∙ sym (ap (λ (t : List Test). walk 11 t k) (prior_next i d h q))
 
-    pub prior_off : (r : ℕ) → x ≡ finding.Refused r → failed r m ≡ walk 11 (priors_at i) k
-    prior_off r y = then_off 11 (one_at (get_or l i d)) (priors_at (i + 1)) k m x w r y ∙ sym (ap (λ (t : List Test). walk 11 t k) (prior_next i d h q))
+    pub prior_off : (r : ℕ) → failed r m ≡ walk 11 (one_at (get_or l i d)) k → failed r m ≡ walk 11 (priors_at i) k
+    prior_off r w = then_off 11 (one_at (get_or l i d)) (priors_at (i + 1)) k m r w ∙ sym (ap (λ (t : List Test). walk 11 t k) (prior_next i d h q))
 
   pub prior_end : (i k : ℕ) → n ≤ i → n ≤ length l → clean k ≡ walk 11 (priors_at i) k
   unfolding prior_tests walk
@@ -248,19 +242,19 @@ module _ (e : Edge) (s : Segment) (boxes : List Float) (n : ℕ) (rest : List Te
   pub node_own : (j k : ℕ) → j < n → own e j ≡ true → walk 12 (nodes_at (j + 1)) k ≡ walk 12 (nodes_at j) k
   node_own j k h o = sym (ap (λ (x : List Test). walk 12 x k) (own_next j h o))
 
-  module _ (j k m : ℕ) (r : Bool) (h : j < n) (o : own e j ≡ false) (p : (r, m) ≡ charged k) where
+  module _ (j k m : ℕ) (h : j < n) (o : own e j ≡ false) where
     abbrev now_due : walk 12 (look_at j ∷ nodes_at (j + 1)) k ≡ walk 12 (nodes_at j) k
     now_due = sym (ap (λ (x : List Test). walk 12 x k) (due_next j h o))
 
-    pub node_spent : not r ≡ true → failed 14 m ≡ walk 12 (nodes_at j) k
-    node_spent z = due_spent k m r p 12 _ (nodes_at (j + 1)) z ∙ now_due
+    pub node_spent : (false, m) ≡ charged k → failed 14 m ≡ walk 12 (nodes_at j) k
+    node_spent p = due_spent k m 12 _ (nodes_at (j + 1)) p ∙ now_due
 
-    module _ (d : Node) (b : d ≡ (box_at boxes j).body) where
-      pub node_hit : not r ≡ false → passes_inside s.start s.end d ≡ true → failed 12 m ≡ walk 12 (nodes_at j) k
-      node_hit z x = due_hit k m r p 12 _ (nodes_at (j + 1)) z (ap (passes_inside s.start s.end) (sym b) ∙ x) ∙ now_due
+    module _ (d : Node) (b : d ≡ (box_at boxes j).body) (p : (true, m) ≡ charged k) where
+      pub node_hit : passes_inside s.start s.end d ≡ true → failed 12 m ≡ walk 12 (nodes_at j) k
+      node_hit x = due_hit k m 12 _ (nodes_at (j + 1)) p (ap (passes_inside s.start s.end) (sym b) ∙ x) ∙ now_due
 
-      pub node_clean : not r ≡ false → passes_inside s.start s.end d ≡ false → walk 12 (nodes_at (j + 1)) m ≡ walk 12 (nodes_at j) k
-      node_clean z x = due_clean k m r p 12 _ (nodes_at (j + 1)) z (ap (passes_inside s.start s.end) (sym b) ∙ x) ∙ now_due
+      pub node_clean : passes_inside s.start s.end d ≡ false → walk 12 (nodes_at (j + 1)) m ≡ walk 12 (nodes_at j) k
+      node_clean x = due_clean k m 12 _ (nodes_at (j + 1)) p (ap (passes_inside s.start s.end) (sym b) ∙ x) ∙ now_due
 
   pub node_end : (j k : ℕ) → n ≤ j → walk 12 (nodes_at j) k ≡ walk 12 rest k
   unfolding node_tests boxes_from

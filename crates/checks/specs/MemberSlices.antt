@@ -1,7 +1,6 @@
 -- The members of a bundle as the slices hold them, and what their routes' slots must have. Definitions of inner contracts.
 -- Assumes nothing.
-use Rattle.std.specs.Prelude.{ℕ, zero, suc, ◌+◌, ◌*◌, ◌-◌, ◌≤◌, ◌<◌, ◌≡◌, ◌⊎◌, List, [], ◌∷◌, Bool, false, cond, ◌&&◌, ltb, get_or, length, Float}
-use Rattle.std.proofs.Math.Option.{Option, none, some}
+use Rattle.std.specs.Prelude.{ℕ, zero, suc, ◌+◌, ◌*◌, ◌-◌, ◌≤◌, ◌<◌, ◌≡◌, ◌⊎◌, List, [], ◌∷◌, Bool, false, cond, ◌&&◌, ltb, get_or, length, Float, Option, Some, None}
 use Rattle.std.specs.Float.{binary64}
 use Rattle.std.specs.Float.Ieee.{eq, le, add, sub, mul}
 use Rattle.limits.specs.Limits.{max_lane, slot_points, slot_numbers}
@@ -18,8 +17,7 @@ use Rattle.board.specs.declared.DrawnBundle.{DrawnBundle}
 use Rattle.board.specs.Board.{Board, rail_depth, bundle_pitch}
 use Rattle.plan.specs.Depths.{number, inward, endpoint_of, members_in}
 use Rattle.drawing.specs.Build.{pt, seg, TapOn, Drawn, build, lowest, highest, rail_low, rail_high, all_at}
-use Rattle.drawing.specs.declared.Verdict.{Verdict}
-use Rattle.drawing.specs.declared.Verdict.TheVariants.{Clean, Refused}
+use Rattle.drawing.specs.Verdict.{Verdict, Clean, Refused}
 use Rattle.drawing.specs.Check.{among}
 use Rattle.checks.specs.CheckRows.{taps_from}
 use Rattle.drawing.specs.Rewrite.{rewritten, two_points}
@@ -35,11 +33,11 @@ depth_at offset pitch lane = add binary64 offset (mul binary64 (number (suc lane
 
 -- a route rewritten, at a given corridor depth
 unfoldable pub rewrite_with : Bool → Role → Float → Float → Point → Route → Option Route
-rewrite_with inside role pitch depth tap r = cond (ltb (length r) 2) none (two_points (rewritten inside role pitch depth tap r))
+rewrite_with inside role pitch depth tap r = cond (ltb (length r) 2) None (two_points (rewritten inside role pitch depth tap r))
 
 -- what the slots hold, if all went well
 unfoldable pub routes_in : Bool → List Float → List ℕ → Option (List Route)
-routes_in done points counts = cond done (some (routes_of points counts)) none
+routes_in done points counts = cond done (Some (routes_of points counts)) None
 
 -- only the count of route e may differ
 pub record CountsKept (old new : List ℕ) (e : ℕ) : Type 0 where
@@ -77,7 +75,7 @@ pub record Slots (edges : List ℕ) (first count : ℕ) (points : List Float) (c
 
 -- what a bundle's taps are, if all went well
 unfoldable pub tapped_in : Bool → List ℕ → List Float → ℕ → ℕ → Option (List TapOn)
-tapped_in done edges taps first count = cond done (some (taps_from edges taps first count)) none
+tapped_in done edges taps first count = cond done (Some (taps_from edges taps first count)) None
 
 -- the tap of a lane on the rail
 abbrev pub rail_point : Point → Float → Float → ℕ → Point

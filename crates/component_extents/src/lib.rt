@@ -28,23 +28,15 @@ pub fn of_role(role: Role, t: Ranges, order: &[usize], n: usize) -> Places
     ensures { (m : ℕ) → Listing order.now n m → Chosen role (ranges_in m t) (take n order.now) m result }
 {
     let mut rows = [0; MAX_BUNDLES];
-    let mut count: usize = 0;
-    let mut k: usize = 0;
-    while k < n {
+    let mut count = 0;
+    for k in 0..n {
         let i = order[k];
-        let s = t.rows[i];
-        let u = s.bundle;
-        let its = u.role;
-        k += 1;
-        if plan_numbers::is_same_role(its, role) {
+        if plan_numbers::is_same_role(t.rows[i].bundle.role, role) {
             rows[count] = i;
             count += 1;
         }
     }
-    Places {
-        rows: rows,
-        count: count,
-    }
+    Places { rows, count }
 }
 
 // The bound of a role: an input's minimum, an output's maximum.
@@ -85,24 +77,15 @@ pub fn extent(role: Role, t: Ranges, which: &[usize], count: usize) -> Extent
     requires { (0 < count) × Listing which.now count max_bundles }
     ensures { (m : ℕ) → Listing which.now count m → result ≡ extent role (ranges_in m t) (get_or which.now 0 0) (drop 1 (take count which.now)) }
 {
-    let first = which[0];
-    let s = t.rows[first];
-    let b = s.bounds;
+    let b = t.rows[which[0]].bounds;
     let mut bound = bound_of(role, b);
     let mut desired = desired_of(b);
-    let mut k: usize = 1;
-    while k < count {
-        let i = which[k];
-        let next = t.rows[i];
-        let c = next.bounds;
+    for k in 1..count {
+        let c = t.rows[which[k]].bounds;
         bound = inner(role, bound, bound_of(role, c));
         desired = inner(role, desired, desired_of(c));
-        k += 1;
     }
-    Extent {
-        bound: bound,
-        desired: desired,
-    }
+    Extent { bound, desired }
 }
 
 // The bundles in a list are given up.
@@ -111,17 +94,10 @@ pub fn drop_all(which: &[usize], count: usize, p: Planning) -> Planning
     ensures { (m : ℕ) → Listing which.now count m → plan_in m result ≡ record { xs = drop_all (take count which.now) (plan_in m p).xs; left = p.left.0 } }
 {
     let mut rows = p.rows;
-    let mut k: usize = 0;
-    while k < count {
-        let i = which[k];
-        rows[i] = Planned { x: Bound::None };
-        k += 1;
+    for k in 0..count {
+        rows[which[k]] = Planned { x: Bound::None };
     }
-    let left = p.left;
-    Planning {
-        rows: rows,
-        left: left,
-    }
+    Planning { rows, left: p.left }
 }
 
 // ---- every component
@@ -142,17 +118,9 @@ pub fn initial(t: Ranges, n: usize) -> Planning
     ensures { plan_in n result ≡ record { xs = map initial_x (ranges_in n t); left = t.left.0 } }
 {
     let mut rows = [Planned { x: Bound::None }; MAX_BUNDLES];
-    let mut at: usize = 0;
-    while at < n {
-        let s = t.rows[at];
-        let b = s.bounds;
-        let x = initial_x(b);
-        rows[at] = Planned { x: x };
-        at += 1;
+    for at in 0..n {
+        let x = initial_x(t.rows[at].bounds);
+        rows[at] = Planned { x };
     }
-    let left = t.left;
-    Planning {
-        rows: rows,
-        left: left,
-    }
+    Planning { rows, left: t.left }
 }

@@ -16,7 +16,7 @@ use Rattle.plan.specs.Plan.{Ranged, no_ranged, ranged_at, found?, Walk, push_all
 use Rattle.plan.specs.Prepared.{Listing, range_at, ranged_from, passed, TabledTo}
 use Rattle.plan.specs.Stack.{row_from, row_of}
 use Rattle.plan.proofs.TableReads.{length_part}
-use Rattle.plan_neighbours.proofs.Walks.{Below, near_below, was_new, was_old}
+use Rattle.plan_neighbours.proofs.Walks.{Below, near_below, same_in}
 use Rattle.components.specs.Settled.{ranges_in, Neighboured, AllEdges, settled}
 use Rattle.components.proofs.Turns.{range_read, below_listing}
 
@@ -133,12 +133,12 @@ module _ (b : Board) (given : List Route) (ranges : List Ranged) (n : ℕ) (seen
   unfolding components
   by e = sym (ap (λ (z : List ℕ). components search_of b given ranges z (take n seen) p) pl ∙ rw e refl)
 
-  pub turn_seen : not (get_or seen i false) ≡ false → components search_of b given ranges is (take n seen) p ≡ components search_of b given ranges l (take n seen) p
-  turn_seen e = by (ap (λ (z : Bool). z || not (found? (ranged_at ranges i).bounds)) (marked ∙ was_old seen i m e))
+  pub turn_seen : get_or seen i false ≡ true → components search_of b given ranges is (take n seen) p ≡ components search_of b given ranges l (take n seen) p
+  turn_seen e = by (ap (λ (z : Bool). z || not (found? (ranged_at ranges i).bounds)) (marked ∙ same_in seen i m ∙ e))
 
-  module _ (new : not (get_or seen i false) ≡ true) (f : Bool) (ef : f ≡ found? (ranged_at ranges i).bounds) where
+  module _ (new : get_or seen i false ≡ false) (f : Bool) (ef : f ≡ found? (ranged_at ranges i).bounds) where
     pub turn_absent : f ≡ false → components search_of b given ranges is (take n seen) p ≡ components search_of b given ranges l (take n seen) p
-    turn_absent e = by (neither _ _ f _ marked ef (was_new seen i m new) e)
+    turn_absent e = by (neither _ _ f _ marked ef (same_in seen i m ∙ new) e)
 
     module _ (c : Component) (s : Step) (found : f ≡ true) (ec : c ≡ component_of b given ranges i (take n seen)) (es : s ≡ treated search_of b given ranges c.order p) where
       treating : then s (components search_of b given ranges is c.seen) ≡ components search_of b given ranges l (take n seen) p
@@ -146,7 +146,7 @@ module _ (b : Board) (given : List Route) (ranges : List Ranged) (n : ℕ) (seen
       treating =
           ap (λ (z : Step). then z (components search_of b given ranges is c.seen)) es
           ∙ ap (λ (z : Component). then (treated search_of b given ranges z.order p) (components search_of b given ranges is z.seen)) ec
-          ∙ sym (ap (λ (z : List ℕ). components search_of b given ranges z (take n seen) p) pl ∙ rw (both _ _ f _ marked ef (was_new seen i m new) found) refl)
+          ∙ sym (ap (λ (z : List ℕ). components search_of b given ranges z (take n seen) p) pl ∙ rw (both _ _ f _ marked ef (same_in seen i m ∙ new) found) refl)
 
       pub turn_going : (q : Plan) → s ≡ going q → components search_of b given ranges is c.seen q ≡ components search_of b given ranges l (take n seen) p
       turn_going q e = ap (λ (z : Step). then z (components search_of b given ranges is c.seen)) (sym e) ∙ treating

@@ -13,7 +13,7 @@ ghost use Rattle.plan.specs.Plan.{indices_from, components};
 ghost use Rattle.plan.specs.Prepared.{Searchable, AllAmong, RangesAmong, passed, plan_in};
 ghost use Rattle.components.specs.Settled.{ranges_in, step_in, Known, Neighboured, AllEdges, settled};
 
-use components::Step;
+use components::NoRoom;
 use limits::{BUNDLE_PAIRS, MAX_BUNDLES};
 use plan::{Planning, Ranges, Reaches};
 
@@ -32,7 +32,7 @@ fn components(
     before: Planning,
     xs: &mut [f64],
     scratch: &mut [f64],
-) -> Step
+) -> Result<Planning, NoRoom>
     requires searchable { Searchable points.now starts.now counts.now xs.old scratch.old }
     requires all_among { AllAmong starts.now t }
     ensures { (b : Board) (given : List Route) → Known b given points.now starts.now counts.now rail pitch t (ranges_in t.count ranges) → Neighboured b given (ranges_in t.count ranges) t.count adjacent.now → step_in t.count result ≡ components search_of b given (ranges_in t.count ranges) (indices_from 0 (ranges_in t.count ranges)) (replicate t.count false) (plan_in t.count before) }
@@ -40,42 +40,16 @@ fn components(
     let n = t.count;
     let mut seen = [false; MAX_BUNDLES];
     let mut p = before;
-    let mut i: usize = 0;
-    while i < n {
-        let at = i;
-        i += 1;
-        let s = ranges.rows[at];
-        let b = s.bounds;
-        if !seen[at] {
-            if plan_numbers::is_found(b) {
-                let w = plan_neighbours::component(adjacent, n, at, seen);
-                let order = w.order;
-                seen = w.seen;
-                let step = component_settling::treat(
-                    points,
-                    starts,
-                    counts,
-                    rail,
-                    pitch,
-                    t,
-                    ranges,
-                    &order[..],
-                    w.count,
-                    p,
-                    &mut xs[..],
-                    &mut scratch[..],
-                );
-                if step.refused {
-                    return step;
-                }
-                p = step.plan;
-            }
+    for i in 0..n {
+        if !seen[i] && plan_numbers::is_found(ranges.rows[i].bounds) {
+            let w = plan_neighbours::component(adjacent, n, i, seen);
+            seen = w.seen;
+            p = component_settling::treat(
+                points, starts, counts, rail, pitch, t, ranges, &w.order, w.count, p, xs, scratch,
+            )?;
         }
     }
-    Step {
-        refused: false,
-        plan: p,
-    }
+    Ok(p)
 }
 
 // The plan after the first pass, component after component.
@@ -90,7 +64,7 @@ pub fn settle_components(
     ranges: Ranges,
     xs: &mut [f64],
     scratch: &mut [f64],
-) -> Step
+) -> Result<Planning, NoRoom>
     requires searchable { Searchable points.now starts.now counts.now xs.old scratch.old }
     requires all_among { AllAmong starts.now t }
     requires ranges_among { RangesAmong edges.now ranges t.count }
@@ -98,19 +72,8 @@ pub fn settle_components(
 {
     let n = t.count;
     let a = plan_neighbours::adjacency(edges, ranges, n);
-    let adjacent = a.rows;
     let p = component_extents::initial(ranges, n);
     components(
-        points,
-        starts,
-        counts,
-        &adjacent,
-        rail,
-        pitch,
-        t,
-        ranges,
-        p,
-        &mut xs[..],
-        &mut scratch[..],
+        points, starts, counts, &a.rows, rail, pitch, t, ranges, p, xs, scratch,
     )
 }

@@ -14,7 +14,7 @@ ghost use Rattle.plan.specs.Plan.{Ranged, input_split, exceeds, split, limited, 
 ghost use Rattle.plan.specs.Prepared.{Listing, Searchable, AllAmong, plan_in};
 ghost use Rattle.components.specs.Settled.{ranges_in, step_in, Known};
 
-use components::{Extent, Step};
+use components::{Extent, NoRoom};
 use geometry::Role;
 use plan::{Bound, Planning, Ranges, Reaches, Upper};
 
@@ -42,7 +42,7 @@ fn split(
     p: Planning,
     xs: &mut [f64],
     scratch: &mut [f64],
-) -> Step
+) -> Result<Planning, NoRoom>
     requires searchable { Searchable points.now starts.now counts.now xs.old scratch.old }
     requires all_among { AllAmong starts.now t }
     requires listing { Listing which.now count t.count }
@@ -50,10 +50,7 @@ fn split(
 {
     if inputs.desired + pitch > outputs.desired {
         if inputs.bound > outputs.bound - pitch {
-            return Step {
-                refused: true,
-                plan: p,
-            };
+            return Err(NoRoom { left: p.left });
         }
         let x = input_split(
             pitch,
@@ -62,6 +59,7 @@ fn split(
             inputs.desired,
             outputs.desired,
         );
+        let fixed = Upper::Fixed(x);
         let q = plan_searches::search_again(
             points,
             starts,
@@ -72,20 +70,14 @@ fn split(
             which,
             count,
             Bound::None,
-            Upper::Fixed(x),
+            fixed,
             p,
-            &mut xs[..],
-            &mut scratch[..],
+            xs,
+            scratch,
         );
-        return Step {
-            refused: false,
-            plan: q,
-        };
+        return Ok(q);
     }
-    Step {
-        refused: false,
-        plan: p,
-    }
+    Ok(p)
 }
 
 fn exceeds(r: Bound, limit: f64) -> bool
@@ -121,6 +113,7 @@ fn limited(
         points, starts, counts, pitch, t, which, count, p,
     );
     if exceeds(r, limit) {
+        let below = Upper::Below(limit);
         return plan_searches::search_again(
             points,
             starts,
@@ -131,10 +124,10 @@ fn limited(
             which,
             count,
             Bound::None,
-            Upper::Below(limit),
+            below,
             p,
-            &mut xs[..],
-            &mut scratch[..],
+            xs,
+            scratch,
         );
     }
     p
@@ -184,8 +177,8 @@ fn outputs_last(
         r,
         Upper::Never,
         p,
-        &mut xs[..],
-        &mut scratch[..],
+        xs,
+        scratch,
     )
 }
 
@@ -208,7 +201,7 @@ fn settle(
     p: Planning,
     xs: &mut [f64],
     scratch: &mut [f64],
-) -> Step
+) -> Result<Planning, NoRoom>
     requires searchable { Searchable points.now starts.now counts.now xs.old scratch.old }
     requires all_among { AllAmong starts.now t }
     requires listing { Listing order.now order_count t.count }
@@ -218,12 +211,9 @@ fn settle(
 {
     if near.bound + pitch > far.bound {
         let dropped = component_extents::drop_all(order, order_count, p);
-        return Step {
-            refused: false,
-            plan: dropped,
-        };
+        return Ok(dropped);
     }
-    let s = split(
+    let parted = split(
         points,
         starts,
         counts,
@@ -235,12 +225,9 @@ fn settle(
         near,
         far,
         p,
-        &mut xs[..],
-        &mut scratch[..],
-    );
-    if s.refused {
-        return s;
-    }
+        xs,
+        scratch,
+    )?;
     let q = limited(
         points,
         starts,
@@ -251,9 +238,9 @@ fn settle(
         inputs,
         input_count,
         far.bound,
-        s.plan,
-        &mut xs[..],
-        &mut scratch[..],
+        parted,
+        xs,
+        scratch,
     );
     let last = outputs_last(
         points,
@@ -267,13 +254,10 @@ fn settle(
         outputs,
         output_count,
         q,
-        &mut xs[..],
-        &mut scratch[..],
+        xs,
+        scratch,
     );
-    Step {
-        refused: false,
-        plan: last,
-    }
+    Ok(last)
 }
 
 // A component of one role only is left as it is.
@@ -290,47 +274,24 @@ pub fn treat(
     p: Planning,
     xs: &mut [f64],
     scratch: &mut [f64],
-) -> Step
+) -> Result<Planning, NoRoom>
     requires searchable { Searchable points.now starts.now counts.now xs.old scratch.old }
     requires all_among { AllAmong starts.now t }
     requires count_le_max_bundles { (count ≤ max_bundles) × Listing order.now count t.count }
     ensures { (b : Board) (given : List Route) → Known b given points.now starts.now counts.now rail pitch t (ranges_in t.count ranges) → step_in t.count result ≡ treated search_of b given (ranges_in t.count ranges) (take count order.now) (plan_in t.count p) }
 {
     let i = component_extents::of_role(Role::Input, ranges, order, count);
-    let o = component_extents::of_role(Role::Output, ranges, order, count);
-    let inputs = i.rows;
-    let outputs = o.rows;
     if i.count == 0 {
-        return Step {
-            refused: false,
-            plan: p,
-        };
+        return Ok(p);
     }
+    let o = component_extents::of_role(Role::Output, ranges, order, count);
     if o.count == 0 {
-        return Step {
-            refused: false,
-            plan: p,
-        };
+        return Ok(p);
     }
-    let near = component_extents::extent(Role::Input, ranges, &inputs[..], i.count);
-    let far = component_extents::extent(Role::Output, ranges, &outputs[..], o.count);
+    let near = component_extents::extent(Role::Input, ranges, &i.rows, i.count);
+    let far = component_extents::extent(Role::Output, ranges, &o.rows, o.count);
     settle(
-        points,
-        starts,
-        counts,
-        rail,
-        pitch,
-        t,
-        order,
-        count,
-        &inputs[..],
-        i.count,
-        &outputs[..],
-        o.count,
-        near,
-        far,
-        p,
-        &mut xs[..],
-        &mut scratch[..],
+        points, starts, counts, rail, pitch, t, order, count, &i.rows, i.count, &o.rows, o.count,
+        near, far, p, xs, scratch,
     )
 }

@@ -6,10 +6,14 @@
 
 #![tactic(auto)]
 
-use limits::MAX_BUNDLES;
-use plan::Planning;
+ghost use Rattle.std.specs.Prelude.{◌≡◌};
+ghost use Rattle.refusal.specs.declared.Refusal.TheVariants.{NoRoomToSplit};
 
-// Places in a table of bundles, in order.
+use limits::MAX_BUNDLES;
+use refusal::Refusal;
+use search::TapVisits;
+
+// Places in a table of bundles, in order: as many as a job may have, since no heap is asked for.
 #[derive(Clone, Copy)]
 pub struct Places {
     pub rows: [usize; MAX_BUNDLES],
@@ -24,10 +28,17 @@ pub struct Extent {
     pub desired: f64,
 }
 
-// A plan, or that it is refused (13): the clamp of the split would have its low end above its high
-// end.
+// That a plan is refused, with the visits left: the clamp of the split would have its low end above its
+// high end.
 #[derive(Clone, Copy)]
-pub struct Step {
-    pub refused: bool,
-    pub plan: Planning,
+pub struct NoRoom {
+    pub left: TapVisits,
+}
+
+impl From<NoRoom> for Refusal {
+    ghost from_gives = { λ e r. r ≡ NoRoomToSplit };
+
+    fn from(e: NoRoom) -> Refusal {
+        Refusal::NoRoomToSplit
+    }
 }

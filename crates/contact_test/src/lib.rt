@@ -15,15 +15,13 @@ ghost use Rattle.geometry.specs.Crossing.{is_strict, crossing_place};
 ghost use Rattle.geometry.specs.Apart.{trunk, over, beside, apart};
 ghost use Rattle.geometry.specs.Spacing.{overlap_positive, too_close};
 
-use geometry::{Contact, Meet, Point, Segment, Span, Tap, Trunk};
+use geometry::{Contact, Meet, Point, Segment, Span, Trunk};
 
 // Same place: both rounded differences are at most 1e-7 in magnitude.
 pub fn preserved_point_matches(left: Point, right: Point) -> bool
     ensures { result ≡ matches left right }
 {
-    let x = binary64::same_place(left.x, right.x);
-    let y = binary64::same_place(left.y, right.y);
-    x & y
+    binary64::same_place(left.x, right.x) & binary64::same_place(left.y, right.y)
 }
 
 // ---- segments_have_disallowed_contact, told apart by kind
@@ -37,24 +35,20 @@ pub fn is_slanted(a: Point, b: Point) -> bool
 pub fn span_across(a: Point, b: Point) -> Span
     ensures { result ≡ across a b }
 {
-    let low = binary64::min(a.x, b.x);
-    let high = binary64::max(a.x, b.x);
     Span {
         fixed: a.y,
-        low: low,
-        high: high,
+        low: binary64::min(a.x, b.x),
+        high: binary64::max(a.x, b.x),
     }
 }
 
 pub fn span_upright(a: Point, b: Point) -> Span
     ensures { result ≡ upright a b }
 {
-    let low = binary64::min(a.y, b.y);
-    let high = binary64::max(a.y, b.y);
     Span {
         fixed: a.x,
-        low: low,
-        high: high,
+        low: binary64::min(a.y, b.y),
+        high: binary64::max(a.y, b.y),
     }
 }
 
@@ -86,8 +80,7 @@ fn meet_in_line(level: bool, bus: Span, route: Span) -> Meet
     if low < high {
         return Meet::Overlap;
     }
-    let p = placed(level, bus.fixed, low);
-    Meet::One(p)
+    Meet::One(placed(level, bus.fixed, low))
 }
 
 // Where a level span h and an upright span v meet.
@@ -95,16 +88,16 @@ fn meet_crossing(h: Span, v: Span) -> Meet
     ensures { result ≡ crossing h v }
 {
     if (v.fixed >= h.low) & (v.fixed <= h.high) & (h.fixed >= v.low) & (h.fixed <= v.high) {
-        let p = Point {
+        return Meet::One(Point {
             x: v.fixed,
             y: h.fixed,
-        };
-        return Meet::One(p);
+        });
     }
     Meet::Apart
 }
 
 // Where a bus and a run meet, neither being slanted.
+#[tactic(auto, unfolding(geometry::specs::Contact::meet))]
 pub fn meeting(bus: Segment, route_start: Point, route_end: Point) -> Meet
     ensures { result ≡ meet bus route_start route_end }
 {
@@ -131,35 +124,33 @@ pub fn meeting(bus: Segment, route_start: Point, route_end: Point) -> Meet
     }
 }
 
-fn is_at_tap(tap: Tap, p: Point) -> bool
+fn is_at_tap(tap: Option<Point>, p: Point) -> bool
     ensures { result ≡ at_tap tap p }
 {
-    match tap {
-        Tap::Absent => false,
-        Tap::At(t) => preserved_point_matches(t, p),
-    }
+    tap.is_some_and(|t| preserved_point_matches(t, p))
 }
 
 // Whether p is in the same place as none of the four ends.
 fn is_strict(bus: Segment, route_start: Point, route_end: Point, p: Point) -> bool
     ensures { result ≡ strict bus route_start route_end p }
 {
-    let s = bus.start;
-    let e = bus.end;
-    let at_start = preserved_point_matches(s, p);
-    let at_end = preserved_point_matches(e, p);
-    let at_a = preserved_point_matches(route_start, p);
-    let at_b = preserved_point_matches(route_end, p);
-    !at_start & !at_end & !at_a & !at_b
+    !preserved_point_matches(bus.start, p)
+        & !preserved_point_matches(bus.end, p)
+        & !preserved_point_matches(route_start, p)
+        & !preserved_point_matches(route_end, p)
 }
 
 // The kind of a bus and a run that meet at p alone.
-fn kind_at(bus: Segment, route_start: Point, route_end: Point, tap: Tap, p: Point) -> Contact
+fn kind_at(
+    bus: Segment,
+    route_start: Point,
+    route_end: Point,
+    tap: Option<Point>,
+    p: Point,
+) -> Contact
     ensures { result ≡ kind_at bus route_start route_end tap p }
 {
-    let s = bus.start;
-    let e = bus.end;
-    let perpendicular = (s.y == e.y) != (route_start.y == route_end.y);
+    let perpendicular = (bus.start.y == bus.end.y) != (route_start.y == route_end.y);
     let inner = is_strict(bus, route_start, route_end, p);
     if perpendicular & inner {
         return Contact::StrictCrossing;
@@ -174,7 +165,13 @@ fn kind_at(bus: Segment, route_start: Point, route_end: Point, tap: Tap, p: Poin
 }
 
 // The kind by where the two meet, neither being slanted.
-fn kind_of(bus: Segment, route_start: Point, route_end: Point, tap: Tap, m: Meet) -> Contact
+fn kind_of(
+    bus: Segment,
+    route_start: Point,
+    route_end: Point,
+    tap: Option<Point>,
+    m: Meet,
+) -> Contact
     ensures { result ≡ kind_of bus route_start route_end tap m }
 {
     match m {
@@ -185,21 +182,30 @@ fn kind_of(bus: Segment, route_start: Point, route_end: Point, tap: Tap, m: Meet
 }
 
 // The test of a bus against a run: request F-6.
-pub fn contact_kind(bus: Segment, route_start: Point, route_end: Point, tap: Tap) -> Contact
+#[tactic(auto, unfolding(geometry::specs::Kind::kind))]
+pub fn contact_kind(
+    bus: Segment,
+    route_start: Point,
+    route_end: Point,
+    tap: Option<Point>,
+) -> Contact
     ensures { result ≡ kind bus route_start route_end tap }
 {
     if (route_start.x == route_end.x) & (route_start.y == route_end.y) {
         return Contact::Apart;
     }
-    let s = bus.start;
-    let e = bus.end;
-    let bus_slanted = is_slanted(s, e);
+    let bus_slanted = is_slanted(bus.start, bus.end);
     let route_slanted = is_slanted(route_start, route_end);
     if bus_slanted | route_slanted {
         return Contact::Slanted;
     }
-    let m = meeting(bus, route_start, route_end);
-    kind_of(bus, route_start, route_end, tap, m)
+    kind_of(
+        bus,
+        route_start,
+        route_end,
+        tap,
+        meeting(bus, route_start, route_end),
+    )
 }
 
 // Which kinds a caller disallows: segments_have_disallowed_contact by the kind. permitted is flag
@@ -208,12 +214,9 @@ pub fn is_disallowed(kind: Contact, permitted: bool) -> bool
     ensures { result ≡ disallowed permitted kind }
 {
     match kind {
-        Contact::Apart => false,
-        Contact::TouchAtTap => false,
+        Contact::Apart | Contact::TouchAtTap => false,
         Contact::StrictCrossing => !permitted,
-        Contact::TouchElsewhere => true,
-        Contact::Overlap => true,
-        Contact::Slanted => true,
+        Contact::TouchElsewhere | Contact::Overlap | Contact::Slanted => true,
     }
 }
 
@@ -221,37 +224,29 @@ pub fn is_disallowed(kind: Contact, permitted: bool) -> bool
 pub fn contact_number(kind: Contact) -> u8
     ensures { result ≡ number kind }
 {
-    match kind {
-        Contact::Apart => 0,
-        Contact::TouchAtTap => 1,
-        Contact::StrictCrossing => 2,
-        Contact::TouchElsewhere => 3,
-        Contact::Overlap => 4,
-        Contact::Slanted => 5,
-    }
+    kind as u8
 }
 
 pub fn is_strict_crossing(kind: Contact) -> bool
     ensures { result ≡ is_strict kind }
 {
-    contact_number(kind) == 2
+    matches!(kind, Contact::StrictCrossing)
 }
 
 // Where a bus and a run that cross strictly do: no number is worked out.
 pub fn crossing_point(bus: Segment, route_start: Point) -> Point
     ensures { result ≡ crossing_place bus route_start }
 {
-    let s = bus.start;
-    let e = bus.end;
-    if s.y == e.y {
-        return Point {
+    if bus.start.y == bus.end.y {
+        Point {
             x: route_start.x,
-            y: s.y,
-        };
-    }
-    Point {
-        x: s.x,
-        y: route_start.y,
+            y: bus.start.y,
+        }
+    } else {
+        Point {
+            x: bus.start.x,
+            y: route_start.y,
+        }
     }
 }
 
@@ -267,6 +262,7 @@ pub fn intervals_overlap_positive(left_a: f64, left_b: f64, right_a: f64, right_
     (left_low < right_high) & (right_low < left_high)
 }
 
+#[tactic(auto, unfolding(geometry::specs::Spacing::too_close))]
 pub fn parallel_segments_are_too_close(left: Segment, right: Segment, spacing: f64) -> bool
     ensures { result ≡ too_close left right spacing }
 {
@@ -283,13 +279,9 @@ pub fn parallel_segments_are_too_close(left: Segment, right: Segment, spacing: f
         return false;
     }
     if left_horizontal {
-        let overlap = intervals_overlap_positive(a.x, b.x, c.x, d.x);
-        let gap = binary64::abs(a.y - c.y);
-        overlap & (gap < spacing)
+        intervals_overlap_positive(a.x, b.x, c.x, d.x) & (binary64::abs(a.y - c.y) < spacing)
     } else {
-        let overlap = intervals_overlap_positive(a.y, b.y, c.y, d.y);
-        let gap = binary64::abs(a.x - c.x);
-        overlap & (gap < spacing)
+        intervals_overlap_positive(a.y, b.y, c.y, d.y) & (binary64::abs(a.x - c.x) < spacing)
     }
 }
 
@@ -298,19 +290,15 @@ pub fn parallel_segments_are_too_close(left: Segment, right: Segment, spacing: f
 pub fn trunk_of(bus: Segment) -> Trunk
     ensures { result ≡ trunk bus }
 {
-    let s = bus.start;
-    let e = bus.end;
-    let level = s.y == e.y;
-    let slanted = is_slanted(s, e);
-    let span = if level {
-        span_across(s, e)
-    } else {
-        span_upright(s, e)
-    };
+    let level = bus.start.y == bus.end.y;
     Trunk {
-        slanted: slanted,
-        level: level,
-        span: span,
+        slanted: is_slanted(bus.start, bus.end),
+        level,
+        span: if level {
+            span_across(bus.start, bus.end)
+        } else {
+            span_upright(bus.start, bus.end)
+        },
     }
 }
 
@@ -329,6 +317,7 @@ fn is_beside(s: Span, at: f64, spacing: f64) -> bool
 
 // Whether a run has no contact with a bus and is not too close to it, as far as a few comparisons
 // tell: most looks of the contact check end here.
+#[tactic(auto, unfolding(geometry::specs::Apart::apart))]
 pub fn is_apart(t: Trunk, spacing: f64, route_start: Point, route_end: Point) -> bool
     ensures { result ≡ apart t spacing route_start route_end }
 {
@@ -339,13 +328,11 @@ pub fn is_apart(t: Trunk, spacing: f64, route_start: Point, route_end: Point) ->
         if t.level {
             return is_beside(t.span, route_start.y, spacing);
         }
-        let r = span_across(route_start, route_end);
-        return !is_over(r, t.span);
+        return !is_over(span_across(route_start, route_end), t.span);
     }
     if route_start.x == route_end.x {
         if t.level {
-            let r = span_upright(route_start, route_end);
-            return !is_over(t.span, r);
+            return !is_over(t.span, span_upright(route_start, route_end));
         }
         return is_beside(t.span, route_start.x, spacing);
     }

@@ -1,5 +1,5 @@
 -- The rows that the walk keeps are the crossings of the list, and what is written for them is F-7's list. Assumes nothing.
-use Rattle.std.specs.Prelude.{ℕ, zero, suc, ◌+◌, ◌*◌, ◌≤◌, ◌<◌, ◌≡◌, Bool, leb, length, get_or, Float}
+use Rattle.std.specs.Prelude.{ℕ, zero, suc, ◌+◌, ◌*◌, ◌≤◌, ◌<◌, ◌≡◌, Bool, leb, length, get_or, Float, Option, None}
 use Rattle.std.proofs.Math.Path.{refl, sym, ap}
 use Rattle.std.proofs.Common.{◌∙◌, subst, true≢false, arith, length-append, leb-true, leb-false}
 use mathlib.Core.List.{List, [], ◌∷◌, ◌++◌, map, map-append}
@@ -9,8 +9,6 @@ use Rattle.wire.specs.Bytes.{bytes}
 use Rattle.wire.proofs.BytesLaws.{bytes_length}
 use Rattle.geometry.specs.declared.Point.{Point}
 use Rattle.geometry.specs.declared.Segment.{Segment}
-use Rattle.geometry.specs.declared.Tap.{Tap}
-use Rattle.geometry.specs.declared.Tap.TheVariants.{Absent}
 use Rattle.geometry.specs.Points.{Route, runs}
 use Rattle.geometry.specs.Kind.{kind}
 use Rattle.geometry.specs.Crossing.{is_strict, crossing_place}
@@ -48,14 +46,14 @@ module _ (names ids : List ℕ) where
   one_linked true false p c u e d h = absurd (true≢false d)
   one_linked false true p c u e d h = absurd (true≢false (sym d))
 
-  run_linked : (bus : Segment) (tap : Tap) (u e : ℕ) (s : Bool) (rs : List Segment) (k : ℕ) → run_rows bus (get_or names u 0) (get_or ids e 0) rs ≡ map (row_of names ids) (run_crossings u e s bus tap rs k)
+  run_linked : (bus : Segment) (tap : Option Point) (u e : ℕ) (s : Bool) (rs : List Segment) (k : ℕ) → run_rows bus (get_or names u 0) (get_or ids e 0) rs ≡ map (row_of names ids) (run_crossings u e s bus tap rs k)
   unfolding run_rows one_row run_crossings
   run_linked bus tap u e s [] k = refl
   run_linked bus tap u e s (r ∷ rs) k =
       let p = crossing_place bus r.start in
-      let a = is_strict (kind bus r.start r.end Absent) in
+      let a = is_strict (kind bus r.start r.end None) in
       let b = is_strict (kind bus r.start r.end tap) in
-      let h : cond a (row p (get_or names u 0) (get_or ids e 0) ∷ []) [] ≡ map (row_of names ids) (cond b (crossing_of u e s k p ∷ []) []) = one_linked a b p (crossing_of u e s k p) (get_or names u 0) (get_or ids e 0) (any_tap bus r.start r.end Absent tap) refl in
+      let h : cond a (row p (get_or names u 0) (get_or ids e 0) ∷ []) [] ≡ map (row_of names ids) (cond b (crossing_of u e s k p ∷ []) []) = one_linked a b p (crossing_of u e s k p) (get_or names u 0) (get_or ids e 0) (any_tap bus r.start r.end None tap) refl in
       ap (λ (z : List Row). z ++ run_rows bus (get_or names u 0) (get_or ids e 0) rs) h
       ∙ ap (λ (z : List Row). map (row_of names ids) (cond b (crossing_of u e s k p ∷ []) []) ++ z) (run_linked bus tap u e s rs (suc k))
       ∙ sym (map-append (row_of names ids) (cond b (crossing_of u e s k p ∷ []) []) (run_crossings u e s bus tap rs (suc k)))

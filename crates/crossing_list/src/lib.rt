@@ -41,12 +41,10 @@ fn put_rows(out: &mut [u8], places: &[f64], names: &[u64], order: &[usize])
     requires { (2 + crossing_bytes * length order.now ≤ length out.old) × Room places.now names.now × Every (λ k. k < max_crossings) order.now }
     ensures { out.new ≡ sets out.old 2 (all_bytes row_bytes (map (row_at places.now names.now) order.now)) }
 {
-    let mut at: usize = 2;
-    let mut i: usize = 0;
-    while i < order.len() {
-        put_row(&mut out[..], at, places, names, order[i]);
+    let mut at = 2;
+    for k in order {
+        put_row(&mut out[..], at, places, names, *k);
         at += CROSSING_BYTES;
-        i += 1;
     }
 }
 

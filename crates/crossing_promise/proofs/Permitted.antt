@@ -1,12 +1,10 @@
 -- With crossings permitted: what bundles and routes of a sheet that is drawn share, beside its list. For every plan whose x are within 2 ^ 30. Assumes nothing.
-use Rattle.std.specs.Prelude.{ℕ, ◌<◌, ◌≡◌, refl, ◌⊎◌, Bool, true, false, length}
+use Rattle.std.specs.Prelude.{ℕ, ◌<◌, ◌≡◌, refl, ◌⊎◌, Bool, true, false, length, Option, None}
 use Rattle.std.proofs.Common.{sym, ap, ◌∙◌, inl, inr, true≢false, arith}
 use mathlib.Core.List.{List, Memᴰ}
 use Rattle.std.proofs.Math.ListN.{get_or}
 use Rattle.geometry.specs.declared.Point.{Point}
 use Rattle.geometry.specs.declared.Segment.{Segment}
-use Rattle.geometry.specs.declared.Tap.{Tap}
-use Rattle.geometry.specs.declared.Tap.TheVariants.{Absent}
 use Rattle.geometry.specs.declared.Contact.{Contact}
 use Rattle.geometry.specs.declared.Contact.TheVariants as kinds
 use Rattle.geometry.specs.Points.{Route, runs}
@@ -39,7 +37,7 @@ use Rattle.crossing_promise.proofs.Sheet.{free}
 
 -- ---- one bundle segment and one run, where nothing is disallowed with crossings permitted
 
-module _ (bus : Segment) (a b : Point) (tap : Tap) (F : exactly.Numbers bus a b tap) where
+module _ (bus : Segment) (a b : Point) (tap : Option Point) (F : exactly.Numbers bus a b tap) where
   data Join (p : Exact) : Type 0 where
     touching : Touches a b tap p → Join p
     strictly : kind bus a b tap ≡ kinds.StrictCrossing → Same p (exact (crossing_place bus a)) → Join p
@@ -117,14 +115,14 @@ module _ (b : Board) (routes : List Route) (limits : Limits b routes) (ts : List
             at_place = same;
           })
 
-  pair : (j k : ℕ) → j < k → k < length u.drawn → (s t : Bool) → Free b.options true (segment_of (get_or u.drawn k no_drawn) t) Absent (segment_of (get_or u.drawn j no_drawn) s)
+  pair : (j k : ℕ) → j < k → k < length u.drawn → (s t : Bool) → Free b.options true (segment_of (get_or u.drawn k no_drawn) t) None (segment_of (get_or u.drawn j no_drawn) s)
   pair j k l m false false = ((accepted b true routes grant ts u went).bundles_free j k l m).collectors
   pair j k l m false true = ((accepted b true routes grant ts u went).bundles_free j k l m).spine_collector
   pair j k l m true false = ((accepted b true routes grant ts u went).bundles_free j k l m).collector_spine
   pair j k l m true true = ((accepted b true routes grant ts u went).bundles_free j k l m).spines
 
   with_bundles : (j k : ℕ) → j < k → k < length u.drawn → (s t : Bool) → HasLength (segment_of (get_or u.drawn j no_drawn) s).start (segment_of (get_or u.drawn j no_drawn) s).end → (p : Exact) → OnBoth (segment_of (get_or u.drawn j no_drawn) s) (segment_of (get_or u.drawn k no_drawn) t) p
-      → kind (segment_of (get_or u.drawn k no_drawn) t) (segment_of (get_or u.drawn j no_drawn) s).start (segment_of (get_or u.drawn j no_drawn) s).end Absent ≡ kinds.StrictCrossing
+      → kind (segment_of (get_or u.drawn k no_drawn) t) (segment_of (get_or u.drawn j no_drawn) s).start (segment_of (get_or u.drawn j no_drawn) s).end None ≡ kinds.StrictCrossing
   unfolding fine
   with_bundles j k l m s t h p on =
       let first = get_or u.drawn j no_drawn in
@@ -133,10 +131,10 @@ module _ (b : Board) (routes : List Route) (limits : Limits b routes) (ts : List
       let later = segment_of second t in
       let g = fine.of_bundles first (mem_at u.drawn no_drawn j (omega arith)) earlier (part_of first s) in
       let f = fine.of_bundles second (mem_at u.drawn no_drawn k m) later (part_of second t) in
-      go (join later earlier.start earlier.end Absent (record { bus_start = f.0; bus_end = f.1; first = g.0; last = g.1; its_tap = tt }) h (pair j k l m s t).contact p (record { on_bus = on.on_second; on_route = on.on_first }))
+      go (join later earlier.start earlier.end None (record { bus_start = f.0; bus_end = f.1; first = g.0; last = g.1; its_tap = tt }) h (pair j k l m s t).contact p (record { on_bus = on.on_second; on_route = on.on_first }))
     where
-      go : {F : exactly.Numbers (segment_of (get_or u.drawn k no_drawn) t) (segment_of (get_or u.drawn j no_drawn) s).start (segment_of (get_or u.drawn j no_drawn) s).end Absent} → Join (segment_of (get_or u.drawn k no_drawn) t) (segment_of (get_or u.drawn j no_drawn) s).start (segment_of (get_or u.drawn j no_drawn) s).end Absent F p
-          → kind (segment_of (get_or u.drawn k no_drawn) t) (segment_of (get_or u.drawn j no_drawn) s).start (segment_of (get_or u.drawn j no_drawn) s).end Absent ≡ kinds.StrictCrossing
+      go : {F : exactly.Numbers (segment_of (get_or u.drawn k no_drawn) t) (segment_of (get_or u.drawn j no_drawn) s).start (segment_of (get_or u.drawn j no_drawn) s).end None} → Join (segment_of (get_or u.drawn k no_drawn) t) (segment_of (get_or u.drawn j no_drawn) s).start (segment_of (get_or u.drawn j no_drawn) s).end None F p
+          → kind (segment_of (get_or u.drawn k no_drawn) t) (segment_of (get_or u.drawn j no_drawn) s).start (segment_of (get_or u.drawn j no_drawn) s).end None ≡ kinds.StrictCrossing
       go (touching x) = absurd x.at_tap
       go (strictly i same) = i
 

@@ -1,9 +1,8 @@
 -- F-7's words about the list of strict crossings, as one statement about a job's bytes and the bytes that stand in the answer's and the list's buffers for them, beside demand 3. Definitions only.
 -- Assumes nothing.
-use Rattle.std.specs.Prelude.{◌≡◌, ◌⊎◌, Bool, List, [], ℕ, ◌+◌, ◌*◌, ◌≤◌, ◌<◌, length, get_or, take}
+use Rattle.std.specs.Prelude.{◌≡◌, ◌⊎◌, Bool, List, [], ℕ, ◌+◌, ◌*◌, ◌≤◌, ◌<◌, length, get_or, take, None}
 use Rattle.wire.specs.Bytes.{number}
 use Rattle.geometry.specs.declared.Segment.{Segment}
-use Rattle.geometry.specs.declared.Tap.TheVariants.{Absent}
 use Rattle.geometry.specs.declared.Contact.TheVariants.{StrictCrossing}
 use Rattle.geometry.specs.Points.{Route, runs}
 use Rattle.geometry.specs.Kind.{kind}
@@ -40,7 +39,7 @@ pub record Joints (ds : List Drawn) (rs : List Route) (l : List Crossing) : Type
   pub with_routes : (u e : ℕ) (s : Bool) (n : ℕ) → u < length ds → e < length rs → n < length (runs (route_at rs e)) → HasLength (run_of rs e n).start (run_of rs e n).end → AtTapOrListed ds rs l u e s n
   -- "two bundles may cross strictly, unlisted", and share no point else where the earlier one's segment has length, as in demand 3
   pub with_bundles : (j k : ℕ) → j < k → k < length ds → (s t : Bool) → HasLength (segment_of (get_or ds j no_drawn) s).start (segment_of (get_or ds j no_drawn) s).end → (p : Exact) → OnBoth (segment_of (get_or ds j no_drawn) s) (segment_of (get_or ds k no_drawn) t) p
-      → kind (segment_of (get_or ds k no_drawn) t) (segment_of (get_or ds j no_drawn) s).start (segment_of (get_or ds j no_drawn) s).end Absent ≡ StrictCrossing
+      → kind (segment_of (get_or ds k no_drawn) t) (segment_of (get_or ds j no_drawn) s).start (segment_of (get_or ds j no_drawn) s).end None ≡ StrictCrossing
 
 -- the list of a job's sheet before the last shift, whatever plan it was drawn from
 pub record ListOnSheet (bytes : List ℕ) (u : Progress) (l : List Crossing) : Type 0 where

@@ -1,9 +1,8 @@
 -- The entries of F-7's list, as the walk over the sheet meets them, and how the slices hold them. Definitions of inner contracts.
 -- Assumes nothing.
-use Rattle.std.specs.Prelude.{ℕ, zero, suc, ◌+◌, ◌*◌, ◌≤◌, ◌≡◌, List, [], ◌∷◌, ◌++◌, map, Bool, cond, leb, length, get_or, take, Float}
+use Rattle.std.specs.Prelude.{ℕ, zero, suc, ◌+◌, ◌*◌, ◌≤◌, ◌≡◌, List, [], ◌∷◌, ◌++◌, map, Bool, cond, leb, length, get_or, take, Float, None}
 use Rattle.geometry.specs.declared.Point.{Point}
 use Rattle.geometry.specs.declared.Segment.{Segment}
-use Rattle.geometry.specs.declared.Tap.TheVariants.{Absent}
 use Rattle.geometry.specs.Points.{Route, runs, point_at}
 use Rattle.geometry.specs.Kind.{kind}
 use Rattle.geometry.specs.Crossing.{is_strict, crossing_place}
@@ -29,7 +28,7 @@ id_of e = e.id
 
 -- ---- the walk; whether they cross strictly does not hang on the tap, so none is looked up
 unfoldable pub one_row : Segment → ℕ → ℕ → Segment → List Row
-one_row bus u e r = cond (is_strict (kind bus r.start r.end Absent)) (row (crossing_place bus r.start) u e ∷ []) []
+one_row bus u e r = cond (is_strict (kind bus r.start r.end None)) (row (crossing_place bus r.start) u e ∷ []) []
 
 unfoldable pub run_rows : Segment → ℕ → ℕ → List Segment → List Row
 unfolding one_row

@@ -1,5 +1,5 @@
 -- The walk over the sheet: run after run, route after route, bundle after bundle. Assumes nothing.
-use Rattle.std.specs.Prelude.{ℕ, zero, suc, ◌+◌, ◌*◌, ◌-◌, ◌≤◌, ◌<◌, ◌≡◌, refl, Bool, not, cond, take, set, Float}
+use Rattle.std.specs.Prelude.{ℕ, zero, suc, ◌+◌, ◌*◌, ◌-◌, ◌≤◌, ◌<◌, ◌≡◌, refl, Bool, not, cond, take, set, Float, Option, None}
 use Rattle.std.proofs.Math.Path.{sym}
 use Rattle.std.proofs.Common.{ap, ◌∙◌, subst, true≢false, add-one, get_or-take, take-suc, take-suc-set}
 use mathlib.Core.List.{List, [], ◌∷◌, ◌++◌, map, map-append}
@@ -9,8 +9,6 @@ use Rattle.std.proofs.Math.ListN.{length, get_or, drop, drop_of_length-le}
 use Rattle.std.proofs.Math.Seq.{drop-cons, length-take-le}
 use Rattle.geometry.specs.declared.Point.{Point}
 use Rattle.geometry.specs.declared.Segment.{Segment}
-use Rattle.geometry.specs.declared.Tap.{Tap}
-use Rattle.geometry.specs.declared.Tap.TheVariants.{Absent}
 use Rattle.geometry.specs.Points.{Route, runs, run_at, points_from}
 use Rattle.geometry.specs.declared.Trunk.{Trunk}
 use Rattle.geometry.specs.Apart.{trunk, apart}
@@ -40,10 +38,10 @@ not_strict kinds.TouchElsewhere e = refl
 not_strict kinds.Overlap e = refl
 not_strict kinds.Slanted e = refl
 
-pub apart_uncrossed : (bus : Segment) (z : Float) (a b : Point) (tap : Tap) → apart (trunk bus) z a b ≡ true → is_strict (kind bus a b tap) ≡ false
+pub apart_uncrossed : (bus : Segment) (z : Float) (a b : Point) (tap : Option Point) → apart (trunk bus) z a b ≡ true → is_strict (kind bus a b tap) ≡ false
 apart_uncrossed bus z a b tap h = not_strict (kind bus a b tap) (kind_contact bus a b tap false ∙ apart_contact bus z a b tap false h)
 
-pub apart_crosses : (bus : Segment) (t : Trunk) (z : Float) (a b : Point) (tap : Tap) (r : Bool) → t ≡ trunk bus → r ≡ apart t z a b → r ≡ true → false ≡ is_strict (kind bus a b tap)
+pub apart_crosses : (bus : Segment) (t : Trunk) (z : Float) (a b : Point) (tap : Option Point) (r : Bool) → t ≡ trunk bus → r ≡ apart t z a b → r ≡ true → false ≡ is_strict (kind bus a b tap)
 apart_crosses bus t z a b tap r d e h = sym (apart_uncrossed bus z a b tap (ap (λ (w : Trunk). apart w z a b) (sym d) ∙ sym e ∙ h))
 
 -- ---- one run
@@ -52,13 +50,13 @@ pub grown_as : (p : List Float) (m : List ℕ) (n : ℕ) (q : List Float) (o : L
 grown_as p m n q o k x y e g = subst (Grown p m n q o k) e g
 
 module _ (bus : Segment) (u e : ℕ) (r : Segment) where
-  pub row_hit : (t : Bool) (z : Point) → t ≡ is_strict (kind bus r.start r.end Absent) → t ≡ true → z ≡ crossing_place bus r.start → row z u e ∷ [] ≡ one_row bus u e r
+  pub row_hit : (t : Bool) (z : Point) → t ≡ is_strict (kind bus r.start r.end None) → t ≡ true → z ≡ crossing_place bus r.start → row z u e ∷ [] ≡ one_row bus u e r
   unfolding one_row
-  row_hit t z d h p = let k : is_strict (kind bus r.start r.end Absent) ≡ true = sym d ∙ h in rw (k, p)
+  row_hit t z d h p = let k : is_strict (kind bus r.start r.end None) ≡ true = sym d ∙ h in rw (k, p)
 
-  pub row_miss : (t : Bool) → t ≡ is_strict (kind bus r.start r.end Absent) → t ≡ false → [] ≡ one_row bus u e r
+  pub row_miss : (t : Bool) → t ≡ is_strict (kind bus r.start r.end None) → t ≡ false → [] ≡ one_row bus u e r
   unfolding one_row
-  row_miss t d h = let k : is_strict (kind bus r.start r.end Absent) ≡ false = sym d ∙ h in rw k
+  row_miss t d h = let k : is_strict (kind bus r.start r.end None) ≡ false = sym d ∙ h in rw k
 
 -- ---- run after run
 

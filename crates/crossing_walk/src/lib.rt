@@ -7,9 +7,8 @@
 
 #![tactic(auto)]
 
-ghost use Rattle.std.specs.Prelude.{◌≡◌, [], ◌∷◌, map, ◌+◌, ◌*◌, ◌≤◌, length, take};
+ghost use Rattle.std.specs.Prelude.{◌≡◌, [], ◌∷◌, map, ◌+◌, ◌*◌, ◌≤◌, length, take, None};
 ghost use Rattle.limits.specs.Limits.{max_edges, max_bundles, slot_numbers};
-ghost use Rattle.geometry.specs.declared.Tap.TheVariants.{Absent};
 ghost use Rattle.geometry.specs.Apart.{trunk};
 ghost use Rattle.geometry.specs.Points.{points_from, runs};
 ghost use Rattle.geometry.specs.Kind.{kind};
@@ -18,7 +17,7 @@ ghost use Rattle.route.specs.Slots.{routes_of, Held};
 ghost use Rattle.crossing_rows.specs.Rows.{row, one_row, run_rows, route_rows, bundle_rows, sheet_rows, id_of, rows_met, Kept, Grown, Room, Slotted};
 
 use board::{DrawnBundle, DrawnBundles, Edges};
-use geometry::{Point, Segment, Tap, Trunk};
+use geometry::{Point, Segment, Trunk};
 use limits::{MAX_CROSSINGS, MAX_EDGES, SLOT_POINTS};
 
 // ---- the walk
@@ -40,12 +39,12 @@ fn keep(places: &mut [f64], names: &mut [u64], n: usize, p: Point, bundle: u64, 
 // Whether a bus, whose trunk is t, and a run cross strictly.
 fn is_crossing(bus: Segment, t: Trunk, run: Segment) -> bool
     requires { t ≡ trunk bus }
-    ensures { result ≡ is_strict (kind bus run.start run.end Absent) }
+    ensures { result ≡ is_strict (kind bus run.start run.end None) }
 {
     if contact_test::is_apart(t, 0.0, run.start, run.end) {
         return false;
     }
-    let k = contact_test::contact_kind(bus, run.start, run.end, Tap::Absent);
+    let k = contact_test::contact_kind(bus, run.start, run.end, None);
     contact_test::is_strict_crossing(k)
 }
 
@@ -86,8 +85,7 @@ fn walk_runs(
     ensures { Grown places.old names.old n places.new names.new result (run_rows bus bundle edge (runs (points_from points.now start long))) }
 {
     let mut k = n;
-    let mut i: usize = 0;
-    while i + 1 < long {
+    for i in 0..long.saturating_sub(1) {
         let run = route_views::route_run(points, start, long, i);
         k = walk_run(
             bus,
@@ -99,7 +97,6 @@ fn walk_runs(
             &mut names[..],
             k,
         );
-        i += 1;
     }
     k
 }
@@ -162,8 +159,7 @@ fn walk_bundle(
     let c = contact_test::trunk_of(d.collector);
     let s = contact_test::trunk_of(d.spine);
     let mut k = n;
-    let mut e: usize = 0;
-    while e < counts.len() {
+    for (e, count) in counts.iter().enumerate() {
         k = walk_route(
             d,
             c,
@@ -171,12 +167,11 @@ fn walk_bundle(
             ids[e],
             points,
             SLOT_POINTS * e,
-            counts[e],
+            *count,
             &mut places[..],
             &mut names[..],
             k,
         );
-        e += 1;
     }
     k
 }
@@ -193,10 +188,8 @@ fn walk_bundles(
     requires { (drawn.count ≤ max_bundles) × Slotted points.now counts.now ids.now × Room places.old names.old }
     ensures { Kept (sheet_rows (take drawn.count drawn.rows) ids.now (routes_of points.now counts.now)) places.new names.new result }
 {
-    let m = drawn.count;
-    let mut k: usize = 0;
-    let mut i: usize = 0;
-    while i < m {
+    let mut k = 0;
+    for i in 0..drawn.count {
         k = walk_bundle(
             drawn.rows[i],
             ids,
@@ -206,7 +199,6 @@ fn walk_bundles(
             &mut names[..],
             k,
         );
-        i += 1;
     }
     k
 }
@@ -216,12 +208,8 @@ fn edge_ids(table: Edges, ids: &mut [u64])
     requires { (table.count ≤ max_edges) × (length ids.old ≡ max_edges) }
     ensures { take table.count ids.new ≡ map id_of (take table.count table.rows) }
 {
-    let n = table.count;
-    let mut i: usize = 0;
-    while i < n {
-        let e = table.rows[i];
-        ids[i] = e.id;
-        i += 1;
+    for i in 0..table.count {
+        ids[i] = table.rows[i].id;
     }
 }
 
@@ -245,11 +233,10 @@ pub fn sheet_crossings(
         return 0;
     }
     let mut ids = [0; MAX_EDGES];
-    let n = table.count;
     edge_ids(table, &mut ids[..]);
     walk_bundles(
         drawn,
-        &ids[..n],
+        &ids[..table.count],
         points,
         counts,
         &mut places[..],

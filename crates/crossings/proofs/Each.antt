@@ -1,6 +1,6 @@
 -- The list has a crossing for each strict crossing, and nothing else. Assumes nothing.
 use Prim.Native.Nat.{ℕ, zero, suc, ◌+◌, ◌≤◌, ◌<◌}
-use Rattle.std.specs.Prelude.{◌≡◌, refl, ◌⊎◌, Bool, cond, get_or}
+use Rattle.std.specs.Prelude.{◌≡◌, refl, ◌⊎◌, Bool, cond, get_or, Option}
 use Rattle.std.proofs.Common.{sym, ◌∙◌, inl, inr, true≢false}
 use Rattle.std.proofs.Math.Path.{ap, subst}
 use mathlib.Core.List.{List, [], ◌∷◌, ◌++◌}
@@ -9,7 +9,6 @@ use native.Mathlib.Omega.{arith}
 use Rattle.std.proofs.Math.ListN.{length}
 use Rattle.geometry.specs.declared.Point.{Point}
 use Rattle.geometry.specs.declared.Segment.{Segment}
-use Rattle.geometry.specs.declared.Tap.{Tap}
 use Rattle.geometry.specs.Points.{Route, runs}
 use Rattle.geometry.specs.declared.Contact.{Contact}
 use Rattle.geometry.specs.declared.Contact.TheVariants.{StrictCrossing}
@@ -43,7 +42,7 @@ none_before n = omega arith
 
 -- ---- the runs of one route
 
-module _ (u e : ℕ) (s : Bool) (bus : Segment) (tap : Tap) where
+module _ (u e : ℕ) (s : Bool) (bus : Segment) (tap : Option Point) where
   abbrev hits : Segment → Bool
   hits r = is_strict (kind bus r.start r.end tap)
 

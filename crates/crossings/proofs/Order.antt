@@ -1,9 +1,8 @@
 -- The list is in order, and each crossing stands there once. Assumes nothing.
-use Rattle.std.specs.Prelude.{ℕ, zero, suc, ◌+◌, ◌≤◌, ◌<◌, ◌≡◌, refl, ◌⊎◌, List, [], ◌∷◌, ◌++◌, Bool, true, false, cond, leb}
+use Rattle.std.specs.Prelude.{ℕ, zero, suc, ◌+◌, ◌≤◌, ◌<◌, ◌≡◌, refl, ◌⊎◌, List, [], ◌∷◌, ◌++◌, Bool, true, false, cond, leb, Option}
 use Rattle.std.proofs.Common.{sym, ap, ◌∙◌, subst, inl, inr, arith, leb-true, leb-false}
 use Rattle.geometry.specs.declared.Point.{Point}
 use Rattle.geometry.specs.declared.Segment.{Segment}
-use Rattle.geometry.specs.declared.Tap.{Tap}
 use Rattle.geometry.specs.Points.{Route, runs}
 use Rattle.geometry.specs.Kind.{kind}
 use Rattle.geometry.specs.Crossing.{is_strict, crossing_place}
@@ -57,7 +56,7 @@ by_edges j k u d e s t m n p q i l h =
 by_bundles : (j k : Crossing) (u w d e : ℕ) (s t : Bool) (m n : ℕ) (p q : Point) → j ≡ crossing_of u d s m p → k ≡ crossing_of w e t n q → u < w → Sooner j k
 by_bundles j k u w d e s t m n p q i l h = by_bundle (omega (arith, ap (λ (x : Crossing). x.bundle) i, ap (λ (x : Crossing). x.bundle) l))
 
-rising_runs : (u e : ℕ) (s : Bool) (bus : Segment) (tap : Tap) (rs : List Segment) (k : ℕ) → Rising (run_crossings u e s bus tap rs k)
+rising_runs : (u e : ℕ) (s : Bool) (bus : Segment) (tap : Option Point) (rs : List Segment) (k : ℕ) → Rising (run_crossings u e s bus tap rs k)
 unfolding run_crossings
 rising_runs u e s bus tap [] k = tt
 rising_runs u e s bus tap (r ∷ rs) k =

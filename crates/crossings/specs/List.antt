@@ -1,9 +1,8 @@
 -- F-7's list: all strict crossings between a bundle segment and a route segment of a sheet. Definitions only.
 -- Assumes nothing.
-use Rattle.std.specs.Prelude.{ℕ, suc, List, [], ◌∷◌, ◌++◌, Bool, true, false, cond}
+use Rattle.std.specs.Prelude.{ℕ, suc, List, [], ◌∷◌, ◌++◌, Bool, true, false, cond, Option}
 use Rattle.geometry.specs.declared.Point.{Point}
 use Rattle.geometry.specs.declared.Segment.{Segment}
-use Rattle.geometry.specs.declared.Tap.{Tap}
 use Rattle.geometry.specs.Points.{Route, runs}
 use Rattle.geometry.specs.Kind.{kind}
 use Rattle.geometry.specs.Crossing.{is_strict, crossing_place}
@@ -25,7 +24,7 @@ crossing_of u e s k p = record { bundle = u; edge = e; spine = s; run = k; place
 -- ---- all of them, "by bundle position, then edge position, then collector before spine, then run"
 
 -- "as F-6 answers them": the runs of edge e, from run k on, that cross a segment of bundle u
-unfoldable pub run_crossings : ℕ → ℕ → Bool → Segment → Tap → List Segment → ℕ → List Crossing
+unfoldable pub run_crossings : ℕ → ℕ → Bool → Segment → Option Point → List Segment → ℕ → List Crossing
 run_crossings u e s bus tap [] k = []
 run_crossings u e s bus tap (r ∷ rs) k =
     cond (is_strict (kind bus r.start r.end tap)) (crossing_of u e s k (crossing_place bus r.start) ∷ []) [] ++ run_crossings u e s bus tap rs (suc k)

@@ -17,7 +17,6 @@ use Rattle.board.specs.declared.DrawnBundles.{DrawnBundles}
 use Rattle.board.specs.declared.DrawnTaps.{DrawnTaps}
 use Rattle.geometry.specs.Points.{Route}
 use Rattle.job.specs.declared.Job as code
-use Rattle.job.specs.declared.JobRead.{JobRead}
 use Rattle.job.specs.Job.{read_job, given_routes}
 use Rattle.job.specs.Job as job
 use Rattle.job.specs.AllTables.{JobTold, told_job}
@@ -26,8 +25,12 @@ use Rattle.plan.specs.declared.Planning.{Planning}
 use Rattle.plan.specs.Depths.{offsets_of}
 use Rattle.plan.specs.Prepared.{plan_in, x_of}
 use Rattle.drawing.specs.declared.GeometryVisits.{GeometryVisits}
-use Rattle.drawing.specs.declared.Verdict.{Verdict}
-use Rattle.drawing.specs.declared.Verdict.TheVariants.{Clean, Refused}
+use Rattle.std.specs.Prelude.{Result, Ok, Err, ⊤}
+use Rattle.refusal.specs.declared.Refusal.{Refusal}
+use Rattle.refusal.specs.Refusal.{refusal_number}
+use Rattle.drawing.specs.Verdict.{Verdict, Clean, Refused}
+use Rattle.drawing.specs.Check.{clean, failed}
+use Rattle.checks.specs.Purse.{told}
 use Rattle.drawing.specs.Build.{Drawn}
 use Rattle.drawing.specs.Sheet.{turns_from, sheet_of, blank, after_check}
 use Rattle.drawing.specs.Sheet as drawing
@@ -36,7 +39,7 @@ use Rattle.turns.specs.TurnTables.{ends_as, standing, drawn_in, Full, Room, List
 use Rattle.normalize.specs.declared.Laid.{Laid}
 use Rattle.normalize.specs.PageTables.{heading, sheet_in, page_in}
 use Rattle.plan.specs.Plan.{plan_of}
-use Rattle.components.specs.declared.Step.{Step}
+use Rattle.components.specs.declared.NoRoom.{NoRoom}
 use Rattle.components.specs.Settled.{step_in}
 use Rattle.answer.specs.Answer.{Sheet, answer_bytes, notice_bytes}
 use Rattle.answer.proofs.Stores.{notice_length}
@@ -47,7 +50,6 @@ use Rattle.bundle_page.specs.AnswerPage.{answer_page}
 use Rattle.bundle_page.specs.PageTables.{Printables}
 use Rattle.page_promise.proofs.PageFits.{PageFits, page_fits, printables}
 use Rattle.plan_bytes.specs.PlanBytes.{rejected, taken, read_plan}
-use Rattle.plan_reader.specs.declared.PlanRead.{PlanRead}
 use Rattle.plan_reader.specs.Reading.{told_plan}
 use Rattle.plan_stage.specs.Entries.{after_search, plan_for, plan_phase, after_taking, with_plan, told_with}
 use Rattle.plan_stage.proofs.EitherPlan.{told_size, phase_whole}
@@ -72,6 +74,9 @@ writes_as before after r s t e w = subst (Writes before after r) e w
 -- what is told, with the last refusal, as outputs
 abbrev pub outputs_for : Wants → Told → Outputs
 outputs_for w t = outputs_told w (after_all w t)
+
+pub named : (o : Outputs) (n m : ℕ) → n ≡ m → o ≡ notice m → o ≡ notice n
+named o n m h e = e ∙ ap notice (sym h)
 
 pub refused_outputs : (w : Wants) (t : Told) (n : ℕ) → t ≡ refused n → outputs_for w t ≡ notice n
 unfolding after_all outputs_told
@@ -120,35 +125,33 @@ drawn_writes w t f e m h before after r s is a p l c =
 
 -- ---- reading
 
-module _ (r : JobRead) (buffer : List Float) (bytes : List ℕ) (t : JobTold r buffer (read_job bytes)) (given : Bool) (plan : List ℕ) where
-  pub read_refused : r.ok ≡ false → told_with given bytes plan ≡ refused r.refusal
-  unfolding told_job with_plan
-  read_refused e =
-      let z : read_job bytes ≡ job.refusal r.refusal = sym t.is ∙ rw e in
-      ap (with_plan given plan) z
+pub read_refused : (r : Refusal) (n : ℕ) (buffer : List Float) (bytes : List ℕ) → n ≡ refusal_number r → JobTold (Err r) buffer (read_job bytes) → (given : Bool) (plan : List ℕ) → told_with given bytes plan ≡ refused n
+unfolding with_plan
+read_refused r n buffer bytes h t given plan = ap (with_plan given plan) (sym t.is) ∙ ap refused (sym h)
 
-  pub told_phase : r.ok ≡ true → told_with given bytes plan ≡ after_taking (job_in r.job buffer) (plan_phase given (job_in r.job buffer) plan)
+module _ (j : code.Job) (buffer : List Float) (bytes : List ℕ) (t : JobTold (Ok j) buffer (read_job bytes)) (given : Bool) (plan : List ℕ) where
+  pub told_phase : told_with given bytes plan ≡ after_taking (job_in j buffer) (plan_phase given (job_in j buffer) plan)
   unfolding with_plan
-  told_phase e = ap (with_plan given plan) (read_accepted r buffer bytes t e)
+  told_phase = ap (with_plan given plan) (read_accepted j buffer bytes t)
 
-  pub phase_room : (room : ℕ) → answer_room ≤ room → r.ok ≡ true → length (told_bytes (after_taking (job_in r.job buffer) (plan_phase given (job_in r.job buffer) plan))) ≤ room
-  phase_room room h e = let s = told_size given bytes plan in subst (λ (l : Told). length (told_bytes l) ≤ room) (told_phase e) (omega arith)
+  pub phase_room : (room : ℕ) → answer_room ≤ room → length (told_bytes (after_taking (job_in j buffer) (plan_phase given (job_in j buffer) plan))) ≤ room
+  phase_room room h = let s = told_size given bytes plan in subst (λ (l : Told). length (told_bytes l) ≤ room) told_phase (omega arith)
 
 -- ---- the plan
 
 -- our own
-module _ (j : code.Job) (buffer : List Float) (from : Came j buffer) (sizes : Sizes j) (s : Step)
+module _ (j : code.Job) (buffer : List Float) (from : Came j buffer) (sizes : Sizes j) (s : Result Planning NoRoom)
     (is : step_in j.bundles.count s
     ≡ plan_of (tables.board_of j.options j.nodes j.ports (take j.edges.count j.edges.rows) j.bundles j.members) (tables.given_routes buffer j.edges) j.flags.separates_collectors j.grants.tap_visits) where
   planned_is : planned (job_in j buffer) ≡ step_in j.bundles.count s
   planned_is = ap (λ (g : List Route). plan_of (job_in j buffer).board g j.flags.separates_collectors j.grants.tap_visits) (sym (given_same j buffer from sizes)) ∙ sym is
 
-  pub own_phase : (given : Bool) → given ≡ false → (plan : List ℕ) (r : PlanRead) → ((n : ℕ) → told_plan n r ≡ after_search (step_in n s)) → told_plan j.bundles.count r ≡ plan_phase given (job_in j buffer) plan
+  pub own_phase : (given : Bool) → given ≡ false → (plan : List ℕ) (r : Result Planning Refusal) → ((n : ℕ) → told_plan n r ≡ after_search (step_in n s)) → told_plan j.bundles.count r ≡ plan_phase given (job_in j buffer) plan
   unfolding plan_phase
   own_phase given e plan r told = told j.bundles.count ∙ ap after_search (sym planned_is) ∙ sym (ap (λ (b : Bool). cond b (plan_for (job_in j buffer) plan) (after_search (planned (job_in j buffer)))) e)
 
 -- one that is given
-pub given_phase : (j : code.Job) (buffer : List Float) (given : Bool) → given ≡ true → j.bundles.count ≤ length j.bundles.rows → (plan : List ℕ) (r : PlanRead) → told_plan j.bundles.count r ≡ read_plan j.flags.on_grid j.bundles.count j.grants.tap_visits plan
+pub given_phase : (j : code.Job) (buffer : List Float) (given : Bool) → given ≡ true → j.bundles.count ≤ length j.bundles.rows → (plan : List ℕ) (r : Result Planning Refusal) → told_plan j.bundles.count r ≡ read_plan j.flags.on_grid j.bundles.count j.grants.tap_visits plan
     → told_plan j.bundles.count r ≡ plan_phase given (job_in j buffer) plan
 unfolding plan_phase
 given_phase j buffer given e few plan r told =
@@ -157,20 +160,20 @@ given_phase j buffer given e few plan r told =
     ∙ sym (ap (λ (b : Bool). cond b (plan_for (job_in j buffer) plan) (after_search (planned (job_in j buffer)))) e)
 
 -- either
-module _ (j : code.Job) (buffer : List Float) (given : Bool) (plan : List ℕ) (r : PlanRead) (is : told_plan j.bundles.count r ≡ plan_phase given (job_in j buffer) plan) where
-  pub phase_refused : (r.number ≡ 0 → ⊥) → after_taking (job_in j buffer) (plan_phase given (job_in j buffer) plan) ≡ refused r.number
+module _ (j : code.Job) (buffer : List Float) (given : Bool) (plan : List ℕ) (r : Result Planning Refusal) (is : told_plan j.bundles.count r ≡ plan_phase given (job_in j buffer) plan) where
+  pub phase_refused : (e : Refusal) (n : ℕ) → n ≡ refusal_number e → r ≡ Err e → after_taking (job_in j buffer) (plan_phase given (job_in j buffer) plan) ≡ refused n
   unfolding told_plan after_taking
-  phase_refused e =
-      let z : plan_phase given (job_in j buffer) plan ≡ rejected r.number = sym is ∙ rw (ne_eqb r.number 0 e) in
-      ap (after_taking (job_in j buffer)) z
+  phase_refused e n h k =
+      let z : plan_phase given (job_in j buffer) plan ≡ rejected (refusal_number e) = sym is ∙ ap (told_plan j.bundles.count) k in
+      ap (after_taking (job_in j buffer)) z ∙ ap refused (sym h)
 
-  pub phase_taken : r.number ≡ 0 → plan_phase given (job_in j buffer) plan ≡ taken (plan_in j.bundles.count r.plan)
+  pub phase_taken : (p : Planning) → r ≡ Ok p → plan_phase given (job_in j buffer) plan ≡ taken (plan_in j.bundles.count p)
   unfolding told_plan
-  phase_taken e = sym is ∙ rw (eq-eqb r.number 0 e)
+  phase_taken p e = sym is ∙ ap (told_plan j.bundles.count) e
 
-  pub phase_going : r.number ≡ 0 → after_taking (job_in j buffer) (plan_phase given (job_in j buffer) plan) ≡ after_sheet (job_in j buffer) (plan_in j.bundles.count r.plan) (sheet_drawn (job_in j buffer) (plan_in j.bundles.count r.plan))
+  pub phase_going : (p : Planning) → r ≡ Ok p → after_taking (job_in j buffer) (plan_phase given (job_in j buffer) plan) ≡ after_sheet (job_in j buffer) (plan_in j.bundles.count p) (sheet_drawn (job_in j buffer) (plan_in j.bundles.count p))
   unfolding after_taking
-  phase_going e = ap (after_taking (job_in j buffer)) (phase_taken e)
+  phase_going p e = ap (after_taking (job_in j buffer)) (phase_taken p e)
 
 -- ---- the sheet
 
@@ -207,6 +210,13 @@ module _ (j : code.Job) (buffer : List Float) (from : Came j buffer) (sizes : Si
   pub sheet_clean : (q : GeometryVisits) → v ≡ Clean q → told_now ≡ drawn (record { said = job_in j buffer; plan_used = plan_in j.bundles.count p; sheet_made = standing rs ds q.0 })
   unfolding after_sheet
   sheet_clean q e = ap (after_sheet (job_in j buffer) (plan_in j.bundles.count p)) (sheet_going q e)
+
+-- how the sheet ended, and the visits left then
+pub ended_clean : (r : Result ⊤ Refusal) (n : ℕ) (x : ⊤) → r ≡ Ok x → told r n ≡ clean n
+ended_clean r n x e = ap (λ (z : Result ⊤ Refusal). told z n) e
+
+pub ended_refused : (r : Result ⊤ Refusal) (n m : ℕ) (e : Refusal) → m ≡ refusal_number e → r ≡ Err e → told r n ≡ failed m n
+ended_refused r n m e h is = ap (λ (z : Result ⊤ Refusal). told z n) is ∙ ap (λ (k : ℕ). failed k n) (sym h)
 
 -- what was in the slots does not matter
 pub lent_as : (j : code.Job) (edges lanes : List ℕ) (taps points points' : List Float) (counts : List ℕ) (mask : List Bool) (scratch : List Float) → length points' ≡ length points → Lent j edges lanes taps points counts mask scratch → Lent j edges lanes taps points' counts mask scratch
@@ -250,32 +260,32 @@ room_for members n taps points counts mask scratch hm hn t p c m s = record { pl
 
 -- ---- the answer
 
-module _ (j : code.Job) (buffer : List Float) (from : Came j buffer) (sizes : Sizes j) (given : Bool) (plan : List ℕ) (r : PlanRead) (is : told_plan j.bundles.count r ≡ plan_phase given (job_in j buffer) plan)
-    (on_going : r.number ≡ 0) (offsets : List Float) (v : Verdict) (edges : List ℕ) (ds : DrawnBundles) (points : List Float) (counts : List ℕ) (taps : List Float)
+module _ (j : code.Job) (buffer : List Float) (from : Came j buffer) (sizes : Sizes j) (given : Bool) (plan : List ℕ) (r : Result Planning Refusal) (is : told_plan j.bundles.count r ≡ plan_phase given (job_in j buffer) plan)
+    (p : Planning) (on_going : r ≡ Ok p) (offsets : List Float) (v : Verdict) (edges : List ℕ) (ds : DrawnBundles) (points : List Float) (counts : List ℕ) (taps : List Float)
     (as_offsets : offsets ≡ offsets_of (tables.board_of j.options j.nodes j.ports (take j.edges.count j.edges.rows) j.bundles j.members))
     (ends : ends_as v (routes_of points counts) (drawn_in edges taps ds)
     ≡ sheet_of (tables.board_of j.options j.nodes j.ports (take j.edges.count j.edges.rows) j.bundles j.members) j.flags.permits_crossings
-    (turns_from (take j.bundles.count j.bundles.rows) (map x_of (take j.bundles.count r.plan.rows)) offsets) (blank (tables.given_routes buffer j.edges) j.grants.geometry_visits)) where
+    (turns_from (take j.bundles.count j.bundles.rows) (map x_of (take j.bundles.count p.rows)) offsets) (blank (tables.given_routes buffer j.edges) j.grants.geometry_visits)) where
   abbrev told_so : Told
   told_so = after_taking (job_in j buffer) (plan_phase given (job_in j buffer) plan)
 
   pub all_refused : (n : ℕ) (q : GeometryVisits) → v ≡ Refused n q → after_taking (job_in j buffer) (plan_phase given (job_in j buffer) plan) ≡ refused n
-  all_refused n q e = phase_going j buffer given plan r is on_going ∙ sheet_refused j buffer from sizes r.plan offsets v (routes_of points counts) (drawn_in edges taps ds) as_offsets ends n q e
+  all_refused n q e = phase_going j buffer given plan r is p on_going ∙ sheet_refused j buffer from sizes p offsets v (routes_of points counts) (drawn_in edges taps ds) as_offsets ends n q e
 
-  pub all_drawn : (q : GeometryVisits) → v ≡ Clean q → after_taking (job_in j buffer) (plan_phase given (job_in j buffer) plan) ≡ drawn (finished j buffer r.plan edges ds points counts taps q.0)
-  all_drawn q e = phase_going j buffer given plan r is on_going ∙ sheet_clean j buffer from sizes r.plan offsets v (routes_of points counts) (drawn_in edges taps ds) as_offsets ends q e
+  pub all_drawn : (q : GeometryVisits) → v ≡ Clean q → after_taking (job_in j buffer) (plan_phase given (job_in j buffer) plan) ≡ drawn (finished j buffer p edges ds points counts taps q.0)
+  all_drawn q e = phase_going j buffer given plan r is p on_going ∙ sheet_clean j buffer from sizes p offsets v (routes_of points counts) (drawn_in edges taps ds) as_offsets ends q e
 
   -- the answer of the tables after the last shift
   pub all_told : (q : GeometryVisits) → OnSheet j edges ds points counts taps → (l : Laid) (after shifted : List Float) (t : DrawnTaps) → TapsOf j.edges j.members shifted t → page_in edges l after counts shifted ≡ page_of (sheet_in edges j.nodes ds points counts taps)
       → l.drawn.count ≡ ds.count → map heading (take l.drawn.count l.drawn.rows) ≡ map heading (take ds.count ds.rows)
-      → answer.sheet_of (record { tap_visits = r.plan.left.0; geometry_visits = q.0; width = l.width; height = l.height }) l.nodes j.edges after counts l.drawn t ≡ answer_of (finished j buffer r.plan edges ds points counts taps q.0)
-  all_told q on l after shifted t of page as_many kept = sheet_same j edges ds points counts taps on sizes buffer r.plan q.0 l after shifted t of (omega (arith, on.fits.members, of.rows_long)) page as_many kept
+      → answer.sheet_of (record { tap_visits = p.left.0; geometry_visits = q.0; width = l.width; height = l.height }) l.nodes j.edges after counts l.drawn t ≡ answer_of (finished j buffer p edges ds points counts taps q.0)
+  all_told q on l after shifted t of page as_many kept = sheet_same j edges ds points counts taps on sizes buffer p q.0 l after shifted t of (omega (arith, on.fits.members, of.rows_long)) page as_many kept
 
   -- 16 was looked at: each bundle of the table can be printed
   pub all_printable : j.flags.on_grid ≡ true → (q : GeometryVisits) → v ≡ Clean q → (a : Frame) (nodes : Nodes) (after : List Float) (b : DrawnBundles) (t : DrawnTaps)
-      → answer.sheet_of a nodes j.edges after counts b t ≡ answer_of (finished j buffer r.plan edges ds points counts taps q.0) → b.count ≤ length b.rows → Printables b.count b.rows
+      → answer.sheet_of a nodes j.edges after counts b t ≡ answer_of (finished j buffer p edges ds points counts taps q.0) → b.count ≤ length b.rows → Printables b.count b.rows
   all_printable on q e a nodes after b t same h =
-      let whole = phase_whole given from.bytes plan (job_in j buffer) from.is on (plan_in j.bundles.count r.plan) (phase_taken j buffer given plan r is on_going) in
-      let going = sheet_going j buffer from sizes r.plan offsets v (routes_of points counts) (drawn_in edges taps ds) as_offsets ends q e in
+      let whole = phase_whole given from.bytes plan (job_in j buffer) from.is on (plan_in j.bundles.count p) (phase_taken j buffer given plan r is p on_going) in
+      let going = sheet_going j buffer from sizes p offsets v (routes_of points counts) (drawn_in edges taps ds) as_offsets ends q e in
       printables b.count b.rows (take t.count t.rows) h
-      (subst (λ (z : Sheet). PageFits z.bundles) (sym same) (page_fits from.bytes (job_in j buffer) from.is on (plan_in j.bundles.count r.plan) whole (standing (routes_of points counts) (drawn_in edges taps ds) q.0) going))
+      (subst (λ (z : Sheet). PageFits z.bundles) (sym same) (page_fits from.bytes (job_in j buffer) from.is on (plan_in j.bundles.count p) whole (standing (routes_of points counts) (drawn_in edges taps ds) q.0) going))

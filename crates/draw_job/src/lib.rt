@@ -18,13 +18,14 @@ ghost use Rattle.draw_job.specs.JobTables.{Writes, TapsOf, MembersOn, Lent};
 
 use answer::Frame;
 use board::{DrawnTap, DrawnTaps, Edges, Members};
-use components::Step;
-use drawing::{GeometryVisits, Verdict};
+use components::NoRoom;
+use drawing::GeometryVisits;
 use geometry::Point;
 use job::Job;
 use limits::{MAX_MEMBERS, SEARCH_WORK};
 use outputs::Wants;
-use plan_reader::PlanRead;
+use plan::Planning;
+use refusal::Refusal;
 use search::TapVisits;
 
 // ---- the sheet (10, 11, 12, 14) and the answer
@@ -37,40 +38,24 @@ pub fn tap_rows(table: Edges, members: Members, taps: &[f64]) -> DrawnTaps
 {
     let p = Point { x: 0.0, y: 0.0 };
     let mut rows = [DrawnTap { edge: 0, point: p }; MAX_MEMBERS];
-    let n = members.count;
-    let mut i: usize = 0;
-    while i < n {
-        let m = members.rows[i];
-        let at = m.edge;
-        let e = table.rows[at];
-        let q = route_views::point_at(taps, i);
+    for i in 0..members.count {
         rows[i] = DrawnTap {
-            edge: e.id,
-            point: q,
+            edge: table.rows[members.rows[i].edge].id,
+            point: route_views::point_at(taps, i),
         };
-        i += 1;
     }
     DrawnTaps {
-        rows: rows,
-        count: n,
+        rows,
+        count: members.count,
     }
 }
 
 // Our own plan (13), as one that was read.
-fn own_plan(s: Step) -> PlanRead
+#[tactic(auto, unfolding(plan_reader::specs::Reading::told_plan, plan_stage::specs::Entries::after_search))]
+fn own_plan(s: Result<Planning, NoRoom>) -> Result<Planning, Refusal>
     ensures { (n : ℕ) → told_plan n result ≡ after_search (step_in n s) }
 {
-    let plan = s.plan;
-    if s.refused {
-        return PlanRead {
-            number: 13,
-            plan: plan,
-        };
-    }
-    PlanRead {
-        number: 0,
-        plan: plan,
-    }
+    Ok(s?)
 }
 
 // The plan, one that is given (17, 18) or our own (13), the sheet of it and the last shift, in lent
@@ -98,7 +83,7 @@ pub fn draw_in(
     requires plan_in_bounds { length (told_bytes (after_taking (job_in j given.now) (plan_phase wants.plan (job_in j given.now) plan.now))) ≤ length answer.old }
     requires search_work_in_bounds { (search_work ≤ length points.old) × (length sorted.old ≡ candidate_room) }
     requires lent { Lent j edges.old lanes.old taps.old points.old counts.old mask.old scratch.old }
-    ensures { Writes (record { answer = answer.entry.now; page = page.old; crossings = crossings.old }) (record { answer = answer.exit.now; page = page.new; crossings = crossings.new }) result (outputs_told wants (after_all wants (after_taking (job_in j given.now) (plan_phase wants.plan (job_in j given.now) plan.now)))) }
+    ensures { Writes (record { answer = answer.old; page = page.old; crossings = crossings.old }) (record { answer = answer.new; page = page.new; crossings = crossings.new }) result (outputs_told wants (after_all wants (after_taking (job_in j given.now) (plan_phase wants.plan (job_in j given.now) plan.now)))) }
 {
     let offsets = plan_depths::corridor_depth_offsets(
         j.options, j.nodes, j.ports, j.bundles, j.members,
@@ -117,16 +102,15 @@ pub fn draw_in(
             given,
             j.flags.separates_collectors,
             TapVisits(j.grants.tap_visits),
-            &mut sorted[..],
+            sorted,
             &mut points[..SEARCH_WORK],
         ))
     };
-    if p.number != 0 {
-        return answer::write_notice(&mut answer[..], p.number);
-    }
-    let drawn_from = p.plan;
-    let left = drawn_from.left;
-    let rows = drawn_from.rows;
+    let made = match p {
+        Ok(made) => made,
+        Err(r) => return answer::write_notice(answer, u8::from(r)),
+    };
+    let mut visits = GeometryVisits(j.grants.geometry_visits);
     let d = turns::draw_sheet(
         j.options,
         j.flags.permits_crossings,
@@ -135,22 +119,21 @@ pub fn draw_in(
         j.edges,
         j.bundles,
         j.members,
-        rows,
+        made.rows,
         offsets,
         given,
-        &mut edges[..],
-        &mut lanes[..],
-        &mut taps[..],
-        &mut points[..],
-        &mut counts[..],
-        &mut mask[..],
-        &mut scratch[..],
-        GeometryVisits(j.grants.geometry_visits),
+        edges,
+        lanes,
+        taps,
+        points,
+        counts,
+        mask,
+        scratch,
+        &mut visits,
     );
-    let v = d.verdict;
-    match v {
-        Verdict::Refused(r, q) => answer::write_notice(&mut answer[..], r),
-        Verdict::Clean(rest) => {
+    match d.ended {
+        Err(r) => answer::write_notice(answer, u8::from(r)),
+        Ok(()) => {
             let off_grid = wants.page & !j.flags.on_grid;
             if wants.crossings {
                 let too_many = crossing_output::list_crossings(
@@ -158,42 +141,41 @@ pub fn draw_in(
                     off_grid,
                     j.edges,
                     d.drawn,
-                    &points[..],
-                    &counts[..],
-                    &mut crossings[..],
+                    points,
+                    counts,
+                    crossings,
                 );
                 if too_many {
-                    return answer::write_notice(&mut answer[..], 19);
+                    return answer::write_notice(answer, u8::from(Refusal::TooManyCrossings));
                 }
             }
             if off_grid {
-                return answer::write_notice(&mut answer[..], 16);
+                return answer::write_notice(answer, u8::from(Refusal::PageOffGrid));
             }
-            let n = j.members.count;
             let l = normalize::normalize_layout(
                 j.nodes,
                 d.drawn,
-                &mut points[..],
-                &counts[..],
-                &mut taps[..],
-                n,
+                points,
+                counts,
+                taps,
+                j.members.count,
             );
-            let t = tap_rows(j.edges, j.members, &taps[..]);
+            let t = tap_rows(j.edges, j.members, taps);
             if wants.page {
-                page_writer::put_page(&mut page[..], l.drawn);
+                page_writer::put_page(page, l.drawn);
             }
             answer::write_answer(
-                &mut answer[..],
+                answer,
                 Frame {
-                    tap_visits: left.0,
-                    geometry_visits: rest.0,
+                    tap_visits: made.left.0,
+                    geometry_visits: visits.0,
                     width: l.width,
                     height: l.height,
                 },
                 l.nodes,
                 j.edges,
-                &points[..],
-                &counts[..],
+                points,
+                counts,
                 l.drawn,
                 t,
             )

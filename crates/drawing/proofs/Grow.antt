@@ -1,8 +1,7 @@
 -- How long routes become: at most two points more for each rewriting.
 -- Assumes nothing.
-use Rattle.std.specs.Prelude.{ℕ, zero, suc, ◌+◌, ◌*◌, ◌≤◌, ◌<◌, ◌≡◌, refl, List, [], ◌∷◌, Bool, true, false, cond, eqb, ltb, length, set, Float}
+use Rattle.std.specs.Prelude.{ℕ, zero, suc, ◌+◌, ◌*◌, ◌≤◌, ◌<◌, ◌≡◌, refl, List, [], ◌∷◌, Bool, true, false, cond, eqb, ltb, length, set, Float, Option, Some, None}
 use Rattle.std.proofs.Common.{sym, ap, ◌∙◌, arith, eqb-true}
-use Rattle.std.proofs.Math.Option.{Option, none, some}
 use Rattle.std.proofs.lemmas.Bool.{eqb-false}
 use Rattle.geometry.specs.declared.Point.{Point}
 use Rattle.geometry.specs.declared.Role.{Role}
@@ -22,9 +21,9 @@ use Rattle.drawing.specs.Grow.{times, rewritings}
 -- ---- one route
 
 abbrev pub Bounded : Option Route → ℕ → Type 0
-Bounded o n = (q : Route) → o ≡ some q → length q ≤ n
+Bounded o n = (q : Route) → o ≡ Some q → length q ≤ n
 
-bounded_none : (n : ℕ) → Bounded none n
+bounded_none : (n : ℕ) → Bounded None n
 bounded_none n q e = let z : ◌≡◌ {A = ℕ} 0 1 = cc in absurd (omega arith)
 
 bounded_cond : (k : Bool) (o p : Option Route) (n : ℕ) → Bounded o n → Bounded p n → Bounded (cond k o p) n
@@ -40,15 +39,15 @@ rewritten_length false Output pitch depth tap r q e = remade_length (remade_outp
 
 two_points_length : (o : Option Route) (n : ℕ) → Bounded o n → Bounded (two_points o) n
 unfolding two_points
-two_points_length none n h = h
-two_points_length (some r) n h = bounded_cond (ltb (length r) 2) none (some r) n (bounded_none n) h
+two_points_length None n h = h
+two_points_length (Some r) n h = bounded_cond (ltb (length r) 2) None (Some r) n (bounded_none n) h
 
 -- a rewriting adds at most two points
 pub rewrite_length : (inside : Bool) (role : Role) (pitch offset : Float) (tap : Point) (m : Member) (r : Route) → Bounded (rewrite_one inside role pitch offset tap m r) (length r + 2)
 unfolding rewrite_one
 rewrite_length inside role pitch offset tap m r =
     let inner = rewritten inside role pitch (corridor_depth offset pitch m) tap r in
-    bounded_cond (ltb (length r) 2) none (two_points inner) (length r + 2) (bounded_none (length r + 2))
+    bounded_cond (ltb (length r) 2) None (two_points inner) (length r + 2) (bounded_none (length r + 2))
     (two_points_length inner (length r + 2) (rewritten_length inside role pitch (corridor_depth offset pitch m) tap r))
 
 -- ---- all routes
@@ -69,12 +68,12 @@ set_length : (rs : List Route) (j i : ℕ) (r : Route) (k : Bool) → eqb j i �
 set_length rs j i r true e h = let same : j ≡ i = eqb-true j i e in rw (sym same) (set_same_length rs j r 2 h)
 set_length rs j i r false e h = rw (set_other rs j i r (eqb-false j i e)) (omega arith)
 
-put_length : (o : Option Route) (j i : ℕ) (rs qs : List Route) → Bounded o (length (route_at rs j) + 2) → put_route o j rs ≡ some qs → length (route_at qs i) ≤ length (route_at rs i) + 2 * cond (eqb j i) 1 0
+put_length : (o : Option Route) (j i : ℕ) (rs qs : List Route) → Bounded o (length (route_at rs j) + 2) → put_route o j rs ≡ Some qs → length (route_at qs i) ≤ length (route_at rs i) + 2 * cond (eqb j i) 1 0
 unfolding put_route
-put_length none j i rs qs h e = let z : ◌≡◌ {A = ℕ} 0 1 = cc in absurd (omega arith)
-put_length (some r) j i rs qs h e = let same : set rs j r ≡ qs = cc in rw (sym same) (set_length rs j i r (eqb j i) refl (h r refl))
+put_length None j i rs qs h e = let z : ◌≡◌ {A = ℕ} 0 1 = cc in absurd (omega arith)
+put_length (Some r) j i rs qs h e = let same : set rs j r ≡ qs = cc in rw (sym same) (set_length rs j i r (eqb j i) refl (h r refl))
 
-pub all_length : (inside : Bool) (role : Role) (pitch offset : Float) (ts : List TapOn) (ms : List Member) (rs qs : List Route) (i : ℕ) → rewrite_all inside role pitch offset ts ms rs ≡ some qs → length (route_at qs i) ≤ length (route_at rs i) + 2 * times ms i
+pub all_length : (inside : Bool) (role : Role) (pitch offset : Float) (ts : List TapOn) (ms : List Member) (rs qs : List Route) (i : ℕ) → rewrite_all inside role pitch offset ts ms rs ≡ Some qs → length (route_at qs i) ≤ length (route_at rs i) + 2 * times ms i
 unfolding rewrite_all times
 all_length inside role pitch offset [] ms rs qs i e = let same : rs ≡ qs = cc in rw (sym same) (omega arith)
 all_length inside role pitch offset (t ∷ ts) [] rs qs i e = let same : rs ≡ qs = cc in rw (sym same) (omega arith)

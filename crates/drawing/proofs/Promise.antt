@@ -1,11 +1,11 @@
 -- What an accepted sheet promises, read off from its soundness line by line.
 -- Assumes nothing.
-use Rattle.std.specs.Prelude.{ℕ, zero, suc, ◌+◌, ◌<◌, ◌≡◌, refl, ◌⊎◌, Bool, true, false, ◌||◌, cond, T, eqb, length, get_or, take, Float}
+use Rattle.std.specs.Prelude.{ℕ, zero, suc, ◌+◌, ◌<◌, ◌≡◌, refl, ◌⊎◌, Bool, true, false, ◌||◌, cond, T, eqb, length, get_or, take, Float, Option, Some, None}
 use Rattle.std.proofs.Common.{sym, ap, ◌∙◌, inl, inr, arith, eq-eqb}
 use mathlib.Core.List.Memᴰ
 use mathlib.Core.List.{List, [], ◌∷◌, ◌++◌, Memᴰ, append_assoc, append-nil}
-use Rattle.std.proofs.Math.Option.{Option, none, some}
 use Rattle.std.proofs.Math.Dec.{eqb_refl}
+use Rattle.geometry.specs.declared.Point.{Point}
 use Rattle.geometry.specs.declared.Segment.{Segment}
 use Rattle.geometry.specs.declared.Role.{Role}
 use Rattle.geometry.specs.declared.Role.TheVariants.{Input}
@@ -26,8 +26,6 @@ use Rattle.board.specs.Board.{Board}
 use Rattle.plan.specs.Depths.{members_in, pitch_of, no_node}
 use Rattle.sorting.specs.Lists.{Every}
 use Rattle.sorting.specs.Sorted.{every_at}
-use Rattle.geometry.specs.declared.Tap.{Tap}
-use Rattle.geometry.specs.declared.Tap.TheVariants.{Absent}
 use Rattle.drawing.specs.Build.{TapOn, Drawn, build, inside_or, trunk_taps, tap_of, route_at, no_drawn}
 use Rattle.drawing.specs.Check.{Test, due, barred, over_routes, every_route, among, clash, run_tests, route_tests, drawn_tests, pair_tests, member_tests, interior_tests, inside_tests, node_tests, own, no_edge}
 use Rattle.drawing.specs.Sheet.{Turn, Progress, going, sheet_of, blank}
@@ -59,7 +57,7 @@ among_mem (n ∷ ms) m k = go (among_mem ms m) (Memᴰ.cases_cons k)
 
 -- ---- contacts with routes
 
-run_clear : (o : Options) (allow : Bool) (bus : Segment) (tap : Tap) (rs : List Segment) → Clear (run_tests o allow bus tap rs) → Every (λ run. clash o allow bus tap run ≡ false) rs
+run_clear : (o : Options) (allow : Bool) (bus : Segment) (tap : Option Point) (rs : List Segment) → Clear (run_tests o allow bus tap rs) → Every (λ run. clash o allow bus tap run ≡ false) rs
 unfolding run_tests Clear
 run_clear o allow bus tap [] h = tt
 run_clear o allow bus tap (r ∷ rs) h = (h.0, run_clear o allow bus tap rs h.1)
@@ -75,11 +73,11 @@ bus_clear o allow bus taps rs h i run m =
     every_mem (λ s. clash o allow bus (tap_of taps i) s ≡ false) (runs (route_at rs i)) (run_clear o allow bus (tap_of taps i) (runs (route_at rs i)) k) run m
 
 -- a bundle's line against a run: no contact that is not allowed, and not too close
-pub record Free (o : Options) (allow : Bool) (bus : Segment) (tap : Tap) (run : Segment) : Type 0 where
+pub record Free (o : Options) (allow : Bool) (bus : Segment) (tap : Option Point) (run : Segment) : Type 0 where
   pub contact : contact bus run.start run.end tap allow ≡ false
   pub spacing : too_close bus run o.minimum_parallel_wire_spacing ≡ false
 
-free : (o : Options) (allow : Bool) (bus : Segment) (tap : Tap) (run : Segment) → clash o allow bus tap run ≡ false → Free o allow bus tap run
+free : (o : Options) (allow : Bool) (bus : Segment) (tap : Option Point) (run : Segment) → clash o allow bus tap run ≡ false → Free o allow bus tap run
 unfolding clash
 free o allow bus tap run h =
     let n = neither (disallowed allow (kind bus run.start run.end tap)) (too_close bus run o.minimum_parallel_wire_spacing) h in
@@ -91,23 +89,23 @@ free o allow bus tap run h =
 -- ---- contacts between bundles
 
 pub record FreePair (o : Options) (allow : Bool) (new prior : Drawn) : Type 0 where
-  pub collectors : Free o allow new.collector Absent prior.collector
-  pub collector_spine : Free o allow new.collector Absent prior.spine
-  pub spine_collector : Free o allow new.spine Absent prior.collector
-  pub spines : Free o allow new.spine Absent prior.spine
+  pub collectors : Free o allow new.collector None prior.collector
+  pub collector_spine : Free o allow new.collector None prior.spine
+  pub spine_collector : Free o allow new.spine None prior.collector
+  pub spines : Free o allow new.spine None prior.spine
 
 free_pair : (o : Options) (allow : Bool) (new prior : Drawn) → Clear (pair_tests o allow new prior) → FreePair o allow new prior
 unfolding pair_tests Clear
 free_pair o allow new prior h =
     record {
-      collectors = free o allow new.collector Absent prior.collector h.0;
-      collector_spine = free o allow new.collector Absent prior.spine h.1.0;
-      spine_collector = free o allow new.spine Absent prior.collector h.1.1.0;
-      spines = free o allow new.spine Absent prior.spine h.1.1.1.0;
+      collectors = free o allow new.collector None prior.collector h.0;
+      collector_spine = free o allow new.collector None prior.spine h.1.0;
+      spine_collector = free o allow new.spine None prior.collector h.1.1.0;
+      spines = free o allow new.spine None prior.spine h.1.1.1.0;
     }
 
 abbrev pub no_turn : Turn
-no_turn = record { bundle = record { id = 0; port = 0; role = Input; width = 0; first = 0; count = 0 }; planned = none; offset = zero64 }
+no_turn = record { bundle = record { id = 0; port = 0; role = Input; width = 0; first = 0; count = 0 }; planned = None; offset = zero64 }
 
 pub apart_at : (o : Options) (allow : Bool) (ds : List Drawn) → Apart o allow ds → (j k : ℕ) → j < k → k < length ds → FreePair o allow (get_or ds k no_drawn) (get_or ds j no_drawn)
 unfolding Apart
@@ -209,8 +207,8 @@ taps_same c role pitch x (m ∷ ms) rs qs a h =
 
 build_same : (b : Board) (u : Bundle) (p : Option Float) (c : ℕ → Bool) (rs qs : List Route) → Agree c rs qs 0 → Every (λ m. c m.edge ≡ false) (members_in b u) → build b u p qs ≡ build b u p rs
 unfolding build
-build_same b u none c rs qs a h = refl
-build_same b u (some x) c rs qs a h = ap (λ (o : Option (List TapOn)). inside_or o b u x) (taps_same c u.role (pitch_of b u) x (members_in b u) rs qs a h)
+build_same b u None c rs qs a h = refl
+build_same b u (Some x) c rs qs a h = ap (λ (o : Option (List TapOn)). inside_or o b u x) (taps_same c u.role (pitch_of b u) x (members_in b u) rs qs a h)
 
 pub fresh_build : (b : Board) (given : List Route) (earlier : List Turn) (t : Turn) (d : Drawn) → Origin b given earlier t d → Fresh b earlier t → d ≡ build b t.bundle t.planned given
 fresh_build b given earlier t d o h = o.made ∙ build_same b t.bundle t.planned (touched b earlier) given o.present o.untouched h

@@ -1,6 +1,6 @@
 -- Where `contact` finds nothing, a bus and a run that has length share at most one exact point: the tap, at an end of the run, or, where that is permitted, a strict crossing.
 -- Assumes nothing.
-use Rattle.std.specs.Prelude.{◌≡◌, refl, ◌⊎◌, Bool, not, ◌&&◌, ◌||◌, cond, T, Float}
+use Rattle.std.specs.Prelude.{◌≡◌, refl, ◌⊎◌, Bool, not, ◌&&◌, ◌||◌, cond, T, Float, Option, Some, None}
 use Rattle.std.proofs.Common.{sym, ap, ◌∙◌, subst, true≢false, T_not}
 use Rattle.std.proofs.Math.Logic.{inl, inr}
 use Rattle.std.proofs.Math.Bool.{true, false}
@@ -11,8 +11,6 @@ use Rattle.binary64.proofs.Fraction.{eq→Sameℚ}
 use Rattle.binary64.specs.Rational.{Sameℚ, value}
 use Rattle.geometry.specs.declared.Point.{Point}
 use Rattle.geometry.specs.declared.Segment.{Segment}
-use Rattle.geometry.specs.declared.Tap.{Tap}
-use Rattle.geometry.specs.declared.Tap.TheVariants.{Absent, At}
 use Rattle.exact.specs.Exact.{Exact, Same, exact, OnSegment, SamePlace, same_place, Finite, HasLength}
 use Rattle.geometry.specs.declared.Meet.{Meet}
 use Rattle.geometry.specs.declared.Meet.TheVariants.{Apart, Overlap, One}
@@ -44,16 +42,16 @@ differ false false t = absurd t
 pub same_both : {p q : Exact} {r : Point} → Is p r → Is q r → Same p q
 same_both {p} {q} {r} h k = record { x = same_trans p.x (value r.x) q.x h.same.x (sym k.same.x); y = same_trans p.y (value r.y) q.y h.same.y (sym k.same.y) }
 
-module _ (bus : Segment) (a b : Point) (tap : Tap) (F : Numbers bus a b tap) where
+module _ (bus : Segment) (a b : Point) (tap : Option Point) (F : Numbers bus a b tap) where
   to_place : {p : Exact} {q : Point} → Is p q → (c : Point) → Finite c → T (matches c q) → SamePlace c p
   to_place {p} {q} h c C t = subst T (sym (place_same c q p C h.is_finite h.same)) t
 
   from_place : {p : Exact} {q : Point} → Is p q → (c : Point) → Finite c → T (not (matches c q)) → ¬ SamePlace c p
   from_place {p} {q} h c C t s = T_not (matches c q) t (subst T (place_same c q p C h.is_finite h.same) s)
 
-  tapped : {p : Exact} {q : Point} → Is p q → (r : Tap) → FiniteTap r → T (at_tap r q) → Tapped r p
-  tapped h Absent R t = t
-  tapped h (At r) R t = to_place h r R t
+  tapped : {p : Exact} {q : Point} → Is p q → (r : Option Point) → FiniteTap r → T (at_tap r q) → Tapped r p
+  tapped h None R t = t
+  tapped h (Some r) R t = to_place h r R t
 
   square_exact : T (not (slanted bus.start bus.end)) → T (not (slanted a b)) → T (perpendicular bus a b) → Square bus a b
   square_exact n m t = elim (differ (level bus.start bus.end) (level a b) t) [

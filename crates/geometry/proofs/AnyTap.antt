@@ -1,10 +1,9 @@
 -- Kinds have numbers of their own (`same_kind`), and whether a bus and a run cross strictly does not hang on the tap (`any_tap`).
 -- Assumes nothing.
-use Rattle.std.specs.Prelude.{ℕ, ◌≡◌, refl, Bool, true, false, ◌&&◌, ◌||◌, cond, eqb}
+use Rattle.std.specs.Prelude.{ℕ, ◌≡◌, refl, Bool, true, false, ◌&&◌, ◌||◌, cond, eqb, Option}
 use Rattle.std.proofs.Common.{sym, ap, ◌∙◌, eqb-true}
 use Rattle.geometry.specs.declared.Point.{Point}
 use Rattle.geometry.specs.declared.Segment.{Segment}
-use Rattle.geometry.specs.declared.Tap.{Tap}
 use Rattle.geometry.specs.declared.Meet.{Meet}
 use Rattle.geometry.specs.declared.Meet.TheVariants as meeting
 use Rattle.geometry.specs.Contact.{matches, coincide, slanted, meet, at_tap, perpendicular, strict}
@@ -37,7 +36,7 @@ is_strict_at true t = refl
 is_strict_at false true = refl
 is_strict_at false false = refl
 
-strict_of : (bus : Segment) (a b : Point) (t u : Tap) (w : Meet) → is_strict (kind_of bus a b t w) ≡ is_strict (kind_of bus a b u w)
+strict_of : (bus : Segment) (a b : Point) (t u : Option Point) (w : Meet) → is_strict (kind_of bus a b t w) ≡ is_strict (kind_of bus a b u w)
 strict_of bus a b t u meeting.Apart = refl
 strict_of bus a b t u meeting.Overlap = refl
 strict_of bus a b t u (meeting.One q) =
@@ -48,7 +47,7 @@ strict_by true d k l e = refl
 strict_by false true k l e = refl
 strict_by false false k l e = e
 
-pub any_tap : (bus : Segment) (a b : Point) (t u : Tap) → is_strict (kind bus a b t) ≡ is_strict (kind bus a b u)
+pub any_tap : (bus : Segment) (a b : Point) (t u : Option Point) → is_strict (kind bus a b t) ≡ is_strict (kind bus a b u)
 unfolding kind
 any_tap bus a b t u = strict_by (coincide a b) (slanted bus.start bus.end || slanted a b) (kind_of bus a b t (meet bus a b)) (kind_of bus a b u (meet bus a b)) (strict_of bus a b t u (meet bus a b))
 

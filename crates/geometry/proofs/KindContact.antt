@@ -1,9 +1,8 @@
 -- The yes or no of segments_have_disallowed_contact (`contact`) is worked out from the kind alone (`kind_contact`).
 -- Assumes nothing.
-use Rattle.std.specs.Prelude.{◌≡◌, refl, Bool, true, false, not, ◌&&◌, ◌||◌, cond}
+use Rattle.std.specs.Prelude.{◌≡◌, refl, Bool, true, false, not, ◌&&◌, ◌||◌, cond, Option}
 use Rattle.geometry.specs.declared.Point.{Point}
 use Rattle.geometry.specs.declared.Segment.{Segment}
-use Rattle.geometry.specs.declared.Tap.{Tap}
 use Rattle.geometry.specs.declared.Meet.{Meet}
 use Rattle.geometry.specs.declared.Meet.TheVariants as meeting
 use Rattle.geometry.specs.Contact.{matches, coincide, slanted, meet, at_tap, perpendicular, meeting_disallowed, contact}
@@ -32,7 +31,7 @@ at_point true true true true n t = touch true t true n
 at_point true true true false true t = touch true t false true
 at_point true true true false false t = refl
 
-by_meeting : (bus : Segment) (a b : Point) (tap : Tap) (p : Bool) (m : Meet) → disallowed p (kind_of bus a b tap m) ≡ meeting_disallowed bus a b tap p m
+by_meeting : (bus : Segment) (a b : Point) (tap : Option Point) (p : Bool) (m : Meet) → disallowed p (kind_of bus a b tap m) ≡ meeting_disallowed bus a b tap p m
 by_meeting bus a b tap p meeting.Apart = refl
 by_meeting bus a b tap p meeting.Overlap = refl
 by_meeting bus a b tap p (meeting.One q) = at_point p (perpendicular bus a b) (not (matches bus.start q) && not (matches bus.end q)) (matches a q) (matches b q) (at_tap tap q)
@@ -43,7 +42,7 @@ by_direction p false true k r e = refl
 by_direction p false false k r e = e
 
 -- "its yes or no is compared with the Rust as it was"
-pub kind_contact : (bus : Segment) (a b : Point) (tap : Tap) (permitted : Bool) → disallowed permitted (kind bus a b tap) ≡ contact bus a b tap permitted
+pub kind_contact : (bus : Segment) (a b : Point) (tap : Option Point) (permitted : Bool) → disallowed permitted (kind bus a b tap) ≡ contact bus a b tap permitted
 unfolding kind contact
 kind_contact bus a b tap permitted =
     by_direction permitted (coincide a b) (slanted bus.start bus.end || slanted a b) (kind_of bus a b tap (meet bus a b)) (meeting_disallowed bus a b tap permitted (meet bus a b))

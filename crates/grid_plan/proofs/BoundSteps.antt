@@ -3,15 +3,13 @@
 use Rattle.std.proofs.Math.Path.{◌≡◌, refl}
 use Rattle.std.proofs.Common.{ap, ◌∙◌, arith}
 use Prim.Native.Nat.{ℕ, zero, suc}
-use Rattle.std.specs.Prelude.{Bool, cond, ℤ, Float}
+use Rattle.std.specs.Prelude.{Bool, cond, ℤ, Float, Option, Some, None}
 use Rattle.std.proofs.Math.Bool.{true, false}
 use mathlib.Core.List.{List, [], ◌∷◌, ◌++◌}
-use Rattle.std.proofs.Math.Option.{Option, none, some}
 use Rattle.binary64.specs.Order.{least}
 use Rattle.geometry.specs.declared.Point.{Point}
 use Rattle.geometry.specs.declared.Role.{Role}
 use Rattle.geometry.specs.declared.Role.TheVariants.{Input, Output}
-use Rattle.geometry.specs.declared.Stretch.{Stretch}
 use Rattle.geometry.specs.Points.{Route}
 use Rattle.search.specs.declared.Bounds.{Bounds}
 use Rattle.search.specs.declared.CollectorBounds.TheVariants.{Absent, Between}
@@ -34,25 +32,25 @@ use Rattle.grid_plan.specs.Sizes.{OfOption}
 
 -- ---- choices
 pub raised_on : (a : ℤ) (o : Option ℤ) → M.raised (on a) (bound o) ≡ on (B.raised a o)
-raised_on a none = refl
-raised_on a (some b) = greatest_on a b
+raised_on a None = refl
+raised_on a (Some b) = greatest_on a b
 
 pub lowered_on : (a : ℤ) (o : Option ℤ) → M.lowered (on a) (bound o) ≡ on (B.lowered a o)
-lowered_on a none = refl
-lowered_on a (some b) = least_on a b
+lowered_on a None = refl
+lowered_on a (Some b) = least_on a b
 
 pub clamped_on : (x low high : ℤ) → M.clamped (on x) (on low) (on high) ≡ on (B.clamped x low high)
 clamped_on x low high = ap (λ (z : Float). least z (on high)) (greatest_on x low) ∙ least_on (larger x low) high
 
 pub tighter_on : (role : Role) (o : Option ℤ) (x : ℤ) → M.tighter role (bound o) (on x) ≡ on (B.tighter role o x)
-tighter_on role none x = refl
-tighter_on Input (some d) x = least_on d x
-tighter_on Output (some d) x = greatest_on d x
+tighter_on role None x = refl
+tighter_on Input (Some d) x = least_on d x
+tighter_on Output (Some d) x = greatest_on d x
 
 pub unless_crossed_on : (low d high : ℤ) → M.unless_crossed (on low) (on d) (on high) ≡ collector (B.unless_crossed low d high)
 unless_crossed_on low d high = rw (lt_on high low, clamped_on d low high) (go (below high low))
   where
-    go : (t : Bool) → cond t Absent (Between (record { minimum = on low; desired = on (B.clamped d low high); maximum = on high })) ≡ collector (cond t none (some (record { minimum = low; desired = B.clamped d low high; maximum = high })))
+    go : (t : Bool) → cond t Absent (Between (record { minimum = on low; desired = on (B.clamped d low high); maximum = on high })) ≡ collector (cond t None (Some (record { minimum = low; desired = B.clamped d low high; maximum = high })))
     go true = refl
     go false = refl
 
@@ -68,29 +66,29 @@ last_x_on (p ∷ q ∷ ps) = last_x_on (q ∷ ps)
 
 module _ (Q : ℤ → Type 0) where
   pub raised_of : (a : ℤ) (o : Option ℤ) → Q a → OfOption Q o → Q (B.raised a o)
-  raised_of a none s t = s
-  raised_of a (some b) s t = pick_larger Q a b s t
+  raised_of a None s t = s
+  raised_of a (Some b) s t = pick_larger Q a b s t
 
   pub lowered_of : (a : ℤ) (o : Option ℤ) → Q a → OfOption Q o → Q (B.lowered a o)
-  lowered_of a none s t = s
-  lowered_of a (some b) s t = pick_smaller Q a b s t
+  lowered_of a None s t = s
+  lowered_of a (Some b) s t = pick_smaller Q a b s t
 
   pub clamped_of : (x low high : ℤ) → Q x → Q low → Q high → Q (B.clamped x low high)
   clamped_of x low high s t u = pick_smaller Q (larger x low) high (pick_larger Q x low s t) u
 
   pub tighter_of : (role : Role) (o : Option ℤ) (x : ℤ) → OfOption Q o → Q x → Q (B.tighter role o x)
-  tighter_of role none x s t = t
-  tighter_of Input (some d) x s t = pick_smaller Q d x s t
-  tighter_of Output (some d) x s t = pick_larger Q d x s t
+  tighter_of role None x s t = t
+  tighter_of Input (Some d) x s t = pick_smaller Q d x s t
+  tighter_of Output (Some d) x s t = pick_larger Q d x s t
 
   abbrev pub OfCollector : Option S.Bounds → Type 0
-  OfCollector none = Unit {0}
-  OfCollector (some r) = OfBounds Q r
+  OfCollector None = Unit {0}
+  OfCollector (Some r) = OfBounds Q r
 
   pub unless_crossed_of : (low d high : ℤ) → Q low → Q d → Q high → OfCollector (B.unless_crossed low d high)
   unless_crossed_of low d high s t u = go (below high low)
     where
-      go : (w : Bool) → OfCollector (cond w none (some (record { minimum = low; desired = B.clamped d low high; maximum = high })))
+      go : (w : Bool) → OfCollector (cond w None (Some (record { minimum = low; desired = B.clamped d low high; maximum = high })))
       go true = tt
       go false = (s, clamped_of d low high t s u, u)
 

@@ -4,10 +4,9 @@ use Rattle.std.proofs.Math.Path.{◌≡◌, refl, ap}
 use Rattle.std.proofs.Common.{sym, ◌∙◌, subst, true≢false, leb-false}
 use Prim.Native.Nat.{ℕ, zero, suc, ◌+◌, ◌^◌, ◌≤◌, ◌<◌}
 use native.Mathlib.Omega.{arith}
-use Rattle.std.specs.Prelude.{Bool, not, ◌&&◌, take, drop, Float}
+use Rattle.std.specs.Prelude.{Bool, not, ◌&&◌, take, drop, Float, Option, Some, None}
 use Rattle.std.proofs.Math.Bool.{true, false, cond}
 use mathlib.Core.List.{List, [], ◌∷◌, map}
-use Rattle.std.proofs.Math.Option.{Option, none, some}
 use lib.IntN.{ℤ, pos, nat_abs, ◌+ℤ◌, ◌-ℤ◌}
 use lib.Dec.{T, leb, leb→le}
 use Rattle.std.proofs.Math.ListN.{length, get_or-map}
@@ -17,7 +16,6 @@ use Rattle.std.specs.Float.Ieee.Fits.{and_l, and_r}
 use Rattle.geometry.specs.declared.Point.{Point}
 use Rattle.geometry.specs.declared.Role.{Role}
 use Rattle.geometry.specs.declared.Role.TheVariants.{Input, Output}
-use Rattle.geometry.specs.declared.Stretch.{Stretch}
 use Rattle.geometry.specs.Points.{Route}
 use Rattle.board.specs.declared.Bundle.{Bundle}
 use Rattle.board.specs.declared.Member.{Member}
@@ -26,7 +24,7 @@ use Rattle.search.specs.declared.Bounds.{Bounds}
 use Rattle.search.specs.declared.CollectorBounds.TheVariants.{Absent}
 use Rattle.search.specs.Stretches as T
 use Rattle.plan.specs.declared.Bound.{Bound}
-use Rattle.plan.specs.declared.Bound.TheVariants.{None, At}
+use Rattle.plan.specs.declared.Bound.TheVariants as bounded
 use Rattle.plan.specs.Depths as L
 use Rattle.plan.specs.Bounds as M
 use Rattle.grid_plan.specs.Board as Z
@@ -89,8 +87,8 @@ module _ (b : Z.Board) (routes : List Z.Route) (good : OnDraftingGrid b routes) 
       ∙ go (B.last_x (B.route_of b routes m)) (last_x_of Job (B.route_of b routes m) (x_jobs m))
     where
       go : (o : Option ℤ) → OfOption Job o → M.map_bound (M.reach_x Input (on b.options.reserve) (bound (D.corridor_of b Output m.edge))) (bound o) ≡ bound (B.map_bound (B.reach_x Input b.options.reserve (D.corridor_of b Output m.edge)) o)
-      go none s = refl
-      go (some x) s = ap At (ap (λ (z : Float). M.lowered z (bound (D.corridor_of b Output m.edge))) (sub_reserve x s) ∙ lowered_on (x -ℤ b.options.reserve) (D.corridor_of b Output m.edge))
+      go None s = refl
+      go (Some x) s = ap bounded.At (ap (λ (z : Float). M.lowered z (bound (D.corridor_of b Output m.edge))) (sub_reserve x s) ∙ lowered_on (x -ℤ b.options.reserve) (D.corridor_of b Output m.edge))
   reach_on Output m =
       ap (λ (r : Route). M.map_bound (M.reach_x Output (on b.options.reserve) (L.corridor_of (board b) Input m.edge)) (M.first_x r)) (route_on m)
       ∙ ap (λ (o : Bound). M.map_bound (M.reach_x Output (on b.options.reserve) o) (M.first_x (route (B.route_of b routes m)))) (corridor_on b routes good Input m.edge)
@@ -98,43 +96,43 @@ module _ (b : Z.Board) (routes : List Z.Route) (good : OnDraftingGrid b routes) 
       ∙ go (B.first_x (B.route_of b routes m)) (first_x_of Job (B.route_of b routes m) (x_jobs m))
     where
       go : (o : Option ℤ) → OfOption Job o → M.map_bound (M.reach_x Output (on b.options.reserve) (bound (D.corridor_of b Input m.edge))) (bound o) ≡ bound (B.map_bound (B.reach_x Output b.options.reserve (D.corridor_of b Input m.edge)) o)
-      go none s = refl
-      go (some x) s = ap At (ap (λ (z : Float). M.raised z (bound (D.corridor_of b Input m.edge))) (add_reserve x s) ∙ raised_on (x +ℤ b.options.reserve) (D.corridor_of b Input m.edge))
+      go None s = refl
+      go (Some x) s = ap bounded.At (ap (λ (z : Float). M.raised z (bound (D.corridor_of b Input m.edge))) (add_reserve x s) ∙ raised_on (x +ℤ b.options.reserve) (D.corridor_of b Input m.edge))
 
   reach_sized : (role : Role) (m : Member) → OfOption (Sized (2 ^ 45)) (B.reach b routes role m)
   reach_sized Input m = go (B.last_x (B.route_of b routes m)) (last_x_of Job (B.route_of b routes m) (x_jobs m))
     where
       go : (o : Option ℤ) → OfOption Job o → OfOption (Sized (2 ^ 45)) (B.map_bound (B.reach_x Input b.options.reserve (D.corridor_of b Output m.edge)) o)
-      go none s = tt
-      go (some x) s = lowered_of (Sized (2 ^ 45)) (x -ℤ b.options.reserve) (D.corridor_of b Output m.edge) (wider (omega arith) (sized_sub x b.options.reserve s good.reserve.0)) (corridor_sized b routes good Output m.edge)
+      go None s = tt
+      go (Some x) s = lowered_of (Sized (2 ^ 45)) (x -ℤ b.options.reserve) (D.corridor_of b Output m.edge) (wider (omega arith) (sized_sub x b.options.reserve s good.reserve.0)) (corridor_sized b routes good Output m.edge)
   reach_sized Output m = go (B.first_x (B.route_of b routes m)) (first_x_of Job (B.route_of b routes m) (x_jobs m))
     where
       go : (o : Option ℤ) → OfOption Job o → OfOption (Sized (2 ^ 45)) (B.map_bound (B.reach_x Output b.options.reserve (D.corridor_of b Input m.edge)) o)
-      go none s = tt
-      go (some x) s = raised_of (Sized (2 ^ 45)) (x +ℤ b.options.reserve) (D.corridor_of b Input m.edge) (wider (omega arith) (sized_add x b.options.reserve s good.reserve.0)) (corridor_sized b routes good Input m.edge)
+      go None s = tt
+      go (Some x) s = raised_of (Sized (2 ^ 45)) (x +ℤ b.options.reserve) (D.corridor_of b Input m.edge) (wider (omega arith) (sized_add x b.options.reserve s good.reserve.0)) (corridor_sized b routes good Input m.edge)
 
   reach_all_on : (role : Role) (d : Option ℤ) (ms : List Member) → M.reach_all (board b) (map route routes) role (bound d) ms ≡ bound (B.reach_all b routes role d ms)
   unfolding M.reach_all B.reach_all
   reach_all_on role d [] = refl
   reach_all_on role d (m ∷ ms) =
-      ap (λ (o : Bound). M.if_at o None (λ x. M.reach_all (board b) (map route routes) role (At (M.tighter role (bound d) x)) ms)) (reach_on role m)
-      ∙ go (λ (x : ℤ). ap (λ (z : Float). M.reach_all (board b) (map route routes) role (At z) ms) (tighter_on role d x) ∙ reach_all_on role (some (B.tighter role d x)) ms) (B.reach b routes role m)
+      ap (λ (o : Bound). M.if_at o bounded.None (λ x. M.reach_all (board b) (map route routes) role (bounded.At (M.tighter role (bound d) x)) ms)) (reach_on role m)
+      ∙ go (λ (x : ℤ). ap (λ (z : Float). M.reach_all (board b) (map route routes) role (bounded.At z) ms) (tighter_on role d x) ∙ reach_all_on role (Some (B.tighter role d x)) ms) (B.reach b routes role m)
     where
-      go : ((x : ℤ) → M.reach_all (board b) (map route routes) role (At (M.tighter role (bound d) (on x))) ms ≡ bound (B.reach_all b routes role (some (B.tighter role d x)) ms)) → (o : Option ℤ)
-          → M.if_at (bound o) None (λ x. M.reach_all (board b) (map route routes) role (At (M.tighter role (bound d) x)) ms) ≡ bound (B.if_at o none (λ x. B.reach_all b routes role (some (B.tighter role d x)) ms))
-      go f none = refl
-      go f (some x) = f x
+      go : ((x : ℤ) → M.reach_all (board b) (map route routes) role (bounded.At (M.tighter role (bound d) (on x))) ms ≡ bound (B.reach_all b routes role (Some (B.tighter role d x)) ms)) → (o : Option ℤ)
+          → M.if_at (bound o) bounded.None (λ x. M.reach_all (board b) (map route routes) role (bounded.At (M.tighter role (bound d) x)) ms) ≡ bound (B.if_at o None (λ x. B.reach_all b routes role (Some (B.tighter role d x)) ms))
+      go f None = refl
+      go f (Some x) = f x
 
   reach_all_sized : (role : Role) (d : Option ℤ) (ms : List Member) → OfOption (Sized (2 ^ 45)) d → OfOption (Sized (2 ^ 45)) (B.reach_all b routes role d ms)
   unfolding B.reach_all
   reach_all_sized role d [] s = s
   reach_all_sized role d (m ∷ ms) s =
-      go (λ (x : ℤ) (t : Sized (2 ^ 45) x). reach_all_sized role (some (B.tighter role d x)) ms (tighter_of (Sized (2 ^ 45)) role d x s t)) (B.reach b routes role m) (reach_sized role m)
+      go (λ (x : ℤ) (t : Sized (2 ^ 45) x). reach_all_sized role (Some (B.tighter role d x)) ms (tighter_of (Sized (2 ^ 45)) role d x s t)) (B.reach b routes role m) (reach_sized role m)
     where
-      go : ((x : ℤ) → Sized (2 ^ 45) x → OfOption (Sized (2 ^ 45)) (B.reach_all b routes role (some (B.tighter role d x)) ms)) → (o : Option ℤ) → OfOption (Sized (2 ^ 45)) o
-          → OfOption (Sized (2 ^ 45)) (B.if_at o none (λ x. B.reach_all b routes role (some (B.tighter role d x)) ms))
-      go f none t = tt
-      go f (some x) t = f x t
+      go : ((x : ℤ) → Sized (2 ^ 45) x → OfOption (Sized (2 ^ 45)) (B.reach_all b routes role (Some (B.tighter role d x)) ms)) → (o : Option ℤ) → OfOption (Sized (2 ^ 45)) o
+          → OfOption (Sized (2 ^ 45)) (B.if_at o None (λ x. B.reach_all b routes role (Some (B.tighter role d x)) ms))
+      go f None t = tt
+      go f (Some x) t = f x t
 
   -- the port's side of a bundle: endpoint, rail and pitch
   pub inner_on : (role : Role) (u : Bundle) → L.inward role (L.inward role (L.endpoint_of (board b) u).x (rail_depth (board b).options)) (L.parting_pitch (board b)) ≡ on (Z.inward role (Z.inward role (Z.endpoint_of b u).x (Z.rail_depth b.options)) (Z.parting_pitch b))
@@ -171,35 +169,35 @@ module _ (b : Z.Board) (routes : List Z.Route) (good : OnDraftingGrid b routes) 
   pub bounds_on : (u : Bundle) (lower upper : Option ℤ) → M.bounds_of (board b) (map route routes) u (bound lower) (bound upper) ≡ collector (B.bounds_of b routes u lower upper)
   unfolding M.bounds_of B.bounds_of
   bounds_on u lower upper =
-      ap (λ (o : Bound). M.bounds_with (board b) u (bound lower) (bound upper) o) (reach_all_on u.role none (Z.members_in b u))
-      ∙ go (leb u.width 1) (leb u.count 1) (B.reach_all b routes u.role none (Z.members_in b u))
+      ap (λ (o : Bound). M.bounds_with (board b) u (bound lower) (bound upper) o) (reach_all_on u.role None (Z.members_in b u))
+      ∙ go (leb u.width 1) (leb u.count 1) (B.reach_all b routes u.role None (Z.members_in b u))
     where
-      go : (s t : Bool) (o : Option ℤ) → cond s Absent (cond t Absent (M.if_at (bound o) Absent (M.between (board b) u (bound lower) (bound upper) u.role))) ≡ collector (cond s none (cond t none (B.if_at o none (B.between b u lower upper u.role))))
+      go : (s t : Bool) (o : Option ℤ) → cond s Absent (cond t Absent (M.if_at (bound o) Absent (M.between (board b) u (bound lower) (bound upper) u.role))) ≡ collector (cond s None (cond t None (B.if_at o None (B.between b u lower upper u.role))))
       go true t o = refl
       go false true o = refl
-      go false false none = refl
-      go false false (some d) = between_on u lower upper u.role d
+      go false false None = refl
+      go false false (Some d) = between_on u lower upper u.role d
 
   -- what holds of even numbers up to 2 ^ 45 and of the two bounds given holds of the three
   pub bounds_are : (Q : ℤ → Type 0) → ((z : ℤ) → Sized (2 ^ 45) z → Q z) → (u : Bundle) (lower upper : Option ℤ) → OfOption Q lower → OfOption Q upper → OfCollector Q (B.bounds_of b routes u lower upper)
   unfolding B.bounds_of
-  bounds_are Q weak u lower upper l h = go (leb u.width 1) (leb u.count 1) (B.reach_all b routes u.role none (Z.members_in b u)) (reach_all_sized u.role none (Z.members_in b u) tt)
+  bounds_are Q weak u lower upper l h = go (leb u.width 1) (leb u.count 1) (B.reach_all b routes u.role None (Z.members_in b u)) (reach_all_sized u.role None (Z.members_in b u) tt)
     where
       spanned : (role : Role) (d : ℤ) → Sized (2 ^ 45) d → OfCollector Q (B.between b u lower upper role d)
       spanned Input d s = unless_crossed_of Q (B.raised ((Z.endpoint_of b u).x +ℤ Z.rail_depth b.options +ℤ Z.parting_pitch b) lower) d (B.lowered d upper) (raised_of Q ((Z.endpoint_of b u).x +ℤ Z.rail_depth b.options +ℤ Z.parting_pitch b) lower (weak _ (wider (omega arith) (inner_sized Input u))) l) (weak d s) (lowered_of Q d upper (weak d s) h)
       spanned Output d s = unless_crossed_of Q (B.raised d lower) d (B.lowered ((Z.endpoint_of b u).x -ℤ Z.rail_depth b.options -ℤ Z.parting_pitch b) upper) (raised_of Q d lower (weak d s) l) (weak d s) (lowered_of Q ((Z.endpoint_of b u).x -ℤ Z.rail_depth b.options -ℤ Z.parting_pitch b) upper (weak _ (wider (omega arith) (inner_sized Output u))) h)
 
-      go : (s t : Bool) (o : Option ℤ) → OfOption (Sized (2 ^ 45)) o → OfCollector Q (cond s none (cond t none (B.if_at o none (B.between b u lower upper u.role))))
+      go : (s t : Bool) (o : Option ℤ) → OfOption (Sized (2 ^ 45)) o → OfCollector Q (cond s None (cond t None (B.if_at o None (B.between b u lower upper u.role))))
       go true t o k = tt
       go false true o k = tt
-      go false false none k = tt
-      go false false (some d) k = spanned u.role d k
+      go false false None k = tt
+      go false false (Some d) k = spanned u.role d k
 
-  pub bounds_counted : (u : Bundle) (lower upper : Option ℤ) (r : S.Bounds) → B.bounds_of b routes u lower upper ≡ some r → 1 < u.count
+  pub bounds_counted : (u : Bundle) (lower upper : Option ℤ) (r : S.Bounds) → B.bounds_of b routes u lower upper ≡ Some r → 1 < u.count
   unfolding B.bounds_of
   bounds_counted u lower upper r e = go (leb u.width 1) (leb u.count 1) refl e
     where
-      go : (s t : Bool) → leb u.count 1 ≡ t → cond s none (cond t none (B.if_at (B.reach_all b routes u.role none (Z.members_in b u)) none (B.between b u lower upper u.role))) ≡ some r → 1 < u.count
+      go : (s t : Bool) → leb u.count 1 ≡ t → cond s None (cond t None (B.if_at (B.reach_all b routes u.role None (Z.members_in b u)) None (B.between b u lower upper u.role))) ≡ Some r → 1 < u.count
       go true t f k = let z : ◌≡◌ {A = ℕ} 0 1 = cc in absurd (omega arith)
       go false true f k = let z : ◌≡◌ {A = ℕ} 0 1 = cc in absurd (omega arith)
       go false false f k = omega (arith, leb-false)
@@ -233,16 +231,16 @@ module _ (b : Z.Board) (routes : List Z.Route) (good : OnDraftingGrid b routes) 
   shortened_sized : (role : Role) (x y : ℤ) → Job x → Job y → OfStretch (Sized (2 ^ 28)) (S.shortened role (Z.parting_pitch b) x y)
   shortened_sized Input x y s t = go (at_most x (y -ℤ Z.parting_pitch b))
     where
-      go : (w : Bool) → OfStretch (Sized (2 ^ 28)) (cond w (some (record { low = x; high = y -ℤ Z.parting_pitch b })) none)
+      go : (w : Bool) → OfStretch (Sized (2 ^ 28)) (cond w (Some (record { low = x; high = y -ℤ Z.parting_pitch b })) None)
       go true = (wider (omega arith) s, wider (omega arith) (sized_sub y (Z.parting_pitch b) t (pitch_sized b routes good)))
       go false = tt
   shortened_sized Output x y s t = go (at_most (x +ℤ Z.parting_pitch b) y)
     where
-      go : (w : Bool) → OfStretch (Sized (2 ^ 28)) (cond w (some (record { low = x +ℤ Z.parting_pitch b; high = y })) none)
+      go : (w : Bool) → OfStretch (Sized (2 ^ 28)) (cond w (Some (record { low = x +ℤ Z.parting_pitch b; high = y })) None)
       go true = (wider (omega arith) (sized_add x (Z.parting_pitch b) s (pitch_sized b routes good)), wider (omega arith) t)
       go false = tt
 
-  stretch_choice : (s t : Bool) (c : Option S.Stretch) (F : Option S.Stretch → Type 0) → F none → F c → F (cond s none (cond t none c))
+  stretch_choice : (s t : Bool) (c : Option S.Stretch) (F : Option S.Stretch → Type 0) → F None → F c → F (cond s None (cond t None c))
   stretch_choice true t c F n f = n
   stretch_choice false true c F n f = n
   stretch_choice false false c F n f = f
@@ -277,14 +275,14 @@ module _ (b : Z.Board) (routes : List Z.Route) (good : OnDraftingGrid b routes) 
   shortened_holds : (role : Role) (x y : ℤ) → Job x → Job y → Holding Coordinate (S.shortened role (Z.parting_pitch b) x y)
   shortened_holds Input x y s t z = go (at_most x (y -ℤ Z.parting_pitch b))
     where
-      go : (w : Bool) → S.holds z (cond w (some (record { low = x; high = y -ℤ Z.parting_pitch b })) none) ≡ true → Coordinate z
+      go : (w : Bool) → S.holds z (cond w (Some (record { low = x; high = y -ℤ Z.parting_pitch b })) None) ≡ true → Coordinate z
       go false e = absurd (true≢false (sym e))
       go true e =
           let k : T (at_most x z && at_most z (y -ℤ Z.parting_pitch b)) = subst T (sym e) tt in
           between_sizes x y z (2 ^ 27) s.size t.size (and_l (at_most x z) (at_most z (y -ℤ Z.parting_pitch b)) k) (less_pitch z y (and_r (at_most x z) (at_most z (y -ℤ Z.parting_pitch b)) k))
   shortened_holds Output x y s t z = go (at_most (x +ℤ Z.parting_pitch b) y)
     where
-      go : (w : Bool) → S.holds z (cond w (some (record { low = x +ℤ Z.parting_pitch b; high = y })) none) ≡ true → Coordinate z
+      go : (w : Bool) → S.holds z (cond w (Some (record { low = x +ℤ Z.parting_pitch b; high = y })) None) ≡ true → Coordinate z
       go false e = absurd (true≢false (sym e))
       go true e =
           let k : T (at_most (x +ℤ Z.parting_pitch b) z && at_most z y) = subst T (sym e) tt in

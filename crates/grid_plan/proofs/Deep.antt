@@ -1,11 +1,10 @@
 -- Endpoints, rail depth, offsets and corridors of binary64 on a board of the grid are those in whole numbers, even and in range.
 -- Assumes nothing.
-use Rattle.std.specs.Prelude.{◌≡◌, ℕ, ◌+◌, ◌*◌, ◌^◌, ◌≤◌, ◌<◌, Bool, ℤ, pos, ◌+ℤ◌, ◌-ℤ◌, ◌*ℤ◌, eqb, length, get_or, drop, Float}
+use Rattle.std.specs.Prelude.{◌≡◌, ℕ, ◌+◌, ◌*◌, ◌^◌, ◌≤◌, ◌<◌, Bool, ℤ, pos, ◌+ℤ◌, ◌-ℤ◌, ◌*ℤ◌, eqb, length, get_or, drop, Float, Option, Some, None}
 use Rattle.std.proofs.Math.Path.{refl, ap}
 use Rattle.std.proofs.Common.{sym, ◌∙◌, mul-le-mul, le_refl, arith}
 use Rattle.std.proofs.Math.Bool.{true, false, cond}
 use mathlib.Core.List.{List, [], ◌∷◌, map}
-use Rattle.std.proofs.Math.Option.{Option, none, some}
 use Rattle.std.proofs.Math.ListN.{get_or-map}
 use Rattle.std.specs.Float.Ieee.{binary64, lt, add, sub, mul}
 use Rattle.binary64.specs.Order.{greatest}
@@ -62,12 +61,12 @@ inward_sized Input a b s t = sized_add a b s t
 inward_sized Output a b s t = sized_sub a b s t
 
 further_on : (o : Option ℤ) (d : ℤ) → L.further (bound o) (on d) ≡ bound (D.further o d)
-further_on none d = refl
-further_on (some w) d = ap At (greatest_on w d)
+further_on None d = refl
+further_on (Some w) d = ap At (greatest_on w d)
 
 pub further_of : (P : ℤ → Type 0) (o : Option ℤ) (d : ℤ) → OfOption P o → P d → OfOption P (D.further o d)
-further_of P none d s t = t
-further_of P (some w) d s t = pick_larger P w d s t
+further_of P None d s t = t
+further_of P (Some w) d s t = pick_larger P w d s t
 
 used_by_on : (role : Role) (w : D.Used) → L.used_by role (used w) ≡ bound (D.used_by role w)
 used_by_on Input w = refl
@@ -90,8 +89,8 @@ used_of P Input o w s t = (s, t.1)
 used_of P Output o w s t = (t.0, s)
 
 wider_option : {m n : ℕ} (o : Option ℤ) → m ≤ n → OfOption (Sized m) o → OfOption (Sized n) o
-wider_option none h s = tt
-wider_option (some z) h s = wider h s
+wider_option None h s = tt
+wider_option (Some z) h s = wider h s
 
 wider_used : {m n : ℕ} (w : D.Used) → m ≤ n → OfUsed (Sized m) w → OfUsed (Sized n) w
 wider_used w h s = (wider_option w.input h s.0, wider_option w.output h s.1)
@@ -186,8 +185,8 @@ module _ (b : Z.Board) (routes : List Z.Route) (good : OnDraftingGrid b routes) 
   depth_sized u = wider (omega arith) (sized_add (Z.node_of b u).body.width (Z.rail_depth b.options) (node_sized u).2.0 rail_sized)
 
   past_on : (k : ℕ) (d : ℤ) (o : Option ℤ) → k ≤ 2 ^ 45 → Sized (2 ^ 29) d → OfOption (Sized k) o → L.past (on (Z.parting_pitch b)) (on d) (bound o) ≡ on (D.past (Z.parting_pitch b) d o)
-  past_on k d none h s t = sym on_zero
-  past_on k d (some w) h s t =
+  past_on k d None h s t = sym on_zero
+  past_on k d (Some w) h s t =
       let pitch = Z.parting_pitch b in
       ap (λ (x : Float). greatest (sub binary64 x (add binary64 (on d) (on pitch))) zero64) (add_sized w pitch (omega arith) t pitch_sized)
       ∙ ap (λ (x : Float). greatest (sub binary64 (on (w +ℤ pitch)) x) zero64) (add_sized d pitch (omega arith) s pitch_sized)
@@ -195,8 +194,8 @@ module _ (b : Z.Board) (routes : List Z.Route) (good : OnDraftingGrid b routes) 
       ∙ ap (greatest (on ((w +ℤ pitch) -ℤ (d +ℤ pitch)))) (sym on_zero) ∙ greatest_on ((w +ℤ pitch) -ℤ (d +ℤ pitch)) (pos 0)
 
   past_sized : (k : ℕ) (d : ℤ) (o : Option ℤ) → Sized (2 ^ 29) d → OfOption (Sized k) o → Sized (k + 2 ^ 30) (D.past (Z.parting_pitch b) d o)
-  past_sized k d none s t = zero_sized (k + 2 ^ 30)
-  past_sized k d (some w) s t =
+  past_sized k d None s t = zero_sized (k + 2 ^ 30)
+  past_sized k d (Some w) s t =
       let pitch = Z.parting_pitch b in
       pick_larger (Sized (k + 2 ^ 30)) ((w +ℤ pitch) -ℤ (d +ℤ pitch)) (pos 0)
       (wider (omega arith) (sized_sub (w +ℤ pitch) (d +ℤ pitch) (sized_add w pitch t pitch_sized) (sized_add d pitch s pitch_sized))) (zero_sized (k + 2 ^ 30))
@@ -263,10 +262,10 @@ module _ (b : Z.Board) (routes : List Z.Route) (good : OnDraftingGrid b routes) 
 
   -- THE OFFSETS
   pub offsets_on : L.offsets_of (board b) ≡ map on (D.offsets_of b)
-  offsets_on = offsets_from_on 0 b.bundles (record { input = none; output = none }) (let h = bundles_few in omega arith) (tt, tt)
+  offsets_on = offsets_from_on 0 b.bundles (record { input = None; output = None }) (let h = bundles_few in omega arith) (tt, tt)
 
   pub offsets_sized : Every (Sized (2 ^ 44)) (D.offsets_of b)
-  offsets_sized = offsets_from_sized 0 b.bundles (record { input = none; output = none }) (let h = bundles_few in omega arith) (tt, tt)
+  offsets_sized = offsets_from_sized 0 b.bundles (record { input = None; output = None }) (let h = bundles_few in omega arith) (tt, tt)
 
   -- ---- corridors
   pub corridor_x_on : (u : Bundle) (d : ℤ) (m : Member) → Sized (2 ^ 44) d → m.tap_lane ≤ 255 → L.corridor_x (board b) u (on d) m ≡ on (D.corridor_x b u d m)
@@ -296,7 +295,7 @@ module _ (b : Z.Board) (routes : List Z.Route) (good : OnDraftingGrid b routes) 
       ∙ ap (λ (o : Bound). cond (eqb m.edge e) (At (on (D.corridor_x b u d m))) o) (among_on u d e ms s h.1)
       ∙ go (eqb m.edge e) (D.corridor_among b u d e ms)
     where
-      go : (t : Bool) (o : Option ℤ) → cond t (At (on (D.corridor_x b u d m))) (bound o) ≡ bound (cond t (some (D.corridor_x b u d m)) o)
+      go : (t : Bool) (o : Option ℤ) → cond t (At (on (D.corridor_x b u d m))) (bound o) ≡ bound (cond t (Some (D.corridor_x b u d m)) o)
       go true o = refl
       go false o = refl
 
@@ -305,13 +304,13 @@ module _ (b : Z.Board) (routes : List Z.Route) (good : OnDraftingGrid b routes) 
   among_sized u d e [] s h = tt
   among_sized u d e (m ∷ ms) s h = go (eqb m.edge e) (D.corridor_among b u d e ms) (among_sized u d e ms s h.1)
     where
-      go : (t : Bool) (o : Option ℤ) → OfOption (Sized (2 ^ 45)) o → OfOption (Sized (2 ^ 45)) (cond t (some (D.corridor_x b u d m)) o)
+      go : (t : Bool) (o : Option ℤ) → OfOption (Sized (2 ^ 45)) o → OfOption (Sized (2 ^ 45)) (cond t (Some (D.corridor_x b u d m)) o)
       go true o k = corridor_x_sized u d m s h.0
       go false o k = k
 
   first_on : (o p : Option ℤ) → L.first_of (bound o) (bound p) ≡ bound (D.first_of o p)
-  first_on none p = refl
-  first_on (some x) p = refl
+  first_on None p = refl
+  first_on (Some x) p = refl
 
   from_on : (role : Role) (e : ℕ) (us : List Bundle) (ds : List ℤ) → Every (Sized (2 ^ 44)) ds → L.corridor_from (board b) role e us (map on ds) ≡ bound (D.corridor_from b role e us ds)
   unfolding L.corridor_from D.corridor_from
@@ -333,8 +332,8 @@ module _ (b : Z.Board) (routes : List Z.Route) (good : OnDraftingGrid b routes) 
   from_sized role e (u ∷ us) (d ∷ ds) s = go (same_role u.role role) (D.corridor_among b u d e (Z.members_in b u)) (D.corridor_from b role e us ds) (among_sized u d e (Z.members_in b u) s.0 (members_lanes u)) (from_sized role e us ds s.1)
     where
       first : (o p : Option ℤ) → OfOption (Sized (2 ^ 45)) o → OfOption (Sized (2 ^ 45)) p → OfOption (Sized (2 ^ 45)) (D.first_of o p)
-      first none p h k = k
-      first (some x) p h k = h
+      first None p h k = k
+      first (Some x) p h k = h
 
       go : (t : Bool) (o p : Option ℤ) → OfOption (Sized (2 ^ 45)) o → OfOption (Sized (2 ^ 45)) p → OfOption (Sized (2 ^ 45)) (cond t (D.first_of o p) p)
       go true o p h k = first o p h k

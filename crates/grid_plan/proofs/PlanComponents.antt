@@ -1,11 +1,10 @@
 -- The components of a plan on a board of the grid: the split, the limit of the inputs and the outputs, in whole numbers over 128 and in binary64.
 -- Assumes nothing.
-use Rattle.std.specs.Prelude.{◌≡◌, ℕ, ◌+◌, ◌^◌, ◌≤◌, ◌<◌, Bool, false, ◌||◌, ℤ, pos, negsuc, nat_abs, ◌+ℤ◌, ◌-ℤ◌, get_or, Float}
+use Rattle.std.specs.Prelude.{◌≡◌, ℕ, ◌+◌, ◌^◌, ◌≤◌, ◌<◌, Bool, false, ◌||◌, ℤ, pos, negsuc, nat_abs, ◌+ℤ◌, ◌-ℤ◌, get_or, Float, Option, Some, None}
 use Rattle.std.proofs.Math.Path.{refl, ap}
 use Rattle.std.proofs.Common.{sym, ◌∙◌, subst, arith}
 use Rattle.std.proofs.Math.Bool.{true, not, cond}
 use mathlib.Core.List.{List, [], ◌∷◌, map}
-use Rattle.std.proofs.Math.Option.{Option, none, some}
 use Rattle.std.specs.Float.Ieee as Ieee
 use Rattle.std.specs.Float.{binary64}
 use Rattle.std.specs.Float.Ieee.{lt, add, sub, div}
@@ -17,7 +16,7 @@ use Rattle.search.specs.declared.Bounds.{Bounds}
 use Rattle.search.specs.declared.Outcome.TheVariants as O
 use Rattle.search.specs.Search.{search_of}
 use Rattle.plan.specs.declared.Bound.{Bound}
-use Rattle.plan.specs.declared.Bound.TheVariants.{None, At}
+use Rattle.plan.specs.declared.Bound.TheVariants as bounded
 use Rattle.plan.specs.Depths as L
 use Rattle.plan.specs.Depths.{number}
 use Rattle.plan.specs.Bounds as M
@@ -62,25 +61,25 @@ module _ (b : Z.Board) (routes : List Z.Route) (good : OnDraftingGrid b routes) 
   less_pitch z h = let p = subtract_size z (pitch b routes good) in let q = (pitch_sized b routes good).size in omega arith
 
   pub input_limit_on : (limit : ℤ) → Far limit → (x : Option ℤ) → K.input_limit (L.parting_pitch (board b)) (on limit) (bound x) ≡ bound (P.input_limit (pitch b routes good) limit x)
-  input_limit_on limit h x = ap (λ (z : Float). At (least (M.if_at (bound x) (on limit) (λ y. y)) z)) (sub_pitch limit h) ∙ go x
+  input_limit_on limit h x = ap (λ (z : Float). bounded.At (least (M.if_at (bound x) (on limit) (λ y. y)) z)) (sub_pitch limit h) ∙ go x
     where
-      go : (x : Option ℤ) → At (least (M.if_at (bound x) (on limit) (λ y. y)) (on (limit -ℤ (pitch b routes good)))) ≡ bound (P.input_limit (pitch b routes good) limit x)
-      go none = ap At (least_on limit (limit -ℤ (pitch b routes good)))
-      go (some x) = ap At (least_on x (limit -ℤ (pitch b routes good)))
+      go : (x : Option ℤ) → bounded.At (least (M.if_at (bound x) (on limit) (λ y. y)) (on (limit -ℤ (pitch b routes good)))) ≡ bound (P.input_limit (pitch b routes good) limit x)
+      go None = ap bounded.At (least_on limit (limit -ℤ (pitch b routes good)))
+      go (Some x) = ap bounded.At (least_on x (limit -ℤ (pitch b routes good)))
 
   input_limit_of : (limit : ℤ) → Far limit → (x : Option ℤ) → Placed x → OfOption Held (P.input_limit (pitch b routes good) limit x)
-  input_limit_of limit h none s = let k = less_pitch limit h in pick_smaller Held limit (limit -ℤ (pitch b routes good)) (omega arith) (omega arith)
-  input_limit_of limit h (some x) s = let k = less_pitch limit h in pick_smaller Held x (limit -ℤ (pitch b routes good)) (omega arith) (omega arith)
+  input_limit_of limit h None s = let k = less_pitch limit h in pick_smaller Held limit (limit -ℤ (pitch b routes good)) (omega arith) (omega arith)
+  input_limit_of limit h (Some x) s = let k = less_pitch limit h in pick_smaller Held x (limit -ℤ (pitch b routes good)) (omega arith) (omega arith)
 
   limited_on : (ss : List P.Ranged) (limit : ℤ) (inputs : List ℕ) (p : P.Plan) → Far limit → Every (Fine b routes good) ss → Every Placed p.xs → K.limited search_of (board b) (F b routes good) (map ranged ss) (on limit) inputs (plan p) ≡ plan (P.limited b routes ss limit inputs p)
   limited_on ss limit inputs p h fs k =
-      ap (λ (o : Bound). cond (K.exceeds o (on limit)) (K.again search_of (board b) (F b routes good) (map ranged ss) (λ x. None) (K.input_limit (L.parting_pitch (board b)) (on limit)) inputs (plan p)) (plan p)) ((required_on b routes good) ss p.xs none inputs k)
-      ∙ ap (λ (t : Bool). cond t (K.again search_of (board b) (F b routes good) (map ranged ss) (λ x. None) (K.input_limit (L.parting_pitch (board b)) (on limit)) inputs (plan p)) (plan p)) (exceeds_on (P.required b routes ss p.xs none inputs) limit)
-      ∙ ap (λ (q : K.Plan). cond (P.exceeds (P.required b routes ss p.xs none inputs) limit) q (plan p))
-      ((again_on b routes good) ss (λ x. None) (K.input_limit (L.parting_pitch (board b)) (on limit)) (λ x. none) (P.input_limit (pitch b routes good) limit) (λ x s. refl) (λ x s. input_limit_on limit h x) (λ x s. tt) (input_limit_of limit h) fs inputs p k)
-      ∙ go (P.exceeds (P.required b routes ss p.xs none inputs) limit)
+      ap (λ (o : Bound). cond (K.exceeds o (on limit)) (K.again search_of (board b) (F b routes good) (map ranged ss) (λ x. bounded.None) (K.input_limit (L.parting_pitch (board b)) (on limit)) inputs (plan p)) (plan p)) ((required_on b routes good) ss p.xs None inputs k)
+      ∙ ap (λ (t : Bool). cond t (K.again search_of (board b) (F b routes good) (map ranged ss) (λ x. bounded.None) (K.input_limit (L.parting_pitch (board b)) (on limit)) inputs (plan p)) (plan p)) (exceeds_on (P.required b routes ss p.xs None inputs) limit)
+      ∙ ap (λ (q : K.Plan). cond (P.exceeds (P.required b routes ss p.xs None inputs) limit) q (plan p))
+      ((again_on b routes good) ss (λ x. bounded.None) (K.input_limit (L.parting_pitch (board b)) (on limit)) (λ x. None) (P.input_limit (pitch b routes good) limit) (λ x s. refl) (λ x s. input_limit_on limit h x) (λ x s. tt) (input_limit_of limit h) fs inputs p k)
+      ∙ go (P.exceeds (P.required b routes ss p.xs None inputs) limit)
     where
-      go : (t : Bool) → cond t (plan (P.again b routes ss (λ x. none) (P.input_limit (pitch b routes good) limit) inputs p)) (plan p) ≡ plan (cond t (P.again b routes ss (λ x. none) (P.input_limit (pitch b routes good) limit) inputs p) p)
+      go : (t : Bool) → cond t (plan (P.again b routes ss (λ x. None) (P.input_limit (pitch b routes good) limit) inputs p)) (plan p) ≡ plan (cond t (P.again b routes ss (λ x. None) (P.input_limit (pitch b routes good) limit) inputs p) p)
       go true = refl
       go false = refl
 
@@ -89,19 +88,19 @@ module _ (b : Z.Board) (routes : List Z.Route) (good : OnDraftingGrid b routes) 
   chosen_of false p q h k = k
 
   limited_of : (ss : List P.Ranged) (limit : ℤ) (inputs : List ℕ) (p : P.Plan) → Every (Fine b routes good) ss → Every Placed p.xs → Every Placed (P.limited b routes ss limit inputs p).xs
-  limited_of ss limit inputs p fs k = chosen_of (P.exceeds (P.required b routes ss p.xs none inputs) limit) (P.again b routes ss (λ x. none) (P.input_limit (pitch b routes good) limit) inputs p) p ((again_of b routes good) ss (λ x. none) (P.input_limit (pitch b routes good) limit) fs inputs p k) k
+  limited_of ss limit inputs p fs k = chosen_of (P.exceeds (P.required b routes ss p.xs None inputs) limit) (P.again b routes ss (λ x. None) (P.input_limit (pitch b routes good) limit) inputs p) p ((again_of b routes good) ss (λ x. None) (P.input_limit (pitch b routes good) limit) fs inputs p k) k
 
   outputs_last_on : (ss : List P.Ranged) (inputs outputs : List ℕ) (p : P.Plan) → Every (Fine b routes good) ss → Every Placed p.xs → K.outputs_last search_of (board b) (F b routes good) (map ranged ss) inputs outputs (plan p) ≡ plan (P.outputs_last b routes ss inputs outputs p)
   outputs_last_on ss inputs outputs p fs k =
-      (again_on b routes good) ss (λ x. K.required (board b) (F b routes good) (map ranged ss) (map bound p.xs) None inputs) (λ x. None) (λ x. P.required b routes ss p.xs none inputs) (λ x. none)
-      (λ x s. (required_on b routes good) ss p.xs none inputs k) (λ x s. refl) (λ x s. close_held (P.required b routes ss p.xs none inputs) ((required_of b routes good) ss p.xs none inputs k tt)) (λ x s. tt) fs outputs p k
+      (again_on b routes good) ss (λ x. K.required (board b) (F b routes good) (map ranged ss) (map bound p.xs) bounded.None inputs) (λ x. bounded.None) (λ x. P.required b routes ss p.xs None inputs) (λ x. None)
+      (λ x s. (required_on b routes good) ss p.xs None inputs k) (λ x s. refl) (λ x s. close_held (P.required b routes ss p.xs None inputs) ((required_of b routes good) ss p.xs None inputs k tt)) (λ x s. tt) fs outputs p k
     where
       close_held : (o : Option ℤ) → OfOption (Close b routes good) o → OfOption Held o
-      close_held none h = tt
-      close_held (some z) h = omega arith
+      close_held None h = tt
+      close_held (Some z) h = omega arith
 
   outputs_last_of : (ss : List P.Ranged) (inputs outputs : List ℕ) (p : P.Plan) → Every (Fine b routes good) ss → Every Placed p.xs → Every Placed (P.outputs_last b routes ss inputs outputs p).xs
-  outputs_last_of ss inputs outputs p fs k = (again_of b routes good) ss (λ x. P.required b routes ss p.xs none inputs) (λ x. none) fs outputs p k
+  outputs_last_of ss inputs outputs p fs k = (again_of b routes good) ss (λ x. P.required b routes ss p.xs None inputs) (λ x. None) fs outputs p k
 
   -- the middle of two multiples of 1/64
   pub middle_on : (deepest separate : ℤ) → Sized (2 ^ 27) deepest → Sized (2 ^ 28) separate → K.middle (on deepest) (on separate) ≡ on (P.middle deepest separate)
@@ -146,19 +145,19 @@ module _ (b : Z.Board) (routes : List Z.Route) (good : OnDraftingGrid b routes) 
       ∙ ap (λ (z : Float). cond (below earliest (deepest +ℤ (pitch b routes good))) (cond (lt z (on low)) (refused p.left) (going anew)) (going (plan p))) (sub_pitch limit hl)
       ∙ ap (λ (t : Bool). cond (below earliest (deepest +ℤ (pitch b routes good))) (cond t (refused p.left) (going anew)) (going (plan p))) (lt_on (limit -ℤ (pitch b routes good)) low ∙ never_13 low limit (pitch b routes good) clear)
       ∙ ap (λ (q : K.Plan). cond (below earliest (deepest +ℤ (pitch b routes good))) (going q) (going (plan p)))
-      ((again_on b routes good) ss (λ x. None) (λ x. At (K.input_split (L.parting_pitch (board b)) (on low) (on limit) (on deepest) (on earliest))) (λ x. none) (λ x. some (P.input_split (pitch b routes good) low limit deepest earliest)) (λ x s. refl) (λ x s. ap At (split_value_on low limit deepest earliest hl hd he)) (λ x s. tt)
+      ((again_on b routes good) ss (λ x. bounded.None) (λ x. bounded.At (K.input_split (L.parting_pitch (board b)) (on low) (on limit) (on deepest) (on earliest))) (λ x. None) (λ x. Some (P.input_split (pitch b routes good) low limit deepest earliest)) (λ x s. refl) (λ x s. ap bounded.At (split_value_on low limit deepest earliest hl hd he)) (λ x s. tt)
       (λ x s. clamped_of Held (P.middle deepest (earliest -ℤ (pitch b routes good))) low (limit -ℤ (pitch b routes good)) (middle_far deepest (earliest -ℤ (pitch b routes good)) hd (wider (omega arith) (sized_sub earliest (pitch b routes good) he (pitch_sized b routes good)))) (omega arith) (let z = less_pitch limit hl in omega arith)) fs inputs p k)
       ∙ go (below earliest (deepest +ℤ (pitch b routes good)))
     where
       anew : K.Plan
-      anew = K.again search_of (board b) (F b routes good) (map ranged ss) (λ x. None) (λ x. At (K.input_split (L.parting_pitch (board b)) (on low) (on limit) (on deepest) (on earliest))) inputs (plan p)
+      anew = K.again search_of (board b) (F b routes good) (map ranged ss) (λ x. bounded.None) (λ x. bounded.At (K.input_split (L.parting_pitch (board b)) (on low) (on limit) (on deepest) (on earliest))) inputs (plan p)
 
-      go : (t : Bool) → cond t (going (plan (P.again b routes ss (λ x. none) (λ x. some (P.input_split (pitch b routes good) low limit deepest earliest)) inputs p))) (going (plan p)) ≡ going (plan (cond t (P.again b routes ss (λ x. none) (λ x. some (P.input_split (pitch b routes good) low limit deepest earliest)) inputs p) p))
+      go : (t : Bool) → cond t (going (plan (P.again b routes ss (λ x. None) (λ x. Some (P.input_split (pitch b routes good) low limit deepest earliest)) inputs p))) (going (plan p)) ≡ going (plan (cond t (P.again b routes ss (λ x. None) (λ x. Some (P.input_split (pitch b routes good) low limit deepest earliest)) inputs p) p))
       go true = refl
       go false = refl
 
   split_of : (ss : List P.Ranged) (low limit deepest earliest : ℤ) (inputs : List ℕ) (p : P.Plan) → Every (Fine b routes good) ss → Every Placed p.xs → Every Placed (P.split b routes ss low limit deepest earliest inputs p).xs
-  split_of ss low limit deepest earliest inputs p fs k = chosen_of (below earliest (deepest +ℤ (pitch b routes good))) (P.again b routes ss (λ x. none) (λ x. some (P.input_split (pitch b routes good) low limit deepest earliest)) inputs p) p ((again_of b routes good) ss (λ x. none) (λ x. some (P.input_split (pitch b routes good) low limit deepest earliest)) fs inputs p k) k
+  split_of ss low limit deepest earliest inputs p fs k = chosen_of (below earliest (deepest +ℤ (pitch b routes good))) (P.again b routes ss (λ x. None) (λ x. Some (P.input_split (pitch b routes good) low limit deepest earliest)) inputs p) p ((again_of b routes good) ss (λ x. None) (λ x. Some (P.input_split (pitch b routes good) low limit deepest earliest)) fs inputs p k) k
 
   settle_on : (ss : List P.Ranged) (order : List ℕ) (low limit deepest earliest : ℤ) (inputs outputs : List ℕ) (p : P.Plan) → Far low → Far limit → Sized (2 ^ 27) deepest → Sized (2 ^ 27) earliest → Every (Fine b routes good) ss → Every Placed p.xs
       → K.settle search_of (board b) (F b routes good) (map ranged ss) order (on low) (on limit) (on deepest) (on earliest) inputs outputs (plan p) ≡ going (plan (P.settle b routes ss order low limit deepest earliest inputs outputs p))
@@ -194,22 +193,22 @@ module _ (b : Z.Board) (routes : List Z.Route) (good : OnDraftingGrid b routes) 
   minimum_far ss fs i = go (P.ranged_at ss i).bounds ((fine_at b routes good) ss i fs).1
     where
       go : (r : Option S.Bounds) → (Ranging b routes good) r (P.ranged_at ss i).bundle → Far (P.if_between r (pos 0) (λ t. t.minimum))
-      go none h = omega arith
-      go (some r) h = let q = h.0.size in omega arith
+      go None h = omega arith
+      go (Some r) h = let q = h.0.size in omega arith
 
   pub maximum_far : (ss : List P.Ranged) → Every (Fine b routes good) ss → (i : ℕ) → Far (P.maximum_at ss i)
   maximum_far ss fs i = go (P.ranged_at ss i).bounds ((fine_at b routes good) ss i fs).1
     where
       go : (r : Option S.Bounds) → (Ranging b routes good) r (P.ranged_at ss i).bundle → Far (P.if_between r (pos 0) (λ t. t.maximum))
-      go none h = omega arith
-      go (some r) h = let q = h.2.size in omega arith
+      go None h = omega arith
+      go (Some r) h = let q = h.2.size in omega arith
 
   pub desired_sized : (ss : List P.Ranged) → Every (Fine b routes good) ss → (i : ℕ) → Sized (2 ^ 27) (P.desired_at ss i)
   desired_sized ss fs i = go (P.ranged_at ss i).bounds ((fine_at b routes good) ss i fs).1
     where
       go : (r : Option S.Bounds) → (Ranging b routes good) r (P.ranged_at ss i).bundle → Sized (2 ^ 27) (P.if_between r (pos 0) (λ t. t.desired))
-      go none h = zero_sized (2 ^ 27)
-      go (some r) h = h.1
+      go None h = zero_sized (2 ^ 27)
+      go (Some r) h = h.1
 
   treat_on : (ss : List P.Ranged) (order inputs outputs : List ℕ) (p : P.Plan) → Every (Fine b routes good) ss → Every Placed p.xs → K.treat search_of (board b) (F b routes good) (map ranged ss) order inputs outputs (plan p) ≡ going (plan (P.treat b routes ss order inputs outputs p))
   treat_on ss order [] outputs p fs k = refl

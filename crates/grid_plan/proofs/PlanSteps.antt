@@ -1,8 +1,7 @@
 -- The steps of a plan that need no board: ranges, choices of indices, the walk through a component, and lanes of whole numbers over 128 are those of binary64.
 -- Assumes nothing.
-use Rattle.std.specs.Prelude.{◌≡◌, refl, ℕ, zero, suc, ◌+◌, ◌≤◌, Bool, false, not, cond, List, [], ◌∷◌, ◌++◌, map, ℤ, pos, negsuc, nat_abs, ◌+ℤ◌, ◌-ℤ◌, T, leb, set, Float}
+use Rattle.std.specs.Prelude.{◌≡◌, refl, ℕ, zero, suc, ◌+◌, ◌≤◌, Bool, false, not, cond, List, [], ◌∷◌, ◌++◌, map, ℤ, pos, negsuc, nat_abs, ◌+ℤ◌, ◌-ℤ◌, T, leb, set, Float, Option, Some, None}
 use Rattle.std.proofs.Common.{sym, ap, ◌∙◌, subst, arith, ltb→lt, nltb→le}
-use Rattle.std.proofs.Math.Option.{Option, none, some}
 use Rattle.std.proofs.Math.ListN.{get_or-map}
 use Rattle.std.specs.Float.Ieee as Ieee
 use Rattle.std.specs.Float.{binary64}
@@ -14,7 +13,7 @@ use Rattle.geometry.specs.Stretch as G
 use Rattle.search.specs.declared.Bounds.{Bounds}
 use Rattle.search.specs.declared.Outcome.{Outcome}
 use Rattle.search.specs.declared.Outcome.TheVariants as O
-use Rattle.plan.specs.declared.Bound.TheVariants.{None, At}
+use Rattle.plan.specs.declared.Bound.TheVariants as bounded
 use Rattle.plan.specs.Depths as L
 use Rattle.plan.specs.Depths.{same_role}
 use Rattle.plan.specs.Bounds as M
@@ -56,12 +55,12 @@ map_append f (x ∷ xs) ys = ap (λ (l : List _). f x ∷ l) (map_append f xs ys
 
 -- ---- ranges
 pub found?_on : (r : Option S.Bounds) → K.found? (collector r) ≡ P.found? r
-found?_on none = refl
-found?_on (some r) = refl
+found?_on None = refl
+found?_on (Some r) = refl
 
 pub narrowed_on : (r : Option S.Bounds) (o : S.Outcome) → K.narrowed (collector r) (outcome o) ≡ collector (P.narrowed r o)
-narrowed_on none (S.Found x) = refl
-narrowed_on (some r) (S.Found x) = refl
+narrowed_on None (S.Found x) = refl
+narrowed_on (Some r) (S.Found x) = refl
 narrowed_on r S.Nothing = refl
 narrowed_on r S.Spent = refl
 
@@ -73,9 +72,9 @@ found_x_on S.Spent = refl
 initial_on : (s : P.Ranged) → K.initial_x (ranged s) ≡ bound (P.initial_x s)
 initial_on s = go s.bounds
   where
-    go : (r : Option S.Bounds) → K.if_between (collector r) None (λ t. At t.desired) ≡ bound (P.if_between r none (λ t. some t.desired))
-    go none = refl
-    go (some r) = refl
+    go : (r : Option S.Bounds) → K.if_between (collector r) bounded.None (λ t. bounded.At t.desired) ≡ bound (P.if_between r None (λ t. Some t.desired))
+    go None = refl
+    go (Some r) = refl
 
 pub initials_on : (ss : List P.Ranged) → map K.initial_x (map ranged ss) ≡ map bound (map P.initial_x ss)
 initials_on [] = refl
@@ -88,22 +87,22 @@ pub minimum_on : (ss : List P.Ranged) (i : ℕ) → K.minimum_at (map ranged ss)
 minimum_on ss i = ap (λ (s : K.Ranged). K.if_between s.bounds zero64 (λ r. r.minimum)) (at_on ss i) ∙ go (P.ranged_at ss i).bounds
   where
     go : (r : Option S.Bounds) → K.if_between (collector r) zero64 (λ t. t.minimum) ≡ on (P.if_between r (pos 0) (λ t. t.minimum))
-    go none = sym on_zero
-    go (some r) = refl
+    go None = sym on_zero
+    go (Some r) = refl
 
 pub maximum_on : (ss : List P.Ranged) (i : ℕ) → K.maximum_at (map ranged ss) i ≡ on (P.maximum_at ss i)
 maximum_on ss i = ap (λ (s : K.Ranged). K.if_between s.bounds zero64 (λ r. r.maximum)) (at_on ss i) ∙ go (P.ranged_at ss i).bounds
   where
     go : (r : Option S.Bounds) → K.if_between (collector r) zero64 (λ t. t.maximum) ≡ on (P.if_between r (pos 0) (λ t. t.maximum))
-    go none = sym on_zero
-    go (some r) = refl
+    go None = sym on_zero
+    go (Some r) = refl
 
 pub desired_on : (ss : List P.Ranged) (i : ℕ) → K.desired_at (map ranged ss) i ≡ on (P.desired_at ss i)
 desired_on ss i = ap (λ (s : K.Ranged). K.if_between s.bounds zero64 (λ r. r.desired)) (at_on ss i) ∙ go (P.ranged_at ss i).bounds
   where
     go : (r : Option S.Bounds) → K.if_between (collector r) zero64 (λ t. t.desired) ≡ on (P.if_between r (pos 0) (λ t. t.desired))
-    go none = sym on_zero
-    go (some r) = refl
+    go None = sym on_zero
+    go (Some r) = refl
 
 pub indices_on : (k : ℕ) (ss : List P.Ranged) → K.indices_from k (map ranged ss) ≡ P.indices_from k ss
 unfolding K.indices_from P.indices_from
@@ -140,16 +139,16 @@ smallest_of Q g h x (i ∷ is) s = smallest_of Q g h (smaller x (g i)) is (pick_
 pub drop_all_on : (is : List ℕ) (xs : List (Option ℤ)) → K.drop_all is (map bound xs) ≡ map bound (P.drop_all is xs)
 unfolding K.drop_all P.drop_all
 drop_all_on [] xs = refl
-drop_all_on (i ∷ is) xs = ap (K.drop_all is) (set_map bound xs i none) ∙ drop_all_on is (set xs i none)
+drop_all_on (i ∷ is) xs = ap (K.drop_all is) (set_map bound xs i None) ∙ drop_all_on is (set xs i None)
 
 pub drop_all_of : (is : List ℕ) (xs : List (Option ℤ)) → Every Placed xs → Every Placed (P.drop_all is xs)
 unfolding P.drop_all
 drop_all_of [] xs h = h
-drop_all_of (i ∷ is) xs h = drop_all_of is (set xs i none) (every_set Placed xs i none tt h)
+drop_all_of (i ∷ is) xs h = drop_all_of is (set xs i None) (every_set Placed xs i None tt h)
 
 pub exceeds_on : (o : Option ℤ) (limit : ℤ) → K.exceeds (bound o) (on limit) ≡ P.exceeds o limit
-exceeds_on none limit = refl
-exceeds_on (some r) limit = lt_on limit r
+exceeds_on None limit = refl
+exceeds_on (Some r) limit = lt_on limit r
 
 -- ---- the walk through a component
 pub walk_same : (f g : ℕ → List ℕ) → ((i : ℕ) → f i ≡ g i) → (k : ℕ) (seen : List Bool) (pending : List ℕ) → walk f k seen pending ≡ walk g k seen pending
@@ -217,9 +216,9 @@ lanes_on Input l = refl
 lanes_on Output l = refl
 
 pub add_lane_on : (role : Role) (x : Option ℤ) (l : P.Lanes) → K.add_lane role (bound x) (lanes l) ≡ lanes (P.add_lane role x l)
-add_lane_on role none l = refl
-add_lane_on Input (some x) l = ap (λ (m : List Float). record { input = m; output = map on l.output }) (sym (map_append on l.input (x ∷ [])))
-add_lane_on Output (some x) l = ap (λ (m : List Float). record { input = map on l.input; output = m }) (sym (map_append on l.output (x ∷ [])))
+add_lane_on role None l = refl
+add_lane_on Input (Some x) l = ap (λ (m : List Float). record { input = m; output = map on l.output }) (sym (map_append on l.input (x ∷ [])))
+add_lane_on Output (Some x) l = ap (λ (m : List Float). record { input = map on l.input; output = m }) (sym (map_append on l.output (x ∷ [])))
 
 abbrev pub NearLanes : P.Lanes → Type 0
 NearLanes l = Every Near l.input × Every Near l.output
@@ -233,8 +232,8 @@ last_near x [] h k = (k, tt)
 last_near x (y ∷ ys) h k = (h.0, last_near x ys h.1 k)
 
 pub add_lane_near : (role : Role) (x : Option ℤ) (l : P.Lanes) → Placed x → NearLanes l → NearLanes (P.add_lane role x l)
-add_lane_near role none l s h = h
-add_lane_near Input (some x) l s h = (last_near x l.input h.0 s, h.1)
-add_lane_near Output (some x) l s h = (h.0, last_near x l.output h.1 s)
+add_lane_near role None l s h = h
+add_lane_near Input (Some x) l s h = (last_near x l.input h.0 s, h.1)
+add_lane_near Output (Some x) l s h = (h.0, last_near x l.output h.1 s)
 
 -- ---- the plan, on a board of the grid

@@ -1,10 +1,9 @@
 -- The plan of binary64 on a board of the grid is the image of the plan in whole numbers: every planned x, every visit; and 13 cannot happen.
 -- Assumes nothing.
-use Rattle.std.specs.Prelude.{◌≡◌, ℕ, ◌^◌, Bool, true, false, cond, ℤ, ◌+ℤ◌, ◌-ℤ◌, length, replicate, Float}
+use Rattle.std.specs.Prelude.{◌≡◌, ℕ, ◌^◌, Bool, true, false, cond, ℤ, ◌+ℤ◌, ◌-ℤ◌, length, replicate, Float, Option, Some, None}
 use Rattle.std.proofs.Math.Path.{refl, ap}
 use Rattle.std.proofs.Common.{◌∙◌, arith}
 use mathlib.Core.List.{List, [], ◌∷◌, map}
-use Rattle.std.proofs.Math.Option.{Option, none, some}
 use Rattle.std.proofs.lemmas.List.{length-map}
 use Rattle.std.specs.Float.Ieee as Ieee
 use Rattle.std.specs.Float.{binary64}
@@ -19,7 +18,7 @@ use Rattle.search.specs.declared.Outcome.TheVariants as O
 use Rattle.search.specs.declared.Searched.{Searched}
 use Rattle.search.specs.Search.{search_of, answer}
 use Rattle.plan.specs.declared.Bound.{Bound}
-use Rattle.plan.specs.declared.Bound.TheVariants.{None, At}
+use Rattle.plan.specs.declared.Bound.TheVariants as bounded
 use Rattle.plan.specs.Depths as L
 use Rattle.plan.specs.Bounds as M
 use Rattle.plan.specs.Plan as K
@@ -83,8 +82,8 @@ module _ (b : Z.Board) (routes : List Z.Route) (good : OnDraftingGrid b routes) 
       go : (c : Option S.Bounds) → (Ranging b routes good) c s.bundle
           → K.if_between (collector c) (answer O.Nothing v) (λ r. search_of s.bundle.role (K.cut_to s.bundle.role r (K.moved (L.parting_pitch (board b)) s.bundle.role r (on x) (map on ys))) (M.trunks (board b) (F b routes good) s.bundle) v)
           ≡ searched (P.if_between c (S.answer S.Nothing v) (λ r. S.search_of s.bundle.role (P.cut_to s.bundle.role r (P.moved (pitch b routes good) s.bundle.role r x ys)) (B.trunks b routes s.bundle) v))
-      go none g = refl
-      go (some r) g =
+      go None g = refl
+      go (Some r) g =
           let l : Held r.minimum = (held_sized b routes good) (2 ^ 45) (omega arith) r.minimum g.0 in
           let m : Held r.maximum = (held_sized b routes good) (2 ^ 45) (omega arith) r.maximum g.2 in
           let d = P.moved (pitch b routes good) s.bundle.role r x ys in
@@ -96,12 +95,12 @@ module _ (b : Z.Board) (routes : List Z.Route) (good : OnDraftingGrid b routes) 
   look_beside_of s x ys v f = go s.bounds f.1
     where
       go : (c : Option S.Bounds) → (Ranging b routes good) c s.bundle → Placed (P.found_x (P.if_between c (S.answer S.Nothing v) (λ r. S.search_of s.bundle.role (P.cut_to s.bundle.role r (P.moved (pitch b routes good) s.bundle.role r x ys)) (B.trunks b routes s.bundle) v)).outcome)
-      go none g = tt
-      go (some r) g = found_small b routes good s.bundle (P.cut_to s.bundle.role r (P.moved (pitch b routes good) s.bundle.role r x ys)) v f.0 g.3
+      go None g = tt
+      go (Some r) g = found_small b routes good s.bundle (P.cut_to s.bundle.role r (P.moved (pitch b routes good) s.bundle.role r x ys)) v f.0 g.3
 
   beside_on : (s : P.Ranged) (x : Option ℤ) (ys : List ℤ) (v : ℕ) → (Fine b routes good) s → Placed x → Every Near ys → K.beside search_of (board b) (F b routes good) (ranged s) (bound x) (map on ys) v ≡ searched (P.beside b routes s x ys v)
-  beside_on s none ys v f h k = refl
-  beside_on s (some x) ys v f h k =
+  beside_on s None ys v f h k = refl
+  beside_on s (Some x) ys v f h k =
       ap (λ (t : Bool). cond t (answer (O.Found (on x)) v) (K.look_beside search_of (board b) (F b routes good) (ranged s) (on x) (map on ys) v)) (clear_bundle x ys h k)
       ∙ ap (λ (t : Searched). cond (P.clear (pitch b routes good) x ys) (answer (O.Found (on x)) v) t) (look_beside_on s x ys v f h k)
       ∙ go (P.clear (pitch b routes good) x ys) (P.look_beside b routes s x ys v)
@@ -111,26 +110,26 @@ module _ (b : Z.Board) (routes : List Z.Route) (good : OnDraftingGrid b routes) 
       go false q = refl
 
   beside_of : (s : P.Ranged) (x : Option ℤ) (ys : List ℤ) (v : ℕ) → (Fine b routes good) s → Placed x → Placed (P.found_x (P.beside b routes s x ys v).outcome)
-  beside_of s none ys v f h = tt
-  beside_of s (some x) ys v f h = go (P.clear (pitch b routes good) x ys) (P.look_beside b routes s x ys v) (look_beside_of s x ys v f)
+  beside_of s None ys v f h = tt
+  beside_of s (Some x) ys v f h = go (P.clear (pitch b routes good) x ys) (P.look_beside b routes s x ys v) (look_beside_of s x ys v f)
     where
       go : (t : Bool) (q : S.Searched) → Placed (P.found_x q.outcome) → Placed (P.found_x (cond t (S.answer (S.Found x) v) q).outcome)
       go true q g = h
       go false q g = g
 
   if_clear_on : (x : Option ℤ) (ys : List ℤ) → Placed x → Every Near ys → K.if_clear (L.parting_pitch (board b)) (bound x) (map on ys) ≡ bound (P.if_clear (pitch b routes good) x ys)
-  if_clear_on none ys h k = refl
-  if_clear_on (some x) ys h k = ap (λ (t : Bool). cond t (At (on x)) None) (clear_bundle x ys h k) ∙ go (P.clear (pitch b routes good) x ys)
+  if_clear_on None ys h k = refl
+  if_clear_on (Some x) ys h k = ap (λ (t : Bool). cond t (bounded.At (on x)) bounded.None) (clear_bundle x ys h k) ∙ go (P.clear (pitch b routes good) x ys)
     where
-      go : (t : Bool) → cond t (At (on x)) None ≡ bound (cond t (some x) none)
+      go : (t : Bool) → cond t (bounded.At (on x)) bounded.None ≡ bound (cond t (Some x) None)
       go true = refl
       go false = refl
 
   if_clear_of : (x : Option ℤ) (ys : List ℤ) → Placed x → Placed (P.if_clear (pitch b routes good) x ys)
-  if_clear_of none ys h = tt
-  if_clear_of (some x) ys h = go (P.clear (pitch b routes good) x ys)
+  if_clear_of None ys h = tt
+  if_clear_of (Some x) ys h = go (P.clear (pitch b routes good) x ys)
     where
-      go : (t : Bool) → Placed (cond t (some x) none)
+      go : (t : Bool) → Placed (cond t (Some x) None)
       go true = h
       go false = tt
 
@@ -184,9 +183,9 @@ module _ (b : Z.Board) (routes : List Z.Route) (good : OnDraftingGrid b routes) 
   initials_of [] h = tt
   initials_of (s ∷ ss) h = (go s.bounds h.0.1, initials_of ss h.1)
     where
-      go : (r : Option S.Bounds) → (Ranging b routes good) r s.bundle → Placed (P.if_between r none (λ t. some t.desired))
-      go none g = tt
-      go (some r) g = g.1.size
+      go : (r : Option S.Bounds) → (Ranging b routes good) r s.bundle → Placed (P.if_between r None (λ t. Some t.desired))
+      go None g = tt
+      go (Some r) g = g.1.size
 
   -- THE PLAN: on a board of the grid the plan of binary64 is the plan in whole numbers, over 128; number 13 does not occur
   pub plan_on : (separate : Bool) (v : ℕ) → K.plan_of (board b) (F b routes good) separate v ≡ going (plan (P.plan_of b routes separate v))

@@ -1,16 +1,13 @@
 -- The search of binary64 on numbers of the grid is the search in whole numbers: same candidates, same order, same outcome, same visits.
 -- Assumes nothing.
-use Rattle.std.specs.Prelude.{◌≡◌, refl, Bool, true, false, not, cond, ℤ, nat_abs, ◌+ℤ◌, ◌-ℤ◌, T, Float}
+use Rattle.std.specs.Prelude.{◌≡◌, refl, Bool, true, false, not, cond, ℤ, nat_abs, ◌+ℤ◌, ◌-ℤ◌, T, Float, Option, Some, None}
 use Rattle.std.proofs.Common.{sym, ap, ◌∙◌}
 use Prim.Native.Nat.{ℕ, zero, suc, ◌^◌, ◌≤◌}
 use mathlib.Core.List.{List, [], ◌∷◌, ◌++◌, map}
-use Rattle.std.proofs.Math.Option.{Option, none, some}
 use Rattle.geometry.specs.declared.Point.{Point}
 use Rattle.geometry.specs.declared.Segment.{Segment}
 use Rattle.geometry.specs.declared.Role.{Role}
 use Rattle.geometry.specs.declared.Role.TheVariants.{Input, Output}
-use Rattle.geometry.specs.declared.Stretch.{Stretch}
-use Rattle.geometry.specs.declared.Stretch.TheVariants.{Nowhere, Of}
 use Rattle.geometry.specs.Points.{Route, runs}
 use Rattle.geometry.specs.Stretch as G
 use Rattle.search.specs.declared.Candidate.{Candidate}
@@ -33,9 +30,9 @@ use Rattle.grid_plan.specs.Sizes.{OfOption, Fit}
 
 -- ---- stretches
 from_to_on : (a b : ℤ) → G.from_to (on a) (on b) ≡ stretch (S.from_to a b)
-from_to_on a b = ap (λ (t : Bool). cond t (Of (on a) (on b)) Nowhere) (le_on a b) ∙ go (at_most a b)
+from_to_on a b = ap (λ (t : Bool). cond t (Some (on a, on b)) None) (le_on a b) ∙ go (at_most a b)
   where
-    go : (t : Bool) → cond t (Of (on a) (on b)) Nowhere ≡ stretch (cond t (some (record { low = a; high = b })) none)
+    go : (t : Bool) → cond t (Some (on a, on b)) None ≡ stretch (cond t (Some (record { low = a; high = b })) None)
     go true = refl
     go false = refl
 
@@ -48,14 +45,14 @@ stretch_on role p a b h k =
     rw (ne_on a.y b.y, le_on b.x a.x, shortened_on role p a.x b.x h k)
     (go (not (same a.y b.y)) (at_most b.x a.x) (S.shortened role p a.x b.x))
   where
-    go : (s t : Bool) (c : Option S.Stretch) → cond s Nowhere (cond t Nowhere (stretch c)) ≡ stretch (cond s none (cond t none c))
+    go : (s t : Bool) (c : Option S.Stretch) → cond s None (cond t None (stretch c)) ≡ stretch (cond s None (cond t None c))
     go true t c = refl
     go false true c = refl
     go false false c = refl
 
 pub holds_on : (x : ℤ) (s : Option S.Stretch) → G.holds (on x) (stretch s) ≡ S.holds x s
-holds_on x none = refl
-holds_on x (some s) = rw (le_on s.low x, le_on x s.high)
+holds_on x None = refl
+holds_on x (Some s) = rw (le_on s.low x, le_on x s.high)
 
 pub runs_on : (r : Z.Route) → runs (route r) ≡ map segment (Z.runs r)
 unfolding runs Z.runs
@@ -85,7 +82,7 @@ map_append f (x ∷ xs) ys = ap (λ (l : List _). f x ∷ l) (map_append f xs ys
 all_runs_on : (ms : List (List (Option S.Stretch))) → T.all_runs (map (map stretch) ms) ≡ map stretch (S.all_runs ms)
 unfolding T.all_runs S.all_runs
 all_runs_on [] = refl
-all_runs_on (m ∷ ms) = ap (λ (l : List Stretch). map stretch m ++ l) (all_runs_on ms) ∙ sym (map_append stretch m (S.all_runs ms))
+all_runs_on (m ∷ ms) = ap (λ (l : List (Option (Float × Float))). map stretch m ++ l) (all_runs_on ms) ∙ sym (map_append stretch m (S.all_runs ms))
 
 -- ---- the first pass
 nearest_on : (role : Role) (l h d : ℤ) → F.nearest role (on l) (on h) (on d) ≡ on (S.nearest role l h d)
@@ -93,16 +90,16 @@ nearest_on Input l h d = least_on h d
 nearest_on Output l h d = greatest_on l d
 
 abbrev candidacy : Option ℤ → Candidate
-candidacy none = C.Missing
-candidacy (some z) = C.At (on z)
+candidacy None = C.Missing
+candidacy (Some z) = C.At (on z)
 
 candidate_on : (role : Role) (r : S.Bounds) (s : Option S.Stretch) → F.candidate role (bounds r) (stretch s) ≡ candidacy (S.candidate role r s)
-candidate_on role r none = refl
-candidate_on role r (some s) =
+candidate_on role r None = refl
+candidate_on role r (Some s) =
     rw (least_on s.high r.maximum, greatest_on s.low r.minimum, lt_on (smaller s.high r.maximum) (larger s.low r.minimum), nearest_on role (larger s.low r.minimum) (smaller s.high r.maximum) r.desired)
     (go (below (smaller s.high r.maximum) (larger s.low r.minimum)) (S.nearest role (larger s.low r.minimum) (smaller s.high r.maximum) r.desired))
   where
-    go : (t : Bool) (z : ℤ) → cond t C.Missing (C.At (on z)) ≡ candidacy (cond t none (some z))
+    go : (t : Bool) (z : ℤ) → cond t C.Missing (C.At (on z)) ≡ candidacy (cond t None (Some z))
     go true z = refl
     go false z = refl
 
@@ -111,8 +108,8 @@ listing (S.listing xs v) = F.listing (map on xs) v
 listing S.spent = F.spent
 
 onto_on : (xs : List ℤ) (c : Option ℤ) → F.onto (map on xs) (candidacy c) ≡ map on (S.onto xs c)
-onto_on xs none = refl
-onto_on xs (some z) = sym (map_append on xs (z ∷ []))
+onto_on xs None = refl
+onto_on xs (Some z) = sym (map_append on xs (z ∷ []))
 
 gathered_onto_on : (role : Role) (r : S.Bounds) (xs : List ℤ) (ss : List (Option S.Stretch)) (v : ℕ) → F.gathered_onto role (bounds r) (map on xs) (map stretch ss) v ≡ listing (S.gathered_onto role r xs ss v)
 unfolding F.gathered_onto S.gathered_onto
@@ -202,8 +199,8 @@ tried_list_on ms (x ∷ xs) found v = ap (λ (t : Tried). after t (F.tried (map 
 
 -- ---- what is gathered is in range
 abbrev pub OfStretch : (ℤ → Type 0) → Option S.Stretch → Type 0
-OfStretch P none = Unit {0}
-OfStretch P (some s) = P s.low × P s.high
+OfStretch P None = Unit {0}
+OfStretch P (Some s) = P s.low × P s.high
 
 abbrev pub OfBounds : (ℤ → Type 0) → S.Bounds → Type 0
 OfBounds P r = P r.minimum × P r.desired × P r.maximum
@@ -218,10 +215,10 @@ module _ (P : ℤ → Type 0) where
   nearest_of Output l h d p q s = pick_larger P l d p s
 
   candidate_of : (role : Role) (r : S.Bounds) (s : Option S.Stretch) → OfBounds P r → OfStretch P s → OfOption P (S.candidate role r s)
-  candidate_of role r none b h = tt
-  candidate_of role r (some s) b h = go (below (smaller s.high r.maximum) (larger s.low r.minimum))
+  candidate_of role r None b h = tt
+  candidate_of role r (Some s) b h = go (below (smaller s.high r.maximum) (larger s.low r.minimum))
     where
-      go : (t : Bool) → OfOption P (cond t none (some (S.nearest role (larger s.low r.minimum) (smaller s.high r.maximum) r.desired)))
+      go : (t : Bool) → OfOption P (cond t None (Some (S.nearest role (larger s.low r.minimum) (smaller s.high r.maximum) r.desired)))
       go true = tt
       go false = nearest_of role (larger s.low r.minimum) (smaller s.high r.maximum) r.desired (pick_larger P s.low r.minimum h.0 b.0) (pick_smaller P s.high r.maximum h.1 b.2) b.1
 
@@ -230,8 +227,8 @@ module _ (P : ℤ → Type 0) where
   last_of x (y ∷ ys) h k = (h.0, last_of x ys h.1 k)
 
   onto_of : (xs : List ℤ) (c : Option ℤ) → Every P xs → OfOption P c → Every P (S.onto xs c)
-  onto_of xs none e s = e
-  onto_of xs (some x) e s = last_of x xs e s
+  onto_of xs None e s = e
+  onto_of xs (Some x) e s = last_of x xs e s
 
   gathered_of : (role : Role) (r : S.Bounds) (xs : List ℤ) (ss : List (Option S.Stretch)) (v : ℕ) → OfBounds P r → Every P xs → Every (OfStretch P) ss → OfListing P (S.gathered_onto role r xs ss v)
   unfolding S.gathered_onto
@@ -256,7 +253,7 @@ pub search_on : (role : Role) (r : S.Bounds) (ms : List (List (Option S.Stretch)
     → F.search_of role (bounds r) (map (map stretch) ms) v ≡ searched (S.search_of role r ms v)
 unfolding S.search_of
 search_on role r ms v b h =
-    ap (λ (l : List Stretch). F.searched (F.then_tried role (map (map stretch) ms) (F.gathered_onto role (bounds r) (on r.desired ∷ []) l v))) (all_runs_on ms)
+    ap (λ (l : List (Option (Float × Float))). F.searched (F.then_tried role (map (map stretch) ms) (F.gathered_onto role (bounds r) (on r.desired ∷ []) l v))) (all_runs_on ms)
     ∙ ap (λ (l : F.Listing). F.searched (F.then_tried role (map (map stretch) ms) l)) (gathered_onto_on role r (r.desired ∷ []) (S.all_runs ms) v)
     ∙ ap F.searched (go (S.gathered role r ms v) (gathered_are Held role r ms v b h))
     ∙ last (S.then_tried role ms (S.gathered role r ms v))

@@ -1,8 +1,7 @@
 -- The bounds of a bundle's collector in whole numbers over 128: the twin of plan/specs/Bounds, name for name. interior_collector_bounds of boundary_bundles.rs. Definitions only.
 -- Assumes nothing.
-use Rattle.std.specs.Prelude.{cond, get_or, leb, ℤ, ◌+ℤ◌, ◌-ℤ◌}
+use Rattle.std.specs.Prelude.{cond, get_or, leb, ℤ, ◌+ℤ◌, ◌-ℤ◌, Option, Some, None}
 use mathlib.Core.List.{List, [], ◌∷◌, map}
-use Rattle.std.proofs.Math.Option.{Option, none, some}
 use Rattle.geometry.specs.declared.Role.{Role}
 use Rattle.geometry.specs.declared.Role.TheVariants.{Input, Output}
 use Rattle.board.specs.declared.Bundle.{Bundle}
@@ -14,34 +13,34 @@ use Rattle.grid.specs.On.{below, smaller, larger}
 
 -- x made at least, and at most, a bound that may be absent
 abbrev pub raised : ℤ → Option ℤ → ℤ
-raised x none = x
-raised x (some b) = larger x b
+raised x None = x
+raised x (Some b) = larger x b
 
 abbrev pub lowered : ℤ → Option ℤ → ℤ
-lowered x none = x
-lowered x (some b) = smaller x b
+lowered x None = x
+lowered x (Some b) = smaller x b
 
 -- what follows an x, if there is one
 abbrev pub if_at {ℓ} : {A : Type ℓ} → Option ℤ → A → (ℤ → A) → A
-if_at none a f = a
-if_at (some x) a f = f x
+if_at None a f = a
+if_at (Some x) a f = f x
 
 abbrev pub clamped : ℤ → ℤ → ℤ → ℤ
 clamped x low high = smaller (larger x low) high
 
 -- x of the first point and of the last
 abbrev pub first_x : Route → Option ℤ
-first_x [] = none
-first_x (p ∷ ps) = some p.x
+first_x [] = None
+first_x (p ∷ ps) = Some p.x
 
 unfoldable pub last_x : Route → Option ℤ
-last_x [] = none
-last_x (p ∷ []) = some p.x
+last_x [] = None
+last_x (p ∷ []) = Some p.x
 last_x (p ∷ q ∷ ps) = last_x (q ∷ ps)
 
 abbrev pub map_bound : (ℤ → ℤ) → Option ℤ → Option ℤ
-map_bound f none = none
-map_bound f (some x) = some (f x)
+map_bound f None = None
+map_bound f (Some x) = Some (f x)
 
 -- how far a member lets the collector go, from the end of its route
 abbrev pub reach_x : Role → ℤ → Option ℤ → ℤ → ℤ
@@ -49,13 +48,13 @@ reach_x Input reserve corridor x = lowered (x -ℤ reserve) corridor
 reach_x Output reserve corridor x = raised (x +ℤ reserve) corridor
 
 abbrev pub tighter : Role → Option ℤ → ℤ → ℤ
-tighter role none x = x
-tighter Input (some d) x = smaller d x
-tighter Output (some d) x = larger d x
+tighter role None x = x
+tighter Input (Some d) x = smaller d x
+tighter Output (Some d) x = larger d x
 
 -- document 01: bounds are absent where minimum is above maximum
 abbrev pub unless_crossed : ℤ → ℤ → ℤ → Option Bounds
-unless_crossed low desired high = cond (below high low) none (some (record { minimum = low; desired = clamped desired low high; maximum = high }))
+unless_crossed low desired high = cond (below high low) None (Some (record { minimum = low; desired = clamped desired low high; maximum = high }))
 
 -- from the port's side to the members' side; lower and upper are "no lower bound" and "no upper bound" where there are none
 abbrev pub span_of : Role → ℤ → ℤ → ℤ → Option ℤ → Option ℤ → ℤ → Option Bounds
@@ -68,7 +67,7 @@ between b u lower upper role d = span_of role (endpoint_of b u).x (rail_depth b.
 -- document 01: bounds are absent for width or members of at most 1, or an empty member route
 abbrev pub bounds_with : Board → Bundle → Option ℤ → Option ℤ → Option ℤ → Option Bounds
 bounds_with b u lower upper reached =
-    cond (leb u.width 1) none (cond (leb u.count 1) none (if_at reached none (between b u lower upper u.role)))
+    cond (leb u.width 1) None (cond (leb u.count 1) None (if_at reached None (between b u lower upper u.role)))
 
 module _ (b : Board) (routes : List Route) where
   abbrev pub route_of : Member → Route
@@ -84,12 +83,12 @@ module _ (b : Board) (routes : List Route) where
   unfoldable pub reach_all : Role → Option ℤ → List Member → Option ℤ
   unfolding last_x
   reach_all role d [] = d
-  reach_all role d (m ∷ ms) = if_at (reach role m) none (λ x. reach_all role (some (tighter role d x)) ms)
+  reach_all role d (m ∷ ms) = if_at (reach role m) None (λ x. reach_all role (Some (tighter role d x)) ms)
 
   -- interior_collector_bounds
   unfoldable pub bounds_of : Bundle → Option ℤ → Option ℤ → Option Bounds
   unfolding reach_all rail_depth
-  bounds_of u lower upper = bounds_with b u lower upper (reach_all u.role none (members_in b u))
+  bounds_of u lower upper = bounds_with b u lower upper (reach_all u.role None (members_in b u))
 
   -- the stretches of each member
   abbrev pub trunks : Bundle → List (List (Option Stretch))

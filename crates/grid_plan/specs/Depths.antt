@@ -1,7 +1,6 @@
 -- How deep the corridors lie and where they run, in whole numbers over 128: the twin of plan/specs/Depths, name for name. corridor_depth_offsets and fallback_corridors_by_edge of boundary_bundles.rs. Definitions only.
 -- Assumes nothing.
-use Rattle.std.specs.Prelude.{ℕ, ◌+◌, cond, List, [], ◌∷◌, eqb, ℤ, pos, ◌+ℤ◌, ◌-ℤ◌, ◌*ℤ◌}
-use Rattle.std.proofs.Math.Option.{Option, none, some}
+use Rattle.std.specs.Prelude.{ℕ, ◌+◌, cond, List, [], ◌∷◌, eqb, ℤ, pos, ◌+ℤ◌, ◌-ℤ◌, ◌*ℤ◌, Option, Some, None}
 use Rattle.geometry.specs.declared.Role.{Role}
 use Rattle.geometry.specs.declared.Role.TheVariants.{Input, Output}
 use Rattle.board.specs.declared.Bundle.{Bundle}
@@ -19,8 +18,8 @@ boundary_depth b u = (node_of b u).body.width +ℤ rail_depth b.options
 
 -- the offset at a pitch and a boundary depth, past the depth in use
 abbrev pub past : ℤ → ℤ → Option ℤ → ℤ
-past pitch depth none = pos 0
-past pitch depth (some used) = larger ((used +ℤ pitch) -ℤ (depth +ℤ pitch)) (pos 0)
+past pitch depth None = pos 0
+past pitch depth (Some used) = larger ((used +ℤ pitch) -ℤ (depth +ℤ pitch)) (pos 0)
 
 -- the offset of a bundle, past the depth that the earlier ones of its role use
 abbrev pub offset_past : Board → Bundle → Option ℤ → ℤ
@@ -36,8 +35,8 @@ last_depth b u offset = lanes_past (pitch_of b u) (boundary_depth b u) offset (l
 
 -- the furthest of what was used and what is
 abbrev pub further : Option ℤ → ℤ → Option ℤ
-further none d = some d
-further (some used) d = some (larger used d)
+further None d = Some d
+further (Some used) d = Some (larger used d)
 
 -- the depth in use, by role
 pub record Used : Type 0 where
@@ -65,7 +64,7 @@ offsets_from b (u ∷ us) w = offset_of b u w ∷ offsets_from b us (used_after 
 
 -- corridor_depth_offsets
 abbrev pub offsets_of : Board → List ℤ
-offsets_of b = offsets_from b b.bundles (record { input = none; output = none })
+offsets_of b = offsets_from b b.bundles (record { input = None; output = None })
 
 -- the corridor of one member
 abbrev pub corridor_x : Board → Bundle → ℤ → Member → ℤ
@@ -74,18 +73,18 @@ corridor_x b u offset m = inward u.role (inward u.role (endpoint_of b u).x (rail
 -- the corridor of an edge among a bundle's members
 unfoldable pub corridor_among : Board → Bundle → ℤ → ℕ → List Member → Option ℤ
 unfolding rail_depth
-corridor_among b u offset e [] = none
-corridor_among b u offset e (m ∷ ms) = cond (eqb m.edge e) (some (corridor_x b u offset m)) (corridor_among b u offset e ms)
+corridor_among b u offset e [] = None
+corridor_among b u offset e (m ∷ ms) = cond (eqb m.edge e) (Some (corridor_x b u offset m)) (corridor_among b u offset e ms)
 
 abbrev pub first_of : Option ℤ → Option ℤ → Option ℤ
-first_of none o = o
-first_of (some x) o = some x
+first_of None o = o
+first_of (Some x) o = Some x
 
 -- fallback_corridors_by_edge: the corridor of an edge for one role
 unfoldable pub corridor_from : Board → Role → ℕ → List Bundle → List ℤ → Option ℤ
 unfolding corridor_among
-corridor_from b role e [] offsets = none
-corridor_from b role e (u ∷ us) [] = none
+corridor_from b role e [] offsets = None
+corridor_from b role e (u ∷ us) [] = None
 corridor_from b role e (u ∷ us) (d ∷ ds) =
     cond (same_role u.role role) (first_of (corridor_among b u d e (members_in b u)) (corridor_from b role e us ds)) (corridor_from b role e us ds)
 

@@ -1,12 +1,9 @@
 -- What a board, a search and a plan in whole numbers are in binary64, n being n / 128. Definitions only.
 -- Assumes nothing.
-use Rattle.std.specs.Prelude.{map, ℤ}
-use Rattle.std.proofs.Math.Option.{Option, none, some}
+use Rattle.std.specs.Prelude.{map, ℤ, Option, Some, None, Float}
 use Rattle.geometry.specs.declared.Point.{Point}
 use Rattle.geometry.specs.declared.Segment.{Segment}
 use Rattle.geometry.specs.declared.Node.{Node}
-use Rattle.geometry.specs.declared.Stretch.{Stretch}
-use Rattle.geometry.specs.declared.Stretch.TheVariants.{Nowhere, Of}
 use Rattle.geometry.specs.Points.{Route}
 use Rattle.board.specs.declared.Options.{Options}
 use Rattle.board.specs.declared.PlacedNode.{PlacedNode}
@@ -17,7 +14,7 @@ use Rattle.search.specs.declared.CollectorBounds.{CollectorBounds}
 use Rattle.search.specs.declared.CollectorBounds.TheVariants.{Absent, Between}
 use Rattle.search.specs.declared.Outcome.TheVariants as O
 use Rattle.plan.specs.declared.Bound.{Bound}
-use Rattle.plan.specs.declared.Bound.TheVariants.{None, At}
+use Rattle.plan.specs.declared.Bound.TheVariants as bounded
 use Rattle.plan.specs.Plan.{Ranged, Plan, FirstPass}
 use Rattle.grid_plan.specs.Board as Z
 use Rattle.grid_plan.specs.Depths as D
@@ -49,20 +46,20 @@ board b = record { options = options b.options; nodes = map placed b.nodes; port
 abbrev pub route : Z.Route → Route
 route r = map point r
 
-abbrev pub stretch : Option S.Stretch → Stretch
-stretch none = Nowhere
-stretch (some s) = Of (on s.low) (on s.high)
+abbrev pub stretch : Option S.Stretch → Option (Float × Float)
+stretch None = None
+stretch (Some s) = Some (on s.low, on s.high)
 
 abbrev pub bound : Option ℤ → Bound
-bound none = None
-bound (some z) = At (on z)
+bound None = bounded.None
+bound (Some z) = bounded.At (on z)
 
 abbrev pub bounds : S.Bounds → Bounds
 bounds r = record { minimum = on r.minimum; desired = on r.desired; maximum = on r.maximum }
 
 abbrev pub collector : Option S.Bounds → CollectorBounds
-collector none = Absent
-collector (some r) = Between (bounds r)
+collector None = Absent
+collector (Some r) = Between (bounds r)
 
 abbrev pub ranged : P.Ranged → Ranged
 ranged s = record { bundle = s.bundle; bounds = collector s.bounds }

@@ -1,9 +1,8 @@
 -- The plan in whole numbers over 128: the twin of plan/specs/Plan, name for name, but that there is no refusal 13 in it and a plan is no step. plan_interior_collectors of boundary_bundles.rs. Definitions only.
 -- Assumes nothing.
-use Rattle.std.specs.Prelude.{ℕ, suc, Bool, false, ◌&&◌, ◌||◌, ℤ, pos, nat_abs, ◌+ℤ◌, ◌-ℤ◌, length, replicate}
+use Rattle.std.specs.Prelude.{ℕ, suc, Bool, false, ◌&&◌, ◌||◌, ℤ, pos, nat_abs, ◌+ℤ◌, ◌-ℤ◌, length, replicate, Option, Some, None}
 use Rattle.std.proofs.Math.Bool.{true, not, cond}
 use mathlib.Core.List.{List, [], ◌∷◌, ◌++◌, map}
-use Rattle.std.proofs.Math.Option.{Option, none, some}
 use Rattle.std.proofs.Math.ListN.{get_or, set}
 use Rattle.geometry.specs.declared.Role.{Role}
 use Rattle.geometry.specs.declared.Role.TheVariants.{Input, Output}
@@ -23,7 +22,7 @@ pub record Ranged : Type 0 where
   pub bounds : Option Bounds
 
 abbrev pub no_ranged : Ranged
-no_ranged = record { bundle = record { id = 0; port = 0; role = Input; width = 0; first = 0; count = 0 }; bounds = none }
+no_ranged = record { bundle = record { id = 0; port = 0; role = Input; width = 0; first = 0; count = 0 }; bounds = None }
 
 abbrev pub ranged_at : List Ranged → ℕ → Ranged
 ranged_at ranges i = get_or ranges i no_ranged
@@ -32,8 +31,8 @@ abbrev pub role_at : List Ranged → ℕ → Role
 role_at ranges i = (ranged_at ranges i).bundle.role
 
 abbrev pub if_between {ℓ} : {A : Type ℓ} → Option Bounds → A → (Bounds → A) → A
-if_between none a f = a
-if_between (some r) a f = f r
+if_between None a f = a
+if_between (Some r) a f = f r
 
 abbrev pub found? : Option Bounds → Bool
 found? r = if_between r false (λ s. true)
@@ -48,19 +47,19 @@ abbrev pub maximum_at : List Ranged → ℕ → ℤ
 maximum_at ranges i = if_between (ranged_at ranges i).bounds (pos 0) (λ r. r.maximum)
 
 abbrev pub initial_x : Ranged → Option ℤ
-initial_x s = if_between s.bounds none (λ r. some r.desired)
+initial_x s = if_between s.bounds None (λ r. Some r.desired)
 
 -- the x that a search found: the Rust has None for both others
 abbrev pub found_x : Outcome → Option ℤ
-found_x (Found x) = some x
-found_x Nothing = none
-found_x Spent = none
+found_x (Found x) = Some x
+found_x Nothing = None
+found_x Spent = None
 
 -- the bounds with the x that the first search found as the desired one
 abbrev pub narrowed : Option Bounds → Outcome → Option Bounds
-narrowed r (Found x) = if_between r none (λ s. some (record { minimum = s.minimum; desired = x; maximum = s.maximum }))
-narrowed r Nothing = none
-narrowed r Spent = none
+narrowed r (Found x) = if_between r None (λ s. Some (record { minimum = s.minimum; desired = x; maximum = s.maximum }))
+narrowed r Nothing = None
+narrowed r Spent = None
 
 abbrev pub ranged : Bundle → Option Bounds → Outcome → Ranged
 ranged u r f = record { bundle = u; bounds = narrowed r f }
@@ -95,20 +94,20 @@ smallest f x (i ∷ is) = smallest f (smaller x (f i)) is
 
 unfoldable pub drop_all : List ℕ → List (Option ℤ) → List (Option ℤ)
 drop_all [] xs = xs
-drop_all (i ∷ is) xs = drop_all is (set xs i none)
+drop_all (i ∷ is) xs = drop_all is (set xs i None)
 
 -- input_shared_trunk_divergence_x, one route: the end of its first run whose stretch holds x
 unfoldable pub run_end : Role → ℤ → ℤ → Point → List Point → Option ℤ
-run_end role pitch x p [] = none
-run_end role pitch x p (q ∷ qs) = cond (holds x (stretch role pitch p q)) (some q.x) (run_end role pitch x q qs)
+run_end role pitch x p [] = None
+run_end role pitch x p (q ∷ qs) = cond (holds x (stretch role pitch p q)) (Some q.x) (run_end role pitch x q qs)
 
 abbrev pub diverges_at : Role → ℤ → ℤ → Route → Option ℤ
-diverges_at role pitch x [] = none
+diverges_at role pitch x [] = None
 diverges_at role pitch x (p ∷ ps) = run_end role pitch x p ps
 
 abbrev pub exceeds : Option ℤ → ℤ → Bool
-exceeds none limit = false
-exceeds (some r) limit = below limit r
+exceeds None limit = false
+exceeds (Some r) limit = below limit r
 
 -- collector_has_lane_separation: a distance of at least the pitch
 unfoldable pub clear : ℤ → ℤ → List ℤ → Bool
@@ -133,9 +132,9 @@ lanes_of Input l = l.input
 lanes_of Output l = l.output
 
 abbrev pub add_lane : Role → Option ℤ → Lanes → Lanes
-add_lane role none l = l
-add_lane Input (some x) l = record { input = l.input ++ (x ∷ []); output = l.output }
-add_lane Output (some x) l = record { input = l.input; output = l.output ++ (x ∷ []) }
+add_lane role None l = l
+add_lane Input (Some x) l = record { input = l.input ++ (x ∷ []); output = l.output }
+add_lane Output (Some x) l = record { input = l.input; output = l.output ++ (x ∷ []) }
 
 -- both are even here, so the half is whole
 abbrev pub middle : ℤ → ℤ → ℤ
@@ -147,7 +146,7 @@ input_split pitch low limit deepest earliest = clamped (middle deepest (earliest
 
 -- `input_limit`, of an input's planned x
 abbrev pub input_limit : ℤ → ℤ → Option ℤ → Option ℤ
-input_limit pitch limit x = some (smaller (if_at x limit (λ y. y)) (limit -ℤ pitch))
+input_limit pitch limit x = Some (smaller (if_at x limit (λ y. y)) (limit -ℤ pitch))
 
 -- past all that are taken, but within the bounds
 abbrev pub moved : ℤ → Role → Bounds → ℤ → List ℤ → ℤ
@@ -159,7 +158,7 @@ cut_to Input r d = record { minimum = r.minimum; desired = d; maximum = d }
 cut_to Output r d = record { minimum = d; desired = d; maximum = r.maximum }
 
 abbrev pub if_clear : ℤ → Option ℤ → List ℤ → Option ℤ
-if_clear pitch x ys = if_at x none (λ y. cond (clear pitch y ys) (some y) none)
+if_clear pitch x ys = if_at x None (λ y. cond (clear pitch y ys) (Some y) None)
 
 module _ (b : Board) (routes : List Route) where
   -- ---- adjacency: only bundles whose first search found an x, of two roles, with a route in common
@@ -185,20 +184,20 @@ module _ (b : Board) (routes : List Route) where
   unfoldable pub divergence : Bundle → ℤ → Option ℤ → List Member → Option ℤ
   unfolding run_end
   divergence u x d [] = d
-  divergence u x d (m ∷ ms) = if_at (diverges_at u.role (pitch_of b u) x (route_of b routes m)) none (λ e. divergence u x (further d e) ms)
+  divergence u x d (m ∷ ms) = if_at (diverges_at u.role (pitch_of b u) x (route_of b routes m)) None (λ e. divergence u x (further d e) ms)
 
   -- what one input asks of the outputs
   abbrev pub asked : Bundle → Option ℤ → Option ℤ
-  asked u x = if_at x none (λ c. if_at (divergence u c none (members_in b u)) none (λ d. some (larger (c +ℤ parting_pitch b) (d +ℤ parting_pitch b))))
+  asked u x = if_at x None (λ c. if_at (divergence u c None (members_in b u)) None (λ d. Some (larger (c +ℤ parting_pitch b) (d +ℤ parting_pitch b))))
 
   unfoldable pub required : List Ranged → List (Option ℤ) → Option ℤ → List ℕ → Option ℤ
   unfolding divergence
   required ranges xs r [] = r
-  required ranges xs r (i ∷ is) = required ranges xs (if_at (asked (ranged_at ranges i).bundle (get_or xs i none)) r (further r)) is
+  required ranges xs r (i ∷ is) = required ranges xs (if_at (asked (ranged_at ranges i).bundle (get_or xs i None)) r (further r)) is
 
   abbrev pub seek_in : Bundle → Option Bounds → ℕ → Searched
-  seek_in u none v = answer Nothing v
-  seek_in u (some r) v = search_of u.role r (trunks b routes u) v
+  seek_in u None v = answer Nothing v
+  seek_in u (Some r) v = search_of u.role r (trunks b routes u) v
 
   -- interior_collector_range_bounded
   abbrev pub seek : Bundle → Option ℤ → Option ℤ → ℕ → Searched
@@ -209,9 +208,9 @@ module _ (b : Board) (routes : List Route) where
   unfolding bounds_of
   first_pass [] v = record { ranges = []; left = v }
   first_pass (u ∷ us) v =
-      let s = seek u none none v in
+      let s = seek u None None v in
       let rest = first_pass us s.left in
-      record { ranges = ranged u (bounds_of b routes u none none) s.outcome ∷ rest.ranges; left = rest.left }
+      record { ranges = ranged u (bounds_of b routes u None None) s.outcome ∷ rest.ranges; left = rest.left }
 
   -- ---- one component
   -- bundles are searched anew, in order, each between bounds that may hang on its planned x
@@ -219,25 +218,25 @@ module _ (b : Board) (routes : List Route) where
   unfolding bounds_of
   again ranges lower upper [] p = p
   again ranges lower upper (i ∷ is) p =
-      let x = get_or p.xs i none in
+      let x = get_or p.xs i None in
       let s = seek (ranged_at ranges i).bundle (lower x) (upper x) p.left in
       again ranges lower upper is (record { xs = set p.xs i (found_x s.outcome); left = s.left })
 
   -- the inputs are held below the outputs' limit if what they ask lies above it
   abbrev pub limited : List Ranged → ℤ → List ℕ → Plan → Plan
   limited ranges limit inputs p =
-      cond (exceeds (required ranges p.xs none inputs) limit)
-      (again ranges (λ x. none) (input_limit (parting_pitch b) limit) inputs p) p
+      cond (exceeds (required ranges p.xs None inputs) limit)
+      (again ranges (λ x. None) (input_limit (parting_pitch b) limit) inputs p) p
 
   -- then the outputs keep clear of what the inputs ask
   abbrev pub outputs_last : List Ranged → List ℕ → List ℕ → Plan → Plan
-  outputs_last ranges inputs outputs p = again ranges (λ x. required ranges p.xs none inputs) (λ x. none) outputs p
+  outputs_last ranges inputs outputs p = again ranges (λ x. required ranges p.xs None inputs) (λ x. None) outputs p
 
   -- the inputs are split from the outputs if the deepest comes too near to the earliest
   abbrev pub split : List Ranged → ℤ → ℤ → ℤ → ℤ → List ℕ → Plan → Plan
   split ranges low limit deepest earliest inputs p =
       cond (below earliest (deepest +ℤ parting_pitch b))
-      (again ranges (λ x. none) (λ x. some (input_split (parting_pitch b) low limit deepest earliest)) inputs p)
+      (again ranges (λ x. None) (λ x. Some (input_split (parting_pitch b) low limit deepest earliest)) inputs p)
       p
 
   abbrev pub settle : List Ranged → List ℕ → ℤ → ℤ → ℤ → ℤ → List ℕ → List ℕ → Plan → Plan
@@ -275,8 +274,8 @@ module _ (b : Board) (routes : List Route) where
 
   -- one bundle: its x stays if it is clear of those taken, and otherwise is sought anew
   abbrev pub beside : Ranged → Option ℤ → List ℤ → ℕ → Searched
-  beside s none ys v = answer Nothing v
-  beside s (some x) ys v = cond (clear (pitch_of b s.bundle) x ys) (answer (Found x) v) (look_beside s x ys v)
+  beside s None ys v = answer Nothing v
+  beside s (Some x) ys v = cond (clear (pitch_of b s.bundle) x ys) (answer (Found x) v) (look_beside s x ys v)
 
   unfoldable pub separated : List Ranged → List (Option ℤ) → Lanes → ℕ → Plan
   unfolding clear smallest_of largest_of

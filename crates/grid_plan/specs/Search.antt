@@ -1,7 +1,6 @@
 -- Usable runs, their stretches and the search in whole numbers over 128: the twin of geometry/specs/Stretch, search/specs/Stretches and Search, name for name. shared_trunk_horizontal_range and common_horizontal_collector_xs of boundary_bundles.rs. Definitions only.
 -- Assumes nothing.
-use Rattle.std.specs.Prelude.{ℕ, zero, suc, Bool, false, not, ◌&&◌, cond, List, [], ◌∷◌, ◌++◌, ℤ, ◌+ℤ◌, ◌-ℤ◌}
-use Rattle.std.proofs.Math.Option.{Option, none, some}
+use Rattle.std.specs.Prelude.{ℕ, zero, suc, Bool, false, not, ◌&&◌, cond, List, [], ◌∷◌, ◌++◌, ℤ, ◌+ℤ◌, ◌-ℤ◌, Option, Some, None}
 use Rattle.geometry.specs.declared.Role.{Role}
 use Rattle.geometry.specs.declared.Role.TheVariants.{Input, Output}
 use Rattle.search.specs.Search.{Tried, held, lacked, unpaid, after, or_else, falls}
@@ -14,7 +13,7 @@ pub record Stretch : Type 0 where
 
 -- the stretch from low to high, if it is not empty
 abbrev pub from_to : ℤ → ℤ → Option Stretch
-from_to low high = cond (at_most low high) (some (record { low = low; high = high })) none
+from_to low high = cond (at_most low high) (Some (record { low = low; high = high })) None
 
 -- [start, end − pitch] for Input and [start + pitch, end] for Output, exactly
 abbrev pub shortened : Role → ℤ → ℤ → ℤ → Option Stretch
@@ -24,13 +23,13 @@ shortened Output pitch start end = from_to (start +ℤ pitch) end
 -- shared_trunk_horizontal_range
 abbrev pub stretch : Role → ℤ → Point → Point → Option Stretch
 stretch role pitch start end =
-    cond (not (same start.y end.y)) none
-    (cond (at_most end.x start.x) none (shortened role pitch start.x end.x))
+    cond (not (same start.y end.y)) None
+    (cond (at_most end.x start.x) None (shortened role pitch start.x end.x))
 
 -- x lies in the stretch, ends included
 abbrev pub holds : ℤ → Option Stretch → Bool
-holds x none = false
-holds x (some s) = at_most s.low x && at_most x s.high
+holds x None = false
+holds x (Some s) = at_most s.low x && at_most x s.high
 
 -- the stretch of each run, or that it has none
 unfoldable pub stretches : Role → ℤ → List Segment → List (Option Stretch)
@@ -74,14 +73,14 @@ nearest Output low high desired = larger low desired
 
 -- document 01's "candidate" of a stretch, if the stretch is not empty when cut to the bounds
 abbrev pub candidate : Role → Bounds → Option Stretch → Option ℤ
-candidate role b none = none
-candidate role b (some s) =
-    cond (below (smaller s.high b.maximum) (larger s.low b.minimum)) none
-    (some (nearest role (larger s.low b.minimum) (smaller s.high b.maximum) b.desired))
+candidate role b None = None
+candidate role b (Some s) =
+    cond (below (smaller s.high b.maximum) (larger s.low b.minimum)) None
+    (Some (nearest role (larger s.low b.minimum) (smaller s.high b.maximum) b.desired))
 
 abbrev pub onto : List ℤ → Option ℤ → List ℤ
-onto xs none = xs
-onto xs (some x) = xs ++ (x ∷ [])
+onto xs None = xs
+onto xs (Some x) = xs ++ (x ∷ [])
 
 -- the candidates of the runs ss, behind those in hand
 unfoldable pub gathered_onto : Role → Bounds → List ℤ → List (Option Stretch) → ℕ → Listing

@@ -1,7 +1,6 @@
 -- Sizes of whole numbers over 128: which numbers a job and a plan have, and between which a sum or difference is exact. The hypotheses of crate grid_sheet's record `Numbers`. Definitions only.
 -- Assumes nothing.
-use Rattle.std.specs.Prelude.{ℕ, ◌+◌, ◌^◌, ◌≤◌, ◌<◌, ◌≡◌, ℤ, nat_abs}
-use Rattle.std.proofs.Math.Option.{Option, none, some}
+use Rattle.std.specs.Prelude.{ℕ, ◌+◌, ◌^◌, ◌≤◌, ◌<◌, ◌≡◌, ℤ, nat_abs, Option, Some, None}
 use Rattle.binary64.specs.Rational.{less}
 use Rattle.grid.specs.On.{Even}
 
@@ -12,8 +11,8 @@ pub record Sized (n : ℕ) (z : ℤ) : Type 0 where
 
 -- of a number that may be absent
 abbrev pub OfOption : (ℤ → Type 0) → Option ℤ → Type 0
-OfOption P none = Unit {0}
-OfOption P (some z) = P z
+OfOption P None = Unit {0}
+OfOption P (Some z) = P z
 
 -- sum and difference of the two are exact
 abbrev pub Fit : ℤ → ℤ → Type 0

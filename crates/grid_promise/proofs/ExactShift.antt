@@ -1,8 +1,7 @@
 -- A job with bit 2 set has an exact last shift: so the sheet in its answer has no false joint, with no condition on the sheet. Assumes nothing.
-use Rattle.std.specs.Prelude.{◌≡◌, ℕ, ◌^◌, ◌≤◌, Bool, true, false, List, [], ◌∷◌, map, ℤ, nat_abs, Float}
+use Rattle.std.specs.Prelude.{◌≡◌, ℕ, ◌^◌, ◌≤◌, Bool, true, false, List, [], ◌∷◌, map, ℤ, nat_abs, Float, Option}
 use Rattle.std.proofs.Math.Path.{sym}
 use Rattle.std.proofs.Common.{ap, ◌∙◌, subst, arith, true≢false}
-use Rattle.std.proofs.Math.Option.{Option}
 use Rattle.geometry.specs.declared.Point.{Point}
 use Rattle.geometry.specs.Points.{Route}
 use Rattle.board.specs.declared.PlacedNode.{PlacedNode}

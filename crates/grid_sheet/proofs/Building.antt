@@ -1,11 +1,10 @@
 -- build_geometry on a board of the grid: the bundle drawn in whole numbers over 128 is binary64's.
 -- Assumes nothing.
-use Rattle.std.specs.Prelude.{◌≡◌, ℕ, ◌+◌, ◌-◌, ◌*◌, ◌^◌, ◌≤◌, Bool, ◌&&◌, ℤ, pos, negsuc, nat_abs, ◌+ℤ◌, ◌-ℤ◌, ◌*ℤ◌, Float}
+use Rattle.std.specs.Prelude.{◌≡◌, ℕ, ◌+◌, ◌-◌, ◌*◌, ◌^◌, ◌≤◌, Bool, ◌&&◌, ℤ, pos, negsuc, nat_abs, ◌+ℤ◌, ◌-ℤ◌, ◌*ℤ◌, Float, Option, Some, None}
 use Rattle.std.proofs.Math.Path.{refl, ap}
 use Rattle.std.proofs.Common.{sym, ◌∙◌, subst, mul-le-mul}
 use native.Mathlib.Omega.{arith}
 use mathlib.Core.List.{List, [], ◌∷◌, map}
-use Rattle.std.proofs.Math.Option.{Option, none, some}
 use Rattle.std.specs.Float.Ieee.{binary64, le, eq, add, sub, mul, div}
 use Rattle.binary64.specs.Order.{magnitude}
 use Rattle.geometry.specs.declared.Point.{Point}
@@ -190,21 +189,21 @@ module _ (b : Z.Board) (routes : List Z.Route) (good : OnDraftingGrid b routes) 
   -- BUILD_GEOMETRY
   pub build_on : (u : Bundle) (x : Option ℤ) (rs : List Z.Route) → Placed x → KeptRoutes rs → D.build (board b) u (M.number x) (map route rs) ≡ drawn (W.build b u x rs)
   unfolding D.build W.build
-  build_on u none rs h k = railed_on u
-  build_on u (some x) rs h k =
+  build_on u None rs h k = railed_on u
+  build_on u (Some x) rs h k =
       ap (λ (z : Float). D.inside_or (D.trunk_taps u.role z (on x) (Z.members_in b u) (map route rs)) (board b) u (on x)) (pitch_on b routes good)
       ∙ ap (λ (o : Option (List D.TapOn)). D.inside_or o (board b) u (on x)) (trunk_taps_on u.role pitch x (Z.members_in b u) rs pitch_small k)
       ∙ go (W.trunk_taps u.role pitch x (Z.members_in b u) rs) (trunk_taps_of u.role pitch x (Z.members_in b u) rs h k)
     where
       go : (o : Option (List W.TapOn)) → OfTaps o → D.inside_or (option_taps o) (board b) u (on x) ≡ drawn (W.inside_or o b u x)
-      go none l = unfold D.inside_or W.inside_or in railed_on u
-      go (some ts) l = unfold D.inside_or W.inside_or in inside_on u x ts h l
+      go None l = unfold D.inside_or W.inside_or in railed_on u
+      go (Some ts) l = unfold D.inside_or W.inside_or in inside_on u x ts h l
 
   pub build_of : (u : Bundle) (x : Option ℤ) (rs : List Z.Route) → Placed x → KeptRoutes rs → KeptDrawn (W.build b u x rs)
   unfolding W.build
-  build_of u none rs h k = railed_of u
-  build_of u (some x) rs h k = go (W.trunk_taps u.role pitch x (Z.members_in b u) rs) (trunk_taps_of u.role pitch x (Z.members_in b u) rs h k)
+  build_of u None rs h k = railed_of u
+  build_of u (Some x) rs h k = go (W.trunk_taps u.role pitch x (Z.members_in b u) rs) (trunk_taps_of u.role pitch x (Z.members_in b u) rs h k)
     where
       go : (o : Option (List W.TapOn)) → OfTaps o → KeptDrawn (W.inside_or o b u x)
-      go none l = unfold W.inside_or in railed_of u
-      go (some ts) l = unfold W.inside_or in inside_of u x ts h l
+      go None l = unfold W.inside_or in railed_of u
+      go (Some ts) l = unfold W.inside_or in inside_of u x ts h l

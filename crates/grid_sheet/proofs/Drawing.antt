@@ -1,6 +1,6 @@
 -- The sheet of binary64 before the last shift, on a board of the grid, is the one in whole numbers: every number, every visit and every refusal. Whatever the planned x are, as long as they are of the grid's size.
 -- Assumes nothing.
-use Rattle.std.specs.Prelude.{◌≡◌, Bool, ℤ, pos, ◌*ℤ◌, ltb, length, get_or, Float}
+use Rattle.std.specs.Prelude.{◌≡◌, Bool, ℤ, pos, ◌*ℤ◌, ltb, length, get_or, Float, Option, Some, None}
 use Rattle.std.proofs.Math.Path.{refl, ap}
 use Rattle.std.proofs.Common.{sym, ◌∙◌}
 use Prim.Native.Nat.{ℕ, suc, ◌*◌, ◌^◌, ◌≤◌}
@@ -8,7 +8,6 @@ use Rattle.std.proofs.Math.Nat.{mul-le-mul}
 use native.Mathlib.Omega.{arith}
 use Rattle.std.proofs.Math.Bool.{true, false, cond}
 use mathlib.Core.List.{List, [], ◌∷◌, ◌++◌, map}
-use Rattle.std.proofs.Math.Option.{Option, none, some}
 use Rattle.std.proofs.Math.IntN.{nat_abs}
 use Rattle.std.proofs.lemmas.List.{length-map}
 use Rattle.std.specs.Float.Ieee.{binary64, add}
@@ -23,8 +22,7 @@ use Rattle.route.specs.Rewrite as F
 use Rattle.board.specs.declared.Member.{Member}
 use Rattle.board.specs.declared.PlacedNode.{PlacedNode}
 use Rattle.plan.specs.Depths as L
-use Rattle.drawing.specs.declared.Verdict.{Verdict}
-use Rattle.drawing.specs.declared.Verdict.TheVariants.{Clean, Refused}
+use Rattle.drawing.specs.Verdict.{Verdict, Clean, Refused}
 use Rattle.drawing.specs.Build as D
 use Rattle.drawing.specs.Rewrite as Q
 use Rattle.drawing.specs.Check as K
@@ -103,32 +101,32 @@ module _ (b : Z.Board) (routes : List Z.Route) (good : OnDraftingGrid b routes) 
 
   two_on : (o : Option Z.Route) → Q.two_points (option_route o) ≡ option_route (W.two_points o)
   unfolding Q.two_points W.two_points
-  two_on none = refl
-  two_on (some r) = ap (λ (n : ℕ). cond (ltb n 2) none (some (route r))) (length-map r point) ∙ go (ltb (length r) 2)
+  two_on None = refl
+  two_on (Some r) = ap (λ (n : ℕ). cond (ltb n 2) None (Some (route r))) (length-map r point) ∙ go (ltb (length r) 2)
     where
-      go : (t : Bool) → cond t none (some (route r)) ≡ option_route (cond t none (some r))
+      go : (t : Bool) → cond t None (Some (route r)) ≡ option_route (cond t None (Some r))
       go true = refl
       go false = refl
 
   two_of : (o : Option Z.Route) → OfRoute o → OfRoute (W.two_points o)
   unfolding W.two_points
-  two_of none h = tt
-  two_of (some r) h = go (ltb (length r) 2)
+  two_of None h = tt
+  two_of (Some r) h = go (ltb (length r) 2)
     where
-      go : (t : Bool) → OfRoute (cond t none (some r))
+      go : (t : Bool) → OfRoute (cond t None (Some r))
       go true = tt
       go false = h
 
   rewrite_one_on : (inside : Bool) (role : Role) (d : ℤ) (t : Z.Point) (m : Member) (r : Z.Route) → Offset d → KeptTap t → m.tap_lane ≤ 255 → Every Kept r → Q.rewrite_one inside role (on (pitch b routes good)) (on d) (point t) m (route r) ≡ option_route (W.rewrite_one inside role (pitch b routes good) d t m r)
   unfolding Q.rewrite_one W.rewrite_one
   rewrite_one_on inside role d t m r h k n l =
-      ap (λ (i : ℕ). cond (ltb i 2) none (Q.two_points (Q.rewritten inside role (on (pitch b routes good)) (Q.corridor_depth (on d) (on (pitch b routes good)) m) (point t) (route r)))) (length-map r point)
-      ∙ ap (λ (z : Float). cond (ltb (length r) 2) none (Q.two_points (Q.rewritten inside role (on (pitch b routes good)) z (point t) (route r)))) (depth_on d m h n)
-      ∙ ap (λ (o : Option Route). cond (ltb (length r) 2) none (Q.two_points o)) (rewritten_on inside role (W.corridor_depth d (pitch b routes good) m) t r (depth_of d m h n) k l)
-      ∙ ap (λ (o : Option Route). cond (ltb (length r) 2) none o) (two_on (W.rewritten inside role (pitch b routes good) (W.corridor_depth d (pitch b routes good) m) t r))
+      ap (λ (i : ℕ). cond (ltb i 2) None (Q.two_points (Q.rewritten inside role (on (pitch b routes good)) (Q.corridor_depth (on d) (on (pitch b routes good)) m) (point t) (route r)))) (length-map r point)
+      ∙ ap (λ (z : Float). cond (ltb (length r) 2) None (Q.two_points (Q.rewritten inside role (on (pitch b routes good)) z (point t) (route r)))) (depth_on d m h n)
+      ∙ ap (λ (o : Option Route). cond (ltb (length r) 2) None (Q.two_points o)) (rewritten_on inside role (W.corridor_depth d (pitch b routes good) m) t r (depth_of d m h n) k l)
+      ∙ ap (λ (o : Option Route). cond (ltb (length r) 2) None o) (two_on (W.rewritten inside role (pitch b routes good) (W.corridor_depth d (pitch b routes good) m) t r))
       ∙ go (ltb (length r) 2) (W.two_points (W.rewritten inside role (pitch b routes good) (W.corridor_depth d (pitch b routes good) m) t r))
     where
-      go : (s : Bool) (o : Option Z.Route) → cond s none (option_route o) ≡ option_route (cond s none o)
+      go : (s : Bool) (o : Option Z.Route) → cond s None (option_route o) ≡ option_route (cond s None o)
       go true o = refl
       go false o = refl
 
@@ -136,23 +134,23 @@ module _ (b : Z.Board) (routes : List Z.Route) (good : OnDraftingGrid b routes) 
   unfolding W.rewrite_one
   rewrite_one_of inside role d t m r h k n l = go (ltb (length r) 2)
     where
-      go : (s : Bool) → OfRoute (cond s none (W.two_points (W.rewritten inside role (pitch b routes good) (W.corridor_depth d (pitch b routes good) m) t r)))
+      go : (s : Bool) → OfRoute (cond s None (W.two_points (W.rewritten inside role (pitch b routes good) (W.corridor_depth d (pitch b routes good) m) t r)))
       go true = tt
       go false = two_of (W.rewritten inside role (pitch b routes good) (W.corridor_depth d (pitch b routes good) m) t r) (rewritten_of inside role (W.corridor_depth d (pitch b routes good) m) t r (depth_of d m h n) k l)
 
   put_on : (o : Option Z.Route) (i : ℕ) (rs : List Z.Route) → Q.put_route (option_route o) i (map route rs) ≡ option_routes (W.put_route o i rs)
   unfolding Q.put_route W.put_route
-  put_on none i rs = refl
-  put_on (some r) i rs = ap some (set_map route rs i r)
+  put_on None i rs = refl
+  put_on (Some r) i rs = ap Some (set_map route rs i r)
 
   abbrev OfRoutes : Option (List Z.Route) → Type 0
-  OfRoutes none = Unit {0}
-  OfRoutes (some rs) = KeptRoutes rs
+  OfRoutes None = Unit {0}
+  OfRoutes (Some rs) = KeptRoutes rs
 
   put_of : (o : Option Z.Route) (i : ℕ) (rs : List Z.Route) → OfRoute o → KeptRoutes rs → OfRoutes (W.put_route o i rs)
   unfolding W.put_route
-  put_of none i rs h k = tt
-  put_of (some r) i rs h k = every_set (Every Kept) rs i r h k
+  put_of None i rs h k = tt
+  put_of (Some r) i rs h k = every_set (Every Kept) rs i r h k
 
   rewrite_all_on : (inside : Bool) (role : Role) (d : ℤ) (ts : List W.TapOn) (ms : List Member) (rs : List Z.Route) → Offset d → Every Tapped ts → Every (λ (m : Member). m.tap_lane ≤ 255) ms → KeptRoutes rs
       → Q.rewrite_all inside role (on (pitch b routes good)) (on d) (map tap_on ts) ms (map route rs) ≡ option_routes (W.rewrite_all inside role (pitch b routes good) d ts ms rs)
@@ -170,8 +168,8 @@ module _ (b : Z.Board) (routes : List Z.Route) (good : OnDraftingGrid b routes) 
     where
       go : ((ss : List Z.Route) → KeptRoutes ss → Q.rewrite_all inside role (on (pitch b routes good)) (on d) (map tap_on ts) ms (map route ss) ≡ option_routes (W.rewrite_all inside role (pitch b routes good) d ts ms ss))
           → (o : Option (List Z.Route)) → OfRoutes o → Q.then_routes (option_routes o) (λ ss. Q.rewrite_all inside role (on (pitch b routes good)) (on d) (map tap_on ts) ms ss) ≡ option_routes (W.then_routes o (λ ss. W.rewrite_all inside role (pitch b routes good) d ts ms ss))
-      go f none q = unfold Q.then_routes W.then_routes in refl
-      go f (some ss) q = unfold Q.then_routes W.then_routes in f ss q
+      go f None q = unfold Q.then_routes W.then_routes in refl
+      go f (Some ss) q = unfold Q.then_routes W.then_routes in f ss q
 
   rewrite_all_of : (inside : Bool) (role : Role) (d : ℤ) (ts : List W.TapOn) (ms : List Member) (rs : List Z.Route) → Offset d → Every Tapped ts → Every (λ (m : Member). m.tap_lane ≤ 255) ms → KeptRoutes rs → OfRoutes (W.rewrite_all inside role (pitch b routes good) d ts ms rs)
   unfolding W.rewrite_all
@@ -183,8 +181,8 @@ module _ (b : Z.Board) (routes : List Z.Route) (good : OnDraftingGrid b routes) 
       go (λ (ss : List Z.Route) (q : KeptRoutes ss). rewrite_all_of inside role d ts ms ss h k.1 n.1 q) (W.put_route one m.edge rs) (put_of one m.edge rs (rewrite_one_of inside role d t.place m r h k.0 n.0 (route_at_of rs m.edge l)) l)
     where
       go : ((ss : List Z.Route) → KeptRoutes ss → OfRoutes (W.rewrite_all inside role (pitch b routes good) d ts ms ss)) → (o : Option (List Z.Route)) → OfRoutes o → OfRoutes (W.then_routes o (λ ss. W.rewrite_all inside role (pitch b routes good) d ts ms ss))
-      go f none q = unfold W.then_routes in tt
-      go f (some ss) q = unfold W.then_routes in f ss q
+      go f None q = unfold W.then_routes in tt
+      go f (Some ss) q = unfold W.then_routes in f ss q
 
   -- ---- the checks
   pub node_sides : Every (λ (n : Z.PlacedNode). Sides n.body) b.nodes
@@ -242,8 +240,8 @@ module _ (b : Z.Board) (routes : List Z.Route) (good : OnDraftingGrid b routes) 
       kd = (build_of b routes good) t.bundle t.planned s.routes h.0 k.routes
 
       go : (o : Option (List Z.Route)) → OfRoutes o → S.after_rewrite (option_routes o) s.left (λ rs. S.checked (board b) allow (turn t) (drawn d) (map drawn s.drawn) rs s.left) ≡ outcome (W.after_rewrite o s.left (λ rs. W.checked b allow t d s.drawn rs s.left))
-      go none q = unfold S.after_rewrite W.after_rewrite in refl
-      go (some rs) q = unfold S.after_rewrite W.after_rewrite in checked_on allow t d s.drawn rs s.left kd k.drawn q
+      go None q = unfold S.after_rewrite W.after_rewrite in refl
+      go (Some rs) q = unfold S.after_rewrite W.after_rewrite in checked_on allow t d s.drawn rs s.left kd k.drawn q
 
   turn_of : (allow : Bool) (t : W.Turn) (s : W.Progress) → Timely t → Standing s → OfOutcome (W.turn b allow t s)
   unfolding W.turn
@@ -259,8 +257,8 @@ module _ (b : Z.Board) (routes : List Z.Route) (good : OnDraftingGrid b routes) 
       kd = (build_of b routes good) t.bundle t.planned s.routes h.0 k.routes
 
       go : (o : Option (List Z.Route)) → OfRoutes o → OfOutcome (W.after_rewrite o s.left (λ rs. W.checked b allow t d s.drawn rs s.left))
-      go none q = unfold W.after_rewrite in tt
-      go (some rs) q = unfold W.after_rewrite in checked_of allow t d s.drawn rs s.left kd k.drawn q
+      go None q = unfold W.after_rewrite in tt
+      go (Some rs) q = unfold W.after_rewrite in checked_of allow t d s.drawn rs s.left kd k.drawn q
 
   -- THE SHEET before the last shift
   pub sheet_on : (allow : Bool) (ts : List W.Turn) (s : W.Progress) → Every Timely ts → Standing s → S.sheet_of (board b) allow (map turn ts) (progress s) ≡ outcome (W.sheet_of b allow ts s)

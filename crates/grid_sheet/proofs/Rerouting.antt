@@ -1,22 +1,19 @@
 -- Intersections, push_point and the rewritings of binary64 on numbers of the grid are those in whole numbers, and their points stay in range.
 -- Assumes nothing.
-use Rattle.std.specs.Prelude.{◌≡◌, ℕ, zero, suc, ◌+◌, ◌^◌, ◌≤◌, Bool, ◌||◌, ℤ, nat_abs, ◌+ℤ◌, ◌-ℤ◌, take, Float}
+use Rattle.std.specs.Prelude.{◌≡◌, ℕ, zero, suc, ◌+◌, ◌^◌, ◌≤◌, Bool, ◌||◌, ℤ, nat_abs, ◌+ℤ◌, ◌-ℤ◌, take, Float, Option, Some, None}
 use Rattle.std.proofs.Math.Path.{refl, sym, ap}
 use Rattle.std.proofs.Common.{◌∙◌, subst, arith}
 use Rattle.std.proofs.Math.Bool.{true, false, cond}
 use mathlib.Core.List.{List, [], ◌∷◌, ◌++◌, map, drop_last}
-use Rattle.std.proofs.Math.Option.{Option, none, some}
 use Rattle.std.proofs.Math.ListN.{drop}
 use Rattle.geometry.specs.declared.Point.{Point}
 use Rattle.geometry.specs.declared.Segment.{Segment}
 use Rattle.geometry.specs.declared.Role.{Role}
 use Rattle.geometry.specs.declared.Role.TheVariants.{Input, Output}
-use Rattle.geometry.specs.declared.Hit.{Hit}
 use Rattle.geometry.specs.Contact as C
 use Rattle.geometry.specs.Line as L
 use Rattle.geometry.specs.Stretch as G
 use Rattle.geometry.specs.Points.{Route, runs}
-use Rattle.route.specs.declared.Crossing.{Crossing}
 use Rattle.route.specs.Intersection as I
 use Rattle.route.specs.Push as P
 use Rattle.route.specs.Rewrite as F
@@ -56,12 +53,12 @@ OfCrossing Q R.Nowhere = Unit {0}
 OfCrossing Q (R.On i p) = Q p
 
 abbrev OfPoint : (Z.Point → Type 0) → Option Z.Point → Type 0
-OfPoint Q none = Unit {0}
-OfPoint Q (some p) = Q p
+OfPoint Q None = Unit {0}
+OfPoint Q (Some p) = Q p
 
 met_at_on : (i : ℕ) (o : Option Z.Point) → I.met_at i (hit o) ≡ crossing (R.met_at i o)
-met_at_on i none = refl
-met_at_on i (some p) = refl
+met_at_on i None = refl
+met_at_on i (Some p) = refl
 
 or_else_on : (a b : R.Crossing) → I.or_else (crossing a) (crossing b) ≡ crossing (R.or_else a b)
 unfolding I.or_else R.or_else
@@ -69,29 +66,29 @@ or_else_on R.Nowhere b = refl
 or_else_on (R.On i p) b = refl
 
 met_at_of : (Q : Z.Point → Type 0) (i : ℕ) (o : Option Z.Point) → OfPoint Q o → OfCrossing Q (R.met_at i o)
-met_at_of Q i none h = tt
-met_at_of Q i (some p) h = h
+met_at_of Q i None h = tt
+met_at_of Q i (Some p) h = h
 
 or_else_of : (Q : Z.Point → Type 0) (a b : R.Crossing) → OfCrossing Q a → OfCrossing Q b → OfCrossing Q (R.or_else a b)
 unfolding R.or_else
 or_else_of Q R.Nowhere b h k = k
 or_else_of Q (R.On i p) b h k = h
 
-module _ (f : Segment → Hit) (g : Z.Segment → Option Z.Point) where
+module _ (f : Segment → Option Point) (g : Z.Segment → Option Z.Point) where
   first_met_on : (i : ℕ) (ss : List Z.Segment) → Every (λ (s : Z.Segment). f (segment s) ≡ hit (g s)) ss → I.first_met f i (map segment ss) ≡ crossing (R.first_met g i ss)
   unfolding I.first_met R.first_met
   first_met_on i [] h = refl
   first_met_on i (s ∷ ss) h =
-      ap (λ (o : Hit). I.or_else (I.met_at i o) (I.first_met f (suc i) (map segment ss))) h.0
+      ap (λ (o : Option Point). I.or_else (I.met_at i o) (I.first_met f (suc i) (map segment ss))) h.0
       ∙ ap (I.or_else (I.met_at i (hit (g s)))) (first_met_on (suc i) ss h.1)
-      ∙ ap (λ (c : Crossing). I.or_else c (crossing (R.first_met g (suc i) ss))) (met_at_on i (g s)) ∙ or_else_on (R.met_at i (g s)) (R.first_met g (suc i) ss)
+      ∙ ap (λ (c : Option (ℕ × Point)). I.or_else c (crossing (R.first_met g (suc i) ss))) (met_at_on i (g s)) ∙ or_else_on (R.met_at i (g s)) (R.first_met g (suc i) ss)
 
   last_met_on : (i : ℕ) (ss : List Z.Segment) → Every (λ (s : Z.Segment). f (segment s) ≡ hit (g s)) ss → I.last_met f i (map segment ss) ≡ crossing (R.last_met g i ss)
   unfolding I.last_met R.last_met
   last_met_on i [] h = refl
   last_met_on i (s ∷ ss) h =
-      ap (λ (o : Hit). I.or_else (I.last_met f (suc i) (map segment ss)) (I.met_at i o)) h.0
-      ∙ ap (λ (c : Crossing). I.or_else c (I.met_at i (hit (g s)))) (last_met_on (suc i) ss h.1)
+      ap (λ (o : Option Point). I.or_else (I.last_met f (suc i) (map segment ss)) (I.met_at i o)) h.0
+      ∙ ap (λ (c : Option (ℕ × Point)). I.or_else c (I.met_at i (hit (g s)))) (last_met_on (suc i) ss h.1)
       ∙ ap (I.or_else (crossing (R.last_met g (suc i) ss))) (met_at_on i (g s)) ∙ or_else_on (R.last_met g (suc i) ss) (R.met_at i (g s))
 
 module _ (Q : Z.Point → Type 0) (g : Z.Segment → Option Z.Point) where
@@ -134,7 +131,7 @@ last_trunk_on r x role p h k = ap (I.last_met (λ s. G.on_trunk role (on p) (on 
 line_of : (e : Bool) (x : ℤ) (a b : Z.Point) → Within x → Kept a → Kept b → OfPoint Kept (Y.on_line e x a b)
 line_of e x a b h p q = go (Y.on_level x a b) (Y.on_upright x a b) e
   where
-    go : (s t e : Bool) → OfPoint Kept (cond s (some (record { x = x; y = a.y })) (cond t (cond e (some b) (some a)) none))
+    go : (s t e : Bool) → OfPoint Kept (cond s (Some (record { x = x; y = a.y })) (cond t (cond e (Some b) (Some a)) None))
     go true t e = (h, p.1)
     go false true true = q
     go false true false = p
@@ -147,7 +144,7 @@ At x p = (p.x ≡ x) × Within p.y
 trunk_of : (role : Role) (p x : ℤ) (a b : Z.Point) → Kept a → OfPoint (At x) (Y.on_trunk role p x a b)
 trunk_of role p x a b h = go (S.holds x (S.stretch role p a b))
   where
-    go : (t : Bool) → OfPoint (At x) (cond t (some (record { x = x; y = a.y })) none)
+    go : (t : Bool) → OfPoint (At x) (cond t (Some (record { x = x; y = a.y })) None)
     go true = (refl, h.1)
     go false = tt
 
@@ -215,12 +212,12 @@ push_points_of Q r [] h k = h
 push_points_of Q r (p ∷ ps) h k = push_points_of Q (R.push_point r p) ps (push_of Q r p h k.0) k.1
 
 pushed_on : (ps : Z.Route) (qs : Route) → qs ≡ route ps → Every Kept ps → F.pushed qs ≡ option_route (R.pushed ps)
-pushed_on ps qs e h = ap (λ (l : Route). some (P.push_points [] l)) e ∙ ap some (push_points_on [] ps tt (route_lies ps h))
+pushed_on ps qs e h = ap (λ (l : Route). Some (P.push_points [] l)) e ∙ ap Some (push_points_on [] ps tt (route_lies ps h))
 
 -- ---- the rewritings
 abbrev pub OfRoute : Option Z.Route → Type 0
-OfRoute none = Unit {0}
-OfRoute (some r) = Every Kept r
+OfRoute None = Unit {0}
+OfRoute (Some r) = Every Kept r
 
 map_take : (n : ℕ) (r : Z.Route) → take n (route r) ≡ route (take n r)
 map_take zero r = refl
@@ -243,30 +240,30 @@ drop_of (suc n) [] h = tt
 drop_of (suc n) (p ∷ r) h = drop_of n r h.1
 
 module _ (r : Z.Route) (kr : Every Kept r) (t : Z.Point) (kt : Kept t) where
-  if_at_tap : (p : Z.Point) (b : Bool) (qs : Route) (ps : Z.Route) → qs ≡ route ps → Every Kept ps → cond b (F.pushed qs) none ≡ option_route (cond b (R.pushed ps) none)
+  if_at_tap : (p : Z.Point) (b : Bool) (qs : Route) (ps : Z.Route) → qs ≡ route ps → Every Kept ps → cond b (F.pushed qs) None ≡ option_route (cond b (R.pushed ps) None)
   if_at_tap p true qs ps e h = pushed_on ps qs e h
   if_at_tap p false qs ps e h = refl
 
   pub input_trunk_on : (p : ℤ) → Pitch p → F.rewrite_input_shared_trunk (route r) (point t) (on p) ≡ option_route (R.rewrite_input_shared_trunk r t p)
   unfolding F.rewrite_input_shared_trunk
-  input_trunk_on p h = ap (λ (c : Crossing). F.where_met c (λ i q. cond (C.matches q (point t)) (F.pushed (point t ∷ drop (suc i) (route r))) none)) (first_trunk_on r t.x Input p h kr) ∙ go (R.first_shared_trunk_intersection r t.x Input p) (first_trunk_of r t.x Input p kr)
+  input_trunk_on p h = ap (λ (c : Option (ℕ × Point)). F.where_met c (λ i q. cond (C.matches q (point t)) (F.pushed (point t ∷ drop (suc i) (route r))) None)) (first_trunk_on r t.x Input p h kr) ∙ go (R.first_shared_trunk_intersection r t.x Input p) (first_trunk_of r t.x Input p kr)
     where
-      go : (c : R.Crossing) → OfCrossing (At t.x) c → F.where_met (crossing c) (λ i q. cond (C.matches q (point t)) (F.pushed (point t ∷ drop (suc i) (route r))) none) ≡ option_route (R.where_met c (λ i q. cond (Y.matches q t) (R.pushed (t ∷ drop (suc i) r)) none))
+      go : (c : R.Crossing) → OfCrossing (At t.x) c → F.where_met (crossing c) (λ i q. cond (C.matches q (point t)) (F.pushed (point t ∷ drop (suc i) (route r))) None) ≡ option_route (R.where_met c (λ i q. cond (Y.matches q t) (R.pushed (t ∷ drop (suc i) r)) None))
       go R.Nowhere k = unfold F.where_met R.where_met in refl
       go (R.On i q) k =
           unfold F.where_met R.where_met in
-          ap (λ (b : Bool). cond b (F.pushed (point t ∷ drop (suc i) (route r))) none) (matches_on q t (kept_lies q (subst Within (sym k.0) kt.0, k.1)) (kept_lies t kt))
+          ap (λ (b : Bool). cond b (F.pushed (point t ∷ drop (suc i) (route r))) None) (matches_on q t (kept_lies q (subst Within (sym k.0) kt.0, k.1)) (kept_lies t kt))
           ∙ if_at_tap q (Y.matches q t) (point t ∷ drop (suc i) (route r)) (t ∷ drop (suc i) r) (ap (λ (l : Route). point t ∷ l) (map_drop (suc i) r)) (kt, drop_of (suc i) r kr)
 
   pub output_trunk_on : (p : ℤ) → Pitch p → F.rewrite_output_shared_trunk (route r) (point t) (on p) ≡ option_route (R.rewrite_output_shared_trunk r t p)
   unfolding F.rewrite_output_shared_trunk
-  output_trunk_on p h = ap (λ (c : Crossing). F.where_met c (λ i q. cond (C.matches q (point t)) (F.pushed (take (suc i) (route r) ++ (point t ∷ []))) none)) (last_trunk_on r t.x Output p h kr) ∙ go (R.last_shared_trunk_intersection r t.x Output p) (last_trunk_of r t.x Output p kr)
+  output_trunk_on p h = ap (λ (c : Option (ℕ × Point)). F.where_met c (λ i q. cond (C.matches q (point t)) (F.pushed (take (suc i) (route r) ++ (point t ∷ []))) None)) (last_trunk_on r t.x Output p h kr) ∙ go (R.last_shared_trunk_intersection r t.x Output p) (last_trunk_of r t.x Output p kr)
     where
-      go : (c : R.Crossing) → OfCrossing (At t.x) c → F.where_met (crossing c) (λ i q. cond (C.matches q (point t)) (F.pushed (take (suc i) (route r) ++ (point t ∷ []))) none) ≡ option_route (R.where_met c (λ i q. cond (Y.matches q t) (R.pushed (take (suc i) r ++ (t ∷ []))) none))
+      go : (c : R.Crossing) → OfCrossing (At t.x) c → F.where_met (crossing c) (λ i q. cond (C.matches q (point t)) (F.pushed (take (suc i) (route r) ++ (point t ∷ []))) None) ≡ option_route (R.where_met c (λ i q. cond (Y.matches q t) (R.pushed (take (suc i) r ++ (t ∷ []))) None))
       go R.Nowhere k = unfold F.where_met R.where_met in refl
       go (R.On i q) k =
           unfold F.where_met R.where_met in
-          ap (λ (b : Bool). cond b (F.pushed (take (suc i) (route r) ++ (point t ∷ []))) none) (matches_on q t (kept_lies q (subst Within (sym k.0) kt.0, k.1)) (kept_lies t kt))
+          ap (λ (b : Bool). cond b (F.pushed (take (suc i) (route r) ++ (point t ∷ []))) None) (matches_on q t (kept_lies q (subst Within (sym k.0) kt.0, k.1)) (kept_lies t kt))
           ∙ if_at_tap q (Y.matches q t) (take (suc i) (route r) ++ (point t ∷ [])) (take (suc i) r ++ (t ∷ [])) (ap (λ (l : Route). l ++ (point t ∷ [])) (map_take (suc i) r) ∙ sym (map_append point (take (suc i) r) (t ∷ []))) (append_of Kept (take (suc i) r) (t ∷ []) (take_of (suc i) r kr) (kt, tt))
 
   -- a depth that keeps the corridor in range
@@ -283,7 +280,7 @@ module _ (r : Z.Route) (kr : Every Kept r) (t : Z.Point) (kt : Kept t) where
   unfolding F.rewrite_input_route F.corridor_x
   input_route_on d h =
       ap (λ (x : Float). F.where_met (I.first_vertical_line_intersection (route r) x) (λ i q. F.pushed (point t ∷ F.corner x (point t) ∷ q ∷ drop (suc i) (route r)))) (add_on t.x d (omega arith))
-      ∙ ap (λ (c : Crossing). F.where_met c (λ i q. F.pushed (point t ∷ point (R.corner (t.x +ℤ d) t) ∷ q ∷ drop (suc i) (route r)))) (first_vertical_on r (t.x +ℤ d))
+      ∙ ap (λ (c : Option (ℕ × Point)). F.where_met c (λ i q. F.pushed (point t ∷ point (R.corner (t.x +ℤ d) t) ∷ q ∷ drop (suc i) (route r)))) (first_vertical_on r (t.x +ℤ d))
       ∙ go (R.first_vertical_line_intersection r (t.x +ℤ d)) (first_met_of Kept (λ s. Y.on_line false (t.x +ℤ d) s.start s.end) 0 (Z.runs r) (lines_of false (t.x +ℤ d) r (corridor_in d h) kr))
     where
       go : (c : R.Crossing) → OfCrossing Kept c → F.where_met (crossing c) (λ i q. F.pushed (point t ∷ point (R.corner (t.x +ℤ d) t) ∷ q ∷ drop (suc i) (route r))) ≡ option_route (R.where_met c (λ i q. R.pushed (t ∷ R.corner (t.x +ℤ d) t ∷ q ∷ drop (suc i) r)))
@@ -296,7 +293,7 @@ module _ (r : Z.Route) (kr : Every Kept r) (t : Z.Point) (kt : Kept t) where
   unfolding F.rewrite_output_route F.corridor_x
   output_route_on d h =
       ap (λ (x : Float). F.where_met (I.last_vertical_line_intersection (route r) x) (λ i q. F.pushed (take (suc i) (route r) ++ (q ∷ F.corner x (point t) ∷ point t ∷ [])))) (sub_on t.x d (omega arith))
-      ∙ ap (λ (c : Crossing). F.where_met c (λ i q. F.pushed (take (suc i) (route r) ++ (q ∷ point (R.corner (t.x -ℤ d) t) ∷ point t ∷ [])))) (last_vertical_on r (t.x -ℤ d))
+      ∙ ap (λ (c : Option (ℕ × Point)). F.where_met c (λ i q. F.pushed (take (suc i) (route r) ++ (q ∷ point (R.corner (t.x -ℤ d) t) ∷ point t ∷ [])))) (last_vertical_on r (t.x -ℤ d))
       ∙ go (R.last_vertical_line_intersection r (t.x -ℤ d)) (last_met_of Kept (λ s. Y.on_line true (t.x -ℤ d) s.start s.end) 0 (Z.runs r) (lines_of true (t.x -ℤ d) r (corridor_out d h) kr))
     where
       go : (c : R.Crossing) → OfCrossing Kept c → F.where_met (crossing c) (λ i q. F.pushed (take (suc i) (route r) ++ (q ∷ point (R.corner (t.x -ℤ d) t) ∷ point t ∷ []))) ≡ option_route (R.where_met c (λ i q. R.pushed (take (suc i) r ++ (q ∷ R.corner (t.x -ℤ d) t ∷ t ∷ []))))
@@ -308,21 +305,21 @@ module _ (r : Z.Route) (kr : Every Kept r) (t : Z.Point) (kt : Kept t) where
           (append_of Kept (take (suc i) r) (q ∷ R.corner (t.x -ℤ d) t ∷ t ∷ []) (take_of (suc i) r kr) (k, ((corridor_out d h, kt.1), (kt, tt))))
 
   -- ---- and their points stay in range
-  if_of : (b : Bool) (ps : Z.Route) → Every Kept ps → OfRoute (cond b (R.pushed ps) none)
+  if_of : (b : Bool) (ps : Z.Route) → Every Kept ps → OfRoute (cond b (R.pushed ps) None)
   if_of true ps h = push_points_of Kept [] ps tt h
   if_of false ps h = tt
 
   pub input_trunk_of : (p : ℤ) → OfRoute (R.rewrite_input_shared_trunk r t p)
   input_trunk_of p = go (R.first_shared_trunk_intersection r t.x Input p)
     where
-      go : (c : R.Crossing) → OfRoute (R.where_met c (λ i q. cond (Y.matches q t) (R.pushed (t ∷ drop (suc i) r)) none))
+      go : (c : R.Crossing) → OfRoute (R.where_met c (λ i q. cond (Y.matches q t) (R.pushed (t ∷ drop (suc i) r)) None))
       go R.Nowhere = unfold R.where_met in tt
       go (R.On i q) = unfold R.where_met in if_of (Y.matches q t) (t ∷ drop (suc i) r) (kt, drop_of (suc i) r kr)
 
   pub output_trunk_of : (p : ℤ) → OfRoute (R.rewrite_output_shared_trunk r t p)
   output_trunk_of p = go (R.last_shared_trunk_intersection r t.x Output p)
     where
-      go : (c : R.Crossing) → OfRoute (R.where_met c (λ i q. cond (Y.matches q t) (R.pushed (take (suc i) r ++ (t ∷ []))) none))
+      go : (c : R.Crossing) → OfRoute (R.where_met c (λ i q. cond (Y.matches q t) (R.pushed (take (suc i) r ++ (t ∷ []))) None))
       go R.Nowhere = unfold R.where_met in tt
       go (R.On i q) = unfold R.where_met in if_of (Y.matches q t) (take (suc i) r ++ (t ∷ [])) (append_of Kept (take (suc i) r) (t ∷ []) (take_of (suc i) r kr) (kt, tt))
 

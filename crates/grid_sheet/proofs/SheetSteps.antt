@@ -1,20 +1,17 @@
 -- Taps and the tests of the two checks in whole numbers over 128, and that binary64's are the same.
 -- Assumes nothing.
-use Rattle.std.specs.Prelude.{◌≡◌, refl, ℕ, suc, ◌^◌, ◌≤◌, Bool, true, false, ◌&&◌, ◌||◌, cond, List, [], ◌∷◌, ◌++◌, map, ℤ, nat_abs, eqb, Float}
+use Rattle.std.specs.Prelude.{◌≡◌, refl, ℕ, suc, ◌^◌, ◌≤◌, Bool, true, false, ◌&&◌, ◌||◌, cond, List, [], ◌∷◌, ◌++◌, map, ℤ, nat_abs, eqb, Float, Option, Some, None}
 use Rattle.std.proofs.Common.{sym, ap, ◌∙◌, subst, arith}
-use Rattle.std.proofs.Math.Option.{Option, none, some}
 use Rattle.std.proofs.Math.ListN.{get_or-map}
 use Rattle.geometry.specs.declared.Point.{Point}
 use Rattle.geometry.specs.declared.Segment.{Segment}
 use Rattle.geometry.specs.declared.Role.{Role}
 use Rattle.geometry.specs.declared.Role.TheVariants.{Input, Output}
-use Rattle.geometry.specs.declared.Tap.{Tap}
 use Rattle.geometry.specs.Contact as C
 use Rattle.geometry.specs.Kind.{disallowed}
 use Rattle.geometry.specs.Spacing as G
 use Rattle.geometry.specs.Enters as E
 use Rattle.geometry.specs.Points.{Route, runs}
-use Rattle.route.specs.declared.Crossing.{Crossing}
 use Rattle.route.specs.Rewrite as F
 use Rattle.board.specs.declared.Edge.{Edge}
 use Rattle.board.specs.declared.Member.{Member}
@@ -53,9 +50,9 @@ tapped_kept t h = (let a = h.0 in omega arith, h.1)
 tap_of_on : (ts : List W.TapOn) (i : ℕ) → D.tap_of (map tap_on ts) i ≡ tap (W.tap_of ts i)
 unfolding D.tap_of W.tap_of
 tap_of_on [] i = refl
-tap_of_on (t ∷ ts) i = ap (cond (eqb t.edge i) (tap (some t.place))) (tap_of_on ts i) ∙ go (eqb t.edge i) (W.tap_of ts i)
+tap_of_on (t ∷ ts) i = ap (cond (eqb t.edge i) (tap (Some t.place))) (tap_of_on ts i) ∙ go (eqb t.edge i) (W.tap_of ts i)
   where
-    go : (b : Bool) (o : Option Z.Point) → cond b (tap (some t.place)) (tap o) ≡ tap (cond b (some t.place) o)
+    go : (b : Bool) (o : Option Z.Point) → cond b (tap (Some t.place)) (tap o) ≡ tap (cond b (Some t.place) o)
     go true o = refl
     go false o = refl
 
@@ -64,7 +61,7 @@ unfolding W.tap_of
 tap_of_of [] i h = tt
 tap_of_of (t ∷ ts) i h = go (eqb t.edge i) (W.tap_of ts i) (tap_of_of ts i h.1)
   where
-    go : (b : Bool) (o : Option Z.Point) → OfTap o → OfTap (cond b (some t.place) o)
+    go : (b : Bool) (o : Option Z.Point) → OfTap o → OfTap (cond b (Some t.place) o)
     go true o k = kept_lies t.place (tapped_kept t h.0)
     go false o k = k
 
@@ -139,25 +136,25 @@ trunk_met_of Output p x r k = last_trunk_of r x Output p k
 tap_then_on : (c : R.Crossing) (i : ℕ) (o : Option (List W.TapOn)) → D.tap_then (crossing c) i (option_taps o) ≡ option_taps (W.tap_then c i o)
 unfolding D.tap_then W.tap_then
 tap_then_on R.Nowhere i o = refl
-tap_then_on (R.On k p) i none = refl
-tap_then_on (R.On k p) i (some ts) = refl
+tap_then_on (R.On k p) i None = refl
+tap_then_on (R.On k p) i (Some ts) = refl
 
 abbrev pub OfTaps : Option (List W.TapOn) → Type 0
-OfTaps none = Unit {0}
-OfTaps (some ts) = Every Tapped ts
+OfTaps None = Unit {0}
+OfTaps (Some ts) = Every Tapped ts
 
 tap_then_of : (x : ℤ) (c : R.Crossing) (i : ℕ) (o : Option (List W.TapOn)) → Near x → OfCrossing (At x) c → OfTaps o → OfTaps (W.tap_then c i o)
 unfolding W.tap_then
 tap_then_of x R.Nowhere i o n h k = tt
-tap_then_of x (R.On j p) i none n h k = tt
-tap_then_of x (R.On j p) i (some ts) n h k = ((subst (λ (z : ℤ). nat_abs z ≤ 2 ^ 30) (sym h.0) (omega arith), h.1), k)
+tap_then_of x (R.On j p) i None n h k = tt
+tap_then_of x (R.On j p) i (Some ts) n h k = ((subst (λ (z : ℤ). nat_abs z ≤ 2 ^ 30) (sym h.0) (omega arith), h.1), k)
 
 pub trunk_taps_on : (role : Role) (p x : ℤ) (ms : List Member) (rs : List Z.Route) → Pitch p → KeptRoutes rs → D.trunk_taps role (on p) (on x) ms (map route rs) ≡ option_taps (W.trunk_taps role p x ms rs)
 unfolding D.trunk_taps W.trunk_taps
 trunk_taps_on role p x [] rs h k = refl
 trunk_taps_on role p x (m ∷ ms) rs h k =
     ap (λ (r : Route). D.tap_then (D.trunk_met role (on p) (on x) r) m.edge (D.trunk_taps role (on p) (on x) ms (map route rs))) (route_at_on rs m.edge)
-    ∙ ap (λ (c : Crossing). D.tap_then c m.edge (D.trunk_taps role (on p) (on x) ms (map route rs))) (trunk_met_on role p x (W.route_at rs m.edge) h (route_at_of rs m.edge k))
+    ∙ ap (λ (c : Option (ℕ × Point)). D.tap_then c m.edge (D.trunk_taps role (on p) (on x) ms (map route rs))) (trunk_met_on role p x (W.route_at rs m.edge) h (route_at_of rs m.edge k))
     ∙ ap (D.tap_then (crossing (W.trunk_met role p x (W.route_at rs m.edge))) m.edge) (trunk_taps_on role p x ms rs h k)
     ∙ tap_then_on (W.trunk_met role p x (W.route_at rs m.edge)) m.edge (W.trunk_taps role p x ms rs)
 
@@ -186,7 +183,7 @@ route_runs r h = every_map (λ (s : Z.Segment). Kept s.start × Kept s.end) Lies
 route_tests_on : (o : Z.Options) (allow : Bool) (bus : Z.Segment) (ts : List W.TapOn) (i : ℕ) (r : Z.Route) → LiesOn bus → Every Tapped ts → Every Kept r → K.route_tests (options o) allow (segment bus) (map tap_on ts) i (route r) ≡ W.route_tests o allow bus ts i r
 route_tests_on o allow bus ts i r h k l =
     ap (λ (m : List Segment). K.run_tests (options o) allow (segment bus) (D.tap_of (map tap_on ts) i) m) (runs_on r)
-    ∙ ap (λ (t : Tap). K.run_tests (options o) allow (segment bus) t (map segment (Z.runs r))) (tap_of_on ts i)
+    ∙ ap (λ (t : Option Point). K.run_tests (options o) allow (segment bus) t (map segment (Z.runs r))) (tap_of_on ts i)
     ∙ run_tests_on o allow bus (W.tap_of ts i) (Z.runs r) h (tap_of_of ts i k) (route_runs r l)
 
 pub over_on : (f : ℕ → Route → List Test) (g : ℕ → Z.Route → List Test) → ((i : ℕ) (r : Z.Route) → Every Kept r → f i (route r) ≡ g i r) → (chosen : ℕ → Bool) (rs : List Z.Route) (i : ℕ) → KeptRoutes rs → K.over_routes f chosen (map route rs) i ≡ W.over_routes g chosen rs i
@@ -207,10 +204,10 @@ pair_tests_on : (o : Z.Options) (allow : Bool) (d e : W.Drawn) → KeptDrawn d �
 unfolding K.pair_tests W.pair_tests
 pair_tests_on o allow d e h k =
     rw (
-      clash_on o allow d.collector none e.collector (segment_lies d.collector h.0) tt (segment_lies e.collector k.0),
-      clash_on o allow d.collector none e.spine (segment_lies d.collector h.0) tt (segment_lies e.spine k.1),
-      clash_on o allow d.spine none e.collector (segment_lies d.spine h.1) tt (segment_lies e.collector k.0),
-      clash_on o allow d.spine none e.spine (segment_lies d.spine h.1) tt (segment_lies e.spine k.1),
+      clash_on o allow d.collector None e.collector (segment_lies d.collector h.0) tt (segment_lies e.collector k.0),
+      clash_on o allow d.collector None e.spine (segment_lies d.collector h.0) tt (segment_lies e.spine k.1),
+      clash_on o allow d.spine None e.collector (segment_lies d.spine h.1) tt (segment_lies e.collector k.0),
+      clash_on o allow d.spine None e.spine (segment_lies d.spine h.1) tt (segment_lies e.spine k.1),
     )
 
 prior_tests_on : (o : Z.Options) (allow : Bool) (new : W.Drawn) (changed : ℕ → Bool) (ds : List W.Drawn) (rs : List Z.Route) → KeptDrawn new → Every KeptDrawn ds → KeptRoutes rs → K.prior_tests (options o) allow (drawn new) changed (map drawn ds) (map route rs) ≡ W.prior_tests o allow new changed ds rs

@@ -1,9 +1,8 @@
 -- The tests on segments of binary64 on numbers of the grid are those in whole numbers.
 -- Assumes nothing.
-use Rattle.std.specs.Prelude.{◌≡◌, refl, Bool, true, false, not, ◌&&◌, ◌||◌, cond, ℤ, pos, nat_abs, ◌+ℤ◌, ◌-ℤ◌, Float}
+use Rattle.std.specs.Prelude.{◌≡◌, refl, Bool, true, false, not, ◌&&◌, ◌||◌, cond, ℤ, pos, nat_abs, ◌+ℤ◌, ◌-ℤ◌, Float, Option, Some, None}
 use Rattle.std.proofs.Common.{sym, ap, ◌∙◌, arith}
 use Rattle.std.specs.Bool.{beq}
-use Rattle.std.proofs.Math.Option.{Option, none, some}
 use Rattle.std.specs.Float.{binary64}
 use Rattle.std.specs.Float.Ieee.{lt, le, eq, add}
 use Rattle.binary64.specs.Order.{greatest, magnitude, near}
@@ -11,11 +10,9 @@ use Rattle.geometry.specs.declared.Point.{Point}
 use Rattle.geometry.specs.declared.Segment.{Segment}
 use Rattle.geometry.specs.declared.Node.{Node}
 use Rattle.geometry.specs.declared.Role.{Role}
-use Rattle.geometry.specs.declared.Hit.TheVariants as H
 use Rattle.geometry.specs.declared.Span.{Span}
 use Rattle.geometry.specs.declared.Meet.{Meet}
 use Rattle.geometry.specs.declared.Meet.TheVariants as M
-use Rattle.geometry.specs.declared.Stretch.{Stretch}
 use Rattle.geometry.specs.declared.Contact.{Contact}
 use Rattle.geometry.specs.declared.Contact.TheVariants as kinds
 use Rattle.geometry.specs.Contact as C
@@ -152,8 +149,8 @@ meet_of bus a b h p q =
 
 -- ---- the kind of contact
 at_tap_on : (t : Option Z.Point) (p : Z.Point) → OfTap t → Lies p → C.at_tap (tap t) (point p) ≡ Y.at_tap t p
-at_tap_on none p h k = refl
-at_tap_on (some q) p h k = matches_on q p h k
+at_tap_on None p h k = refl
+at_tap_on (Some q) p h k = matches_on q p h k
 
 perpendicular_on : (bus : Z.Segment) (a b : Z.Point) → C.perpendicular (segment bus) (point a) (point b) ≡ Y.perpendicular bus a b
 perpendicular_on bus a b = ap (λ (t : Bool). not (beq t (C.level (point a) (point b)))) (level_on bus.start bus.end) ∙ ap (λ (t : Bool). not (beq (Y.level bus.start bus.end) t)) (level_on a b)
@@ -216,7 +213,7 @@ on_line_on prefer_end x a b =
     rw (least_on a.x b.x, greatest_on a.x b.x, eq_on a.y b.y, le_on (smaller a.x b.x) x, le_on x (larger a.x b.x), eq_on a.x x, eq_on b.x x)
     (go (Y.on_level x a b) (Y.on_upright x a b) prefer_end)
   where
-    go : (s t e : Bool) → cond s (H.Met (record { x = on x; y = on a.y })) (cond t (cond e (H.Met (point b)) (H.Met (point a))) H.Missed) ≡ hit (cond s (some (record { x = x; y = a.y })) (cond t (cond e (some b) (some a)) none))
+    go : (s t e : Bool) → cond s (Some (record { x = on x; y = on a.y })) (cond t (cond e (Some (point b)) (Some (point a))) None) ≡ hit (cond s (Some (record { x = x; y = a.y })) (cond t (cond e (Some b) (Some a)) None))
     go true t e = refl
     go false true true = refl
     go false true false = refl
@@ -224,10 +221,10 @@ on_line_on prefer_end x a b =
 
 pub on_trunk_on : (role : Role) (p x : ℤ) (a b : Z.Point) → Fit a.x p → Fit b.x p → G.on_trunk role (on p) (on x) (point a) (point b) ≡ hit (Y.on_trunk role p x a b)
 on_trunk_on role p x a b h k =
-    ap (λ (s : Stretch). cond (G.holds (on x) s) (H.Met (record { x = on x; y = on a.y })) H.Missed) (stretch_on role p a b h k)
-    ∙ ap (λ (t : Bool). cond t (H.Met (record { x = on x; y = on a.y })) H.Missed) (holds_on x (S.stretch role p a b))
+    ap (λ (s : Option (Float × Float)). cond (G.holds (on x) s) (Some (record { x = on x; y = on a.y })) None) (stretch_on role p a b h k)
+    ∙ ap (λ (t : Bool). cond t (Some (record { x = on x; y = on a.y })) None) (holds_on x (S.stretch role p a b))
     ∙ go (S.holds x (S.stretch role p a b))
   where
-    go : (t : Bool) → cond t (H.Met (record { x = on x; y = on a.y })) H.Missed ≡ hit (cond t (some (record { x = x; y = a.y })) none)
+    go : (t : Bool) → cond t (Some (record { x = on x; y = on a.y })) None ≡ hit (cond t (Some (record { x = x; y = a.y })) None)
     go true = refl
     go false = refl

@@ -1,9 +1,8 @@
 -- The sheet before the last shift, from the board and planned x: binary64's is the image of the one in whole numbers, and its numbers are small.
 -- Assumes nothing.
-use Rattle.std.specs.Prelude.{◌≡◌, refl, ℕ, ◌^◌, Bool, ℤ, Float}
+use Rattle.std.specs.Prelude.{◌≡◌, refl, ℕ, ◌^◌, Bool, ℤ, Float, Option, Some, None}
 use Rattle.std.proofs.Common.{ap, ◌∙◌, arith}
 use mathlib.Core.List.{List, [], ◌∷◌, map}
-use Rattle.std.proofs.Math.Option.{Option, none, some}
 use Rattle.geometry.specs.Points.{Route}
 use Rattle.board.specs.declared.Bundle.{Bundle}
 use Rattle.board.specs.Board.{Board}
@@ -39,8 +38,8 @@ turns_on (u ∷ us) (x ∷ xs) [] = refl
 turns_on (u ∷ us) (x ∷ xs) (d ∷ ds) = ap (λ (o : Option Float). record { bundle = u; planned = o; offset = on d } ∷ S.turns_from us (map bound xs) (map on ds)) (planned x) ∙ ap (λ (l : List S.Turn). turn (record { bundle = u; planned = x; offset = d }) ∷ l) (turns_on us xs ds)
   where
     planned : (x : Option ℤ) → S.planned_x (bound x) ≡ M.number x
-    planned none = refl
-    planned (some z) = refl
+    planned None = refl
+    planned (Some z) = refl
 
 module _ (b : Z.Board) (routes : List Z.Route) (good : OnDraftingGrid b routes) where
   turns_timely : (us : List Bundle) (xs : List (Option ℤ)) (ds : List ℤ) → Every Placed xs → Every (Sized (2 ^ 44)) ds → Every (Timely) (W.turns_from us xs ds)

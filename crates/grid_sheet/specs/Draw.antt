@@ -1,7 +1,6 @@
 -- The sheet before the last shift in whole numbers over 128: the twin of drawing/specs/Build, Rewrite, Check and Sheet, name for name. build_geometry, rewrite_member_routes and the two verifiers of boundary_bundles.rs, bundle after bundle. Definitions only.
 -- Assumes nothing.
-use Rattle.std.specs.Prelude.{ℕ, suc, ◌+◌, ◌-◌, List, [], ◌∷◌, ◌++◌, Bool, true, false, ◌&&◌, ◌||◌, cond, eqb, ltb, length, get_or, set, ℤ, pos, nat_abs, ◌+ℤ◌, ◌-ℤ◌, ◌*ℤ◌}
-use Rattle.std.proofs.Math.Option.{Option, none, some}
+use Rattle.std.specs.Prelude.{ℕ, suc, ◌+◌, ◌-◌, List, [], ◌∷◌, ◌++◌, Bool, true, false, ◌&&◌, ◌||◌, cond, eqb, ltb, length, get_or, set, ℤ, pos, nat_abs, ◌+ℤ◌, ◌-ℤ◌, ◌*ℤ◌, Option, Some, None}
 use Rattle.geometry.specs.declared.Role.{Role}
 use Rattle.geometry.specs.declared.Role.TheVariants.{Input, Output}
 use Rattle.geometry.specs.Kind.{disallowed}
@@ -9,8 +8,7 @@ use Rattle.board.specs.declared.Edge.{Edge}
 use Rattle.board.specs.declared.Bundle.{Bundle}
 use Rattle.board.specs.declared.Member.{Member}
 use Rattle.plan.specs.Depths.{lane_count}
-use Rattle.drawing.specs.declared.Verdict.{Verdict}
-use Rattle.drawing.specs.declared.Verdict.TheVariants.{Clean, Refused}
+use Rattle.drawing.specs.Verdict.{Verdict, Clean, Refused}
 use Rattle.drawing.specs.Check.{Test, due, barred, walk, among, own, no_edge, every_route}
 use Rattle.grid_plan.specs.Board.{Point, Segment, PlacedNode, Options, Board, Route, runs, rail_depth, endpoint_of, members_in, pitch_of, inward}
 use Rattle.grid_sheet.specs.Touch.{slanted, kind, too_close, passes_inside}
@@ -40,8 +38,8 @@ route_at rs i = get_or rs i []
 
 -- permitted_taps.get: a route's tap among those of a bundle
 unfoldable pub tap_of : List TapOn → ℕ → Option Point
-tap_of [] i = none
-tap_of (t ∷ ts) i = cond (eqb t.edge i) (some t.place) (tap_of ts i)
+tap_of [] i = None
+tap_of (t ∷ ts) i = cond (eqb t.edge i) (Some t.place) (tap_of ts i)
 
 -- ---- at the planned x
 unfoldable pub trunk_met : Role → ℤ → ℤ → Route → Crossing
@@ -49,13 +47,13 @@ trunk_met Input pitch x r = first_shared_trunk_intersection r x Input pitch
 trunk_met Output pitch x r = last_shared_trunk_intersection r x Output pitch
 
 unfoldable pub tap_then : Crossing → ℕ → Option (List TapOn) → Option (List TapOn)
-tap_then Nowhere i later = none
-tap_then (On k p) i none = none
-tap_then (On k p) i (some ts) = some (record { edge = i; place = p } ∷ ts)
+tap_then Nowhere i later = None
+tap_then (On k p) i None = None
+tap_then (On k p) i (Some ts) = Some (record { edge = i; place = p } ∷ ts)
 
 -- each member's tap at x, if every member's route has one
 unfoldable pub trunk_taps : Role → ℤ → ℤ → List Member → List Route → Option (List TapOn)
-trunk_taps role pitch x [] rs = some []
+trunk_taps role pitch x [] rs = Some []
 trunk_taps role pitch x (m ∷ ms) rs = tap_then (trunk_met role pitch x (route_at rs m.edge)) m.edge (trunk_taps role pitch x ms rs)
 
 unfoldable pub lowest : ℤ → List TapOn → ℤ
@@ -118,13 +116,13 @@ railed b u =
     drawn_as b u (seg (pt corner.x (rail_low ts corner.y)) (pt corner.x (rail_high ts corner.y))) (seg (endpoint_of b u) corner) ts
 
 unfoldable pub inside_or : Option (List TapOn) → Board → Bundle → ℤ → Drawn
-inside_or none b u x = railed b u
-inside_or (some ts) b u x = drawn_inside b u x ts
+inside_or None b u x = railed b u
+inside_or (Some ts) b u x = drawn_inside b u x ts
 
 -- build_geometry
 unfoldable pub build : Board → Bundle → Option ℤ → List Route → Drawn
-build b u none rs = railed b u
-build b u (some x) rs = inside_or (trunk_taps u.role (pitch_of b u) x (members_in b u) rs) b u x
+build b u None rs = railed b u
+build b u (Some x) rs = inside_or (trunk_taps u.role (pitch_of b u) x (members_in b u) rs) b u x
 
 -- ---- rewrite_member_routes
 unfoldable pub rewritten : Bool → Role → ℤ → ℤ → Point → Route → Option Route
@@ -135,8 +133,8 @@ rewritten false Output pitch depth tap r = rewrite_output_route r tap depth
 
 -- a route of fewer than two points is refused, before and after
 unfoldable pub two_points : Option Route → Option Route
-two_points none = none
-two_points (some r) = cond (ltb (length r) 2) none (some r)
+two_points None = None
+two_points (Some r) = cond (ltb (length r) 2) None (Some r)
 
 -- `corridor_offset + (tap_lane + 1) as f64 * pitch`
 unfoldable pub corridor_depth : ℤ → ℤ → Member → ℤ
@@ -144,20 +142,20 @@ corridor_depth offset pitch m = offset +ℤ (pos (suc m.tap_lane) *ℤ pitch)
 
 unfoldable pub rewrite_one : Bool → Role → ℤ → ℤ → Point → Member → Route → Option Route
 rewrite_one inside role pitch offset tap m r =
-    cond (ltb (length r) 2) none (two_points (rewritten inside role pitch (corridor_depth offset pitch m) tap r))
+    cond (ltb (length r) 2) None (two_points (rewritten inside role pitch (corridor_depth offset pitch m) tap r))
 
 unfoldable pub put_route : Option Route → ℕ → List Route → Option (List Route)
-put_route none i rs = none
-put_route (some r) i rs = some (set rs i r)
+put_route None i rs = None
+put_route (Some r) i rs = Some (set rs i r)
 
 unfoldable pub then_routes : Option (List Route) → (List Route → Option (List Route)) → Option (List Route)
-then_routes none k = none
-then_routes (some rs) k = k rs
+then_routes None k = None
+then_routes (Some rs) k = k rs
 
 -- rewrite_member_routes: member after member with its tap; none is refusal 10
 unfoldable pub rewrite_all : Bool → Role → ℤ → ℤ → List TapOn → List Member → List Route → Option (List Route)
-rewrite_all inside role pitch offset [] ms rs = some rs
-rewrite_all inside role pitch offset (t ∷ ts) [] rs = some rs
+rewrite_all inside role pitch offset [] ms rs = Some rs
+rewrite_all inside role pitch offset (t ∷ ts) [] rs = Some rs
 rewrite_all inside role pitch offset (t ∷ ts) (m ∷ ms) rs =
     then_routes (put_route (rewrite_one inside role pitch offset t.place m (route_at rs m.edge)) m.edge rs)
     (λ ss. rewrite_all inside role pitch offset ts ms ss)
@@ -186,10 +184,10 @@ drawn_tests o allow d chosen rs =
 -- the new bundle's segments against an earlier one's
 unfoldable pub pair_tests : Options → Bool → Drawn → Drawn → List Test
 pair_tests o allow new prior =
-    due (clash o allow new.collector none prior.collector)
-    ∷ due (clash o allow new.collector none prior.spine)
-    ∷ due (clash o allow new.spine none prior.collector)
-    ∷ due (clash o allow new.spine none prior.spine)
+    due (clash o allow new.collector None prior.collector)
+    ∷ due (clash o allow new.collector None prior.spine)
+    ∷ due (clash o allow new.spine None prior.collector)
+    ∷ due (clash o allow new.spine None prior.spine)
     ∷ []
 
 -- each earlier bundle against the changed routes, then against the new one
@@ -251,8 +249,8 @@ after_turn (going s) k = k s
 
 -- n visits are left
 unfoldable pub after_rewrite : Option (List Route) → ℕ → (List Route → Outcome) → Outcome
-after_rewrite none n k = refused 10 n
-after_rewrite (some rs) n k = k rs
+after_rewrite None n k = refused 10 n
+after_rewrite (Some rs) n k = k rs
 
 abbrev pub drawn_at : Board → Turn → Progress → Drawn
 drawn_at b t s = build b t.bundle t.planned s.routes

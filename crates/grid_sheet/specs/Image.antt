@@ -1,12 +1,8 @@
 -- What a sheet in whole numbers is in binary64, n being n / 128. Definitions only.
 -- Assumes nothing.
-use Rattle.std.specs.Prelude.{map, ℤ, Float}
-use Rattle.std.proofs.Math.Option.{Option, none, some}
-use Rattle.geometry.specs.declared.Tap.{Tap}
-use Rattle.geometry.specs.declared.Tap.TheVariants as T
-use Rattle.geometry.specs.declared.Hit.TheVariants as H
+use Rattle.std.specs.Prelude.{map, ℤ, Float, Option, Some, None}
+use Rattle.geometry.specs.declared.Point.{Point}
 use Rattle.geometry.specs.declared.Meet.TheVariants as M
-use Rattle.route.specs.declared.Crossing.TheVariants as C
 use Rattle.drawing.specs.Build as D
 use Rattle.drawing.specs.Sheet as S
 use Rattle.drawing.specs.Normal as N
@@ -18,9 +14,9 @@ use Rattle.grid_sheet.specs.Draw as W
 use Rattle.grid_sheet.specs.Page as X
 use Rattle.grid.specs.On.{on}
 
-abbrev pub tap : Option Z.Point → Tap
-tap none = T.Absent
-tap (some p) = T.At (point p)
+abbrev pub tap : Option Z.Point → Option Point
+tap None = None
+tap (Some p) = Some (point p)
 
 abbrev pub tap_on : W.TapOn → D.TapOn
 tap_on t = record { edge = t.edge; place = point t.place }
@@ -29,8 +25,8 @@ abbrev pub drawn : W.Drawn → D.Drawn
 drawn d = record { collector = segment d.collector; spine = segment d.spine; taps = map tap_on d.taps; interior = d.interior }
 
 abbrev pub number : Option ℤ → Option Float
-number none = none
-number (some z) = some (on z)
+number None = None
+number (Some z) = Some (on z)
 
 abbrev pub turn : W.Turn → S.Turn
 turn t = record { bundle = t.bundle; planned = number t.planned; offset = on t.offset }

@@ -1,8 +1,7 @@
 -- Intersections, push_point and the four rewritings in whole numbers over 128: the twin of route/specs/Intersection, Push and Rewrite, name for name. Definitions only.
 -- Assumes nothing.
-use Rattle.std.specs.Prelude.{ℕ, suc, Bool, true, false, ◌&&◌, ◌||◌, cond, ℤ, ◌+ℤ◌, ◌-ℤ◌, take, drop}
+use Rattle.std.specs.Prelude.{ℕ, suc, Bool, true, false, ◌&&◌, ◌||◌, cond, ℤ, ◌+ℤ◌, ◌-ℤ◌, take, drop, Option, Some, None}
 use mathlib.Core.List.{List, [], ◌∷◌, ◌++◌, drop_last}
-use Rattle.std.proofs.Math.Option.{Option, none, some}
 use Rattle.geometry.specs.declared.Role.{Role}
 use Rattle.geometry.specs.declared.Role.TheVariants.{Input, Output}
 use Rattle.grid_plan.specs.Board.{Point, Segment, Route, runs}
@@ -15,8 +14,8 @@ pub data Crossing : Type 0 where
   On : ℕ → Point → Crossing
 
 abbrev pub met_at : ℕ → Option Point → Crossing
-met_at i none = Nowhere
-met_at i (some p) = On i p
+met_at i None = Nowhere
+met_at i (Some p) = On i p
 
 unfoldable pub or_else : Crossing → Crossing → Crossing
 or_else Nowhere c = c
@@ -70,7 +69,7 @@ push_points r (p ∷ ps) = push_points (push_point r p) ps
 
 -- ---- the four rewritings
 unfoldable pub where_met : Crossing → (ℕ → Point → Option Route) → Option Route
-where_met Nowhere k = none
+where_met Nowhere k = None
 where_met (On i p) k = k i p
 
 -- where the corridor of a tap stands, its depth away from the tap
@@ -84,19 +83,19 @@ corner x tap = record { x = x; y = tap.y }
 
 -- the points pushed on an empty route
 abbrev pub pushed : List Point → Option Route
-pushed ps = some (push_points [] ps)
+pushed ps = Some (push_points [] ps)
 
 -- rewrite_input_shared_trunk
 abbrev pub rewrite_input_shared_trunk : Route → Point → ℤ → Option Route
 rewrite_input_shared_trunk r tap minimum_length =
     where_met (first_shared_trunk_intersection r tap.x Input minimum_length)
-    (λ i p. cond (matches p tap) (pushed (tap ∷ drop (suc i) r)) none)
+    (λ i p. cond (matches p tap) (pushed (tap ∷ drop (suc i) r)) None)
 
 -- rewrite_output_shared_trunk
 abbrev pub rewrite_output_shared_trunk : Route → Point → ℤ → Option Route
 rewrite_output_shared_trunk r tap minimum_length =
     where_met (last_shared_trunk_intersection r tap.x Output minimum_length)
-    (λ i p. cond (matches p tap) (pushed (take (suc i) r ++ (tap ∷ []))) none)
+    (λ i p. cond (matches p tap) (pushed (take (suc i) r ++ (tap ∷ []))) None)
 
 -- rewrite_input_route
 abbrev pub rewrite_input_route : Route → Point → ℤ → Option Route

@@ -1,7 +1,6 @@
 -- Sizes of a sheet's whole numbers over 128, and between which a sum or difference is exact. The hypotheses of `Numbers`. Definitions only.
 -- Assumes nothing.
-use Rattle.std.specs.Prelude.{◌^◌, ◌≤◌, List, ℤ, nat_abs}
-use Rattle.std.proofs.Math.Option.{Option, none, some}
+use Rattle.std.specs.Prelude.{◌^◌, ◌≤◌, List, ℤ, nat_abs, Option, Some, None}
 use Rattle.sorting.specs.Lists.{Every}
 use Rattle.grid_plan.specs.Board as Z
 use Rattle.grid_plan.specs.Sizes.{Fit, Placed, Job, Length}
@@ -19,8 +18,8 @@ abbrev pub LiesOn : Z.Segment → Type 0
 LiesOn s = Lies s.start × Lies s.end
 
 abbrev pub OfTap : Option Z.Point → Type 0
-OfTap none = Unit {0}
-OfTap (some p) = Lies p
+OfTap None = Unit {0}
+OfTap (Some p) = Lies p
 
 -- the far sides of a node are exact
 abbrev pub Sides : Z.Node → Type 0

@@ -1,8 +1,7 @@
 -- The tests on segments in whole numbers over 128: the twin of geometry/specs/Contact, Kind, Spacing, Enters and Line, name for name; the same place is plain equality. segments_have_disallowed_contact (by its kinds), parallel_segments_are_too_close, verify_member_route_node_interiors and segment_vertical_line_intersection of boundary_bundles.rs. Definitions only.
 -- Assumes nothing.
-use Rattle.std.specs.Prelude.{Bool, true, false, not, ◌&&◌, ◌||◌, cond, ℤ, pos, nat_abs, ◌+ℤ◌, ◌-ℤ◌}
+use Rattle.std.specs.Prelude.{Bool, true, false, not, ◌&&◌, ◌||◌, cond, ℤ, pos, nat_abs, ◌+ℤ◌, ◌-ℤ◌, Option, Some, None}
 use Rattle.std.specs.Bool.{beq}
-use Rattle.std.proofs.Math.Option.{Option, none, some}
 use Rattle.geometry.specs.declared.Role.{Role}
 use Rattle.geometry.specs.declared.Contact.{Contact}
 use Rattle.geometry.specs.declared.Contact.TheVariants as kinds
@@ -69,8 +68,8 @@ meet bus a b =
 
 -- there is a tap, and p is in the same place
 abbrev pub at_tap : Option Point → Point → Bool
-at_tap none p = false
-at_tap (some tap) p = matches tap p
+at_tap None p = false
+at_tap (Some tap) p = matches tap p
 
 -- one is level and the other is not
 abbrev pub perpendicular : Segment → Point → Point → Bool
@@ -150,9 +149,9 @@ on_upright x start end = same start.x x && same end.x x
 -- segment_vertical_line_intersection
 abbrev pub on_line : Bool → ℤ → Point → Point → Option Point
 on_line prefer_end x start end =
-    cond (on_level x start end) (some (record { x = x; y = start.y }))
-    (cond (on_upright x start end) (cond prefer_end (some end) (some start)) none)
+    cond (on_level x start end) (Some (record { x = x; y = start.y }))
+    (cond (on_upright x start end) (cond prefer_end (Some end) (Some start)) None)
 
 -- shared_trunk_horizontal_intersection
 abbrev pub on_trunk : Role → ℤ → ℤ → Point → Point → Option Point
-on_trunk role pitch x start end = cond (holds x (stretch role pitch start end)) (some (record { x = x; y = start.y })) none
+on_trunk role pitch x start end = cond (holds x (stretch role pitch start end)) (Some (record { x = x; y = start.y })) None

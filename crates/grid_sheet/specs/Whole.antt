@@ -1,7 +1,6 @@
 -- A job on the drafting grid from its board to its page in whole numbers: document 01's order, as crate promise's Stage has it in binary64. Definitions only.
 -- Assumes nothing.
-use Rattle.std.specs.Prelude.{ℕ, Bool, List, ℤ}
-use Rattle.std.proofs.Math.Option.{Option}
+use Rattle.std.specs.Prelude.{ℕ, Bool, List, ℤ, Option}
 use Rattle.geometry.specs.Points.{Route}
 use Rattle.board.specs.Board.{Board}
 use Rattle.plan.specs.Depths as L

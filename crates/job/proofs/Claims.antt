@@ -1,9 +1,9 @@
 -- Which edges the bundles of a role have as members: the pairs that number 8 looks at, from windows of members. Assumes nothing.
-use Rattle.std.specs.Prelude.{ℕ, zero, suc, ◌+◌, ◌*◌, ◌≤◌, ◌<◌, ◌≡◌, refl, List, [], ◌∷◌, ◌++◌, map, length, take, drop}
-use Rattle.std.proofs.Common.{sym, ap, subst, ◌∙◌, append-nil, append_assoc, arith, length-append, length-drop, take_all, drop_at}
+use Rattle.std.specs.Prelude.{ℕ, zero, suc, ◌+◌, ◌≤◌, ◌≡◌, refl, List, [], ◌∷◌, ◌++◌, map, length, drop}
+use Rattle.std.proofs.Common.{sym, ap, subst, ◌∙◌, append-nil, append_assoc, arith, length-drop, take_all, drop_at}
 use Rattle.std.proofs.lemmas.List.{map-append, length-map, take-append-le, drop-append-le}
-use Rattle.wire.specs.Read.{Read, refused, got, Reader, many}
-use Rattle.wire.proofs.All.{All, all_one_more}
+use Rattle.wire.specs.Read.{got, many}
+use Rattle.wire.proofs.All.{All}
 use Rattle.geometry.specs.declared.Role.{Role}
 use Rattle.geometry.specs.Port.{role_number}
 use Rattle.board.specs.declared.Bundle.{Bundle}
@@ -11,7 +11,7 @@ use Rattle.board.specs.Board.{window}
 use Rattle.job.specs.declared.RawBundle.{RawBundle}
 use Rattle.job.specs.declared.RawMember.{RawMember}
 use Rattle.job.specs.Keys.{Key}
-use Rattle.job.specs.LoopSteps.{Came, came, got_both}
+use Rattle.job.specs.LoopSteps.{came, got_both}
 use Rattle.job.specs.Heads.{member_role}
 use Rattle.job.proofs.Kept.{push_step}
 use Rattle.job.specs.Job.{push, member, member_key}

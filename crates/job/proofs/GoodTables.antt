@@ -5,7 +5,7 @@ use Rattle.std.proofs.Common.{sym, ap, subst, ◌∙◌, arith, length-append, e
 use Rattle.std.proofs.lemmas.List.{map-append}
 use Rattle.limits.specs.Limits.{max_nodes, max_ports, max_edges, max_route_points, max_points, max_bundles, max_bundle_members, max_members, max_tap_visits, max_geometry_visits}
 use Rattle.wire.specs.Read.{got, after, field, at_most, many}
-use Rattle.wire.specs.Accept.{size, option}
+use Rattle.wire.specs.Accept.{option}
 use Rattle.wire.proofs.All.{All, all_one_more, all_weaker}
 use Rattle.board.specs.declared.Options.{Options}
 use Rattle.job.specs.declared.Flags.{Flags}

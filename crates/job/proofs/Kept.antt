@@ -1,14 +1,14 @@
 -- What every step of a reading keeps, its end keeps; and what each looking up gives, all of them give. Assumes nothing.
 use Prim.Native.Nat.{ℕ, zero, suc, ◌+◌, ◌-◌, ◌*◌, ◌≤◌, ◌<◌}
-use Rattle.std.specs.Prelude.{◌≡◌, refl, Bool, true, false, cond, ◌&&◌, ◌||◌, eqb, leb, length, take, drop, get_or}
+use Rattle.std.specs.Prelude.{◌≡◌, refl, Bool, true, false, cond, eqb, leb, length, take, drop, get_or}
 use Rattle.std.proofs.Math.Path.{sym, ap, subst}
 use Rattle.std.proofs.Common.{◌∙◌, arith, length-append, length-drop, eqb-true, leb-true}
 use mathlib.Core.List.{List, [], ◌∷◌, ◌++◌, map, append-nil, append_assoc, map-append}
 use Rattle.binary64.specs.Bools.{both_true}
 use Rattle.wire.specs.Bytes.{number}
-use Rattle.wire.specs.Read.{Read, refused, got, Reader, after, read, give, field, many}
+use Rattle.wire.specs.Read.{refused, got, Reader, field, many}
 use Rattle.wire.proofs.All.{All, all_one_more}
-use Rattle.job.specs.Keys.{Key, same, Known, unknown, known, known_then, place_from, place, each}
+use Rattle.job.specs.Keys.{Key, same, Known, unknown, known, known_then, place_from, each}
 use Rattle.job.specs.LoopSteps.{Came, came, got_both}
 use Rattle.job.specs.Job.{push}
 

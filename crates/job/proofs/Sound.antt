@@ -1,5 +1,5 @@
 -- What holds of every accepted job: its numbers, its places, its windows, its totals, its ids, and the bytes it has. Assumes nothing.
-use Rattle.std.specs.Prelude.{ℕ, ◌+◌, ◌-◌, ◌≤◌, ◌<◌, Bool, true, false, cond, ◌||◌, eqb, length, drop, get_or}
+use Rattle.std.specs.Prelude.{ℕ, ◌+◌, ◌-◌, ◌≤◌, ◌<◌, Bool, true, false, cond, eqb, length, drop, get_or}
 use Rattle.std.proofs.Math.Path.{◌≡◌, refl, ap, subst}
 use Rattle.std.proofs.Common.{sym, ◌∙◌, arith, length-append, length-drop}
 use mathlib.Core.List.{List, [], ◌∷◌, ◌++◌, map}
@@ -7,8 +7,7 @@ use Rattle.std.proofs.Math.ListN.{length-map}
 use Rattle.limits.specs.Limits.{max_nodes, max_ports, max_edges, max_points, max_bundles, max_members, largest_job}
 use Rattle.wire.specs.Read.{Read, refused, got, field}
 use Rattle.binary64.specs.Bools.{neither}
-use Rattle.binary64.specs.Accepted.{accepted, is_coordinate}
-use Rattle.wire.specs.Accept.{size}
+use Rattle.binary64.specs.Accepted.{is_coordinate}
 use Rattle.wire.proofs.All.{All}
 use Rattle.geometry.specs.declared.Role.{Role}
 use Rattle.board.specs.declared.PlacedNode.{PlacedNode}

@@ -1,10 +1,12 @@
 -- The whole reader, step by step: what the outcome is once this much has been read. Assumes nothing.
-use Rattle.std.specs.Prelude.{ℕ, ◌-◌, ◌≤◌, ◌<◌, ◌≡◌, Bool, ◌&&◌, ◌||◌, cond, List, [], map, take, drop, get_or, replicate}
+use Rattle.std.specs.Prelude.{ℕ, ◌-◌, ◌≤◌, ◌<◌, ◌≡◌, Bool, ◌&&◌, ◌||◌, List, [], map, take, drop, get_or, replicate, Result, Ok, Err}
 use Rattle.std.proofs.Math.Path.{refl}
-use Rattle.std.proofs.Common.{sym, ap, ◌∙◌, arith}
+use Rattle.std.proofs.Common.{ap, ◌∙◌, arith}
 use Rattle.std.proofs.Math.Bool.{true, false}
 use Rattle.std.proofs.Math.ListN.{length, length-drop}
 use borrow.Author.Tests.{le-leb, lt-leb, eq-eqb, ne_eqb}
+use Rattle.refusal.specs.declared.Refusal.{Refusal}
+use Rattle.refusal.specs.Refusal.{refusal_number}
 use Rattle.limits.specs.Limits.{key_room}
 use Rattle.wire.specs.Bytes.{number}
 use Rattle.wire.proofs.BytesLaws.{number_one}
@@ -23,17 +25,23 @@ use Rattle.job.specs.Keys.{Key, twice, known, known_then, each}
 use Rattle.job.specs.Job.{Tables, EdgeList, BundleList, Outcome, refusal, accepted, push, node, port, next_edge, next_bundle, ended, tables, some_twice, resolved, or_nine, settled, outcome, fields, version, lengths_fit, read_job, header, port_of, edge_of, bundle_of, member_of, port_key, member_key}
 use Rattle.job.specs.LoopSteps.{keys_alone}
 use Rattle.job.specs.Heads.{Limits}
-use Rattle.job.specs.Reads.{read_as, known_as, first_keys, node_id, edge_id, bundle_id}
+use Rattle.job.specs.Reads.{TableTold, ended_as, known_as, first_keys, node_id, edge_id, bundle_id}
 use Rattle.job.specs.AllTables.{Keyed}
 
--- ---- answers with a flag
-pub read_good : {A : Type 0} {x : Read A} (ok : Bool) (r : ℕ) (a : A) (s : List ℕ) → read_as ok r a s ≡ x → ok ≡ true → x ≡ got a s
-unfolding read_as
-read_good ok r a s e h = sym e ∙ ap (λ (b : Bool). cond b (got a s) (refused r)) h
+-- ---- answers of the tables
+module _ {A T : Type 0} (x : Read A) (P : T → Type 0) (r : Result T Refusal) (told : TableTold x P r) where
+  pub read_good : (t : T) → r ≡ Ok t → P t
+  read_good t e = rw e at told
 
-pub read_bad : {A : Type 0} {x : Read A} (ok : Bool) (r : ℕ) (a : A) (s : List ℕ) → read_as ok r a s ≡ x → ok ≡ false → x ≡ refused r
-unfolding read_as
-read_bad ok r a s e h = sym e ∙ ap (λ (b : Bool). cond b (got a s) (refused r)) h
+  pub read_bad : (n : Refusal) → r ≡ Err n → x ≡ refused (refusal_number n)
+  read_bad n e = rw e at told
+
+-- ---- answers of the points of a route
+pub stopped_as : {A : Type 0} {m : Read A} (x : Result (Unit {0}) Refusal) (ps : A) (t : List ℕ) (r : Refusal) → m ≡ ended_as x ps t → x ≡ Err r → m ≡ refused (refusal_number r)
+stopped_as x ps t r e h = e ∙ ap (λ z. ended_as z ps t) h
+
+pub well_as : {A : Type 0} {m : Read A} (x : Result (Unit {0}) Refusal) (ps : A) (t : List ℕ) (u : Unit {0}) → m ≡ ended_as x ps t → x ≡ Ok u → m ≡ got ps t
+well_as x ps t u e h = e ∙ ap (λ z. ended_as z ps t) h
 
 -- ---- the tables
 module _ (grid : Bool) (c : Counts) (s : List ℕ) (g : Tables → List ℕ → Outcome) where

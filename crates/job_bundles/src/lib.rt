@@ -8,8 +8,9 @@ ghost use Rattle.job.specs.Reads.{first_keys, BundlesTold};
 
 use board::{Bundle, Bundles, Member, Members};
 use geometry::Role;
-use job::{BundleRead, BundlesRead, MemberRead};
+use job::BundlesRead;
 use limits::{KEY_ROOM, MAX_BUNDLES, MAX_MEMBERS};
+use refusal::Refusal;
 
 // ---- tables
 //
@@ -31,7 +32,7 @@ pub fn read_bundles(
     ids: &mut [u64],
     edges: &mut [u64],
     roles: &mut [u64],
-) -> BundlesRead
+) -> Result<BundlesRead, Refusal>
     requires from_bound { (from < 60000) × (count ≤ max_bundles) × (n ≤ key_room) × (p ≤ key_room) × (e ≤ key_room) }
     requires node_ids_len { (length node_ids.now ≡ key_room) × (length port_nodes.now ≡ key_room) × (length port_ids.now ≡ key_room) × (length edge_ids.now ≡ key_room) × (length zeros.now ≡ key_room) }
     requires ids_len { (length ids.old ≡ key_room) × (length edges.old ≡ key_room) × (length roles.old ≡ key_room) }
@@ -49,90 +50,49 @@ pub fn read_bundles(
         edge: 0,
         tap_lane: 0,
     };
-    let mut t = Bundles {
-        rows: [none; MAX_BUNDLES],
-        count: count,
-    };
-    let mut m = Members {
-        rows: [nobody; MAX_MEMBERS],
-        count: 0,
-    };
+    let mut rows = [none; MAX_BUNDLES];
+    let mut member_rows = [nobody; MAX_MEMBERS];
     let mut known = true;
     let mut members_known = true;
     let mut at = from;
-    let mut total: usize = 0;
-    let mut i: usize = 0;
-    while i < count {
-        let one = job_records::bundle_head_at(s, at, total);
-        let b = match one {
-            BundleRead::Bad(r) => {
-                return BundlesRead {
-                    ok: false,
-                    refusal: r,
-                    at: at,
-                    known: known,
-                    bundles: t,
-                    members_known: members_known,
-                    members: m,
-                };
-            }
-            BundleRead::Good(v) => v,
-        };
-        let role = b.role;
-        let role_key = job_records::number_of_role(role);
-        let mut place = at + 19;
-        let mut j: usize = 0;
-        while j < b.count {
-            let next = job_records::member_at(s, place, role);
-            let x = match next {
-                MemberRead::Bad(r) => {
-                    return BundlesRead {
-                        ok: false,
-                        refusal: r,
-                        at: at,
-                        known: known,
-                        bundles: t,
-                        members_known: members_known,
-                        members: m,
-                    };
-                }
-                MemberRead::Good(v) => v,
-            };
+    let mut total = 0;
+    for i in 0..count {
+        let b = job_records::bundle_head_at(s, at, total)?;
+        let role_key = job_records::number_of_role(b.role);
+        for j in 0..b.count {
+            let x = job_records::member_at(s, at + 19 + 6 * j, b.role)?;
             let f = job_keys::find(edge_ids, zeros, 0, e, x.edge, 0);
-            members_known = members_known & f.known;
-            m.rows[total] = Member {
-                edge: f.at,
+            members_known = members_known & f.is_some();
+            member_rows[total] = Member {
+                edge: f.unwrap_or(0),
                 tap_lane: x.tap_lane,
             };
             edges[total] = x.edge;
             roles[total] = role_key;
             total += 1;
-            place += 6;
-            j += 1;
         }
         let f = job_keys::find(node_ids, zeros, 0, n, b.node, 0);
         let g = job_keys::find(port_nodes, port_ids, 0, p, b.node, b.port);
-        known = known & (f.known & g.known);
-        t.rows[i] = Bundle {
+        known = known & (f.is_some() & g.is_some());
+        rows[i] = Bundle {
             id: b.id,
-            port: g.at,
-            role: role,
+            port: g.unwrap_or(0),
+            role: b.role,
             width: b.width,
             first: b.first,
             count: b.count,
         };
         ids[i] = b.id;
-        at = place;
-        i += 1;
+        at += 19 + 6 * b.count;
     }
-    m.count = total;
-    BundlesRead {
-        ok: true,
-        refusal: 0,
-        at: at,
-        known: known,
-        bundles: t,
-        members_known: members_known,
-        members: m,
-    }
+    Ok(BundlesRead {
+        at,
+        known,
+        bundles: Bundles { rows, count },
+        members_known,
+        members: Members {
+            rows: member_rows,
+            count: total,
+        },
+    })
 }

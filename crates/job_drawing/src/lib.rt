@@ -38,50 +38,50 @@ pub fn read_and_draw(
     requires given_len { (length given.old ≡ point_numbers) × (answer_room ≤ length answer.old) × (lacks wants.page (length page.old) page_room ≡ false) × (lacks wants.crossings (length crossings.old) crossings_room ≡ false) }
     requires sorted_len { length sorted.old ≡ candidate_room }
     requires edges_len { (length edges.old ≡ max_members) × (length lanes.old ≡ max_members) × (length taps.old ≡ tap_numbers) × (length counts.old ≡ max_edges) × (length mask.old ≡ max_edges) × (length scratch.old ≡ slot_numbers) }
-    ensures { Writes (record { answer = answer.entry.now; page = page.old; crossings = crossings.old }) (record { answer = answer.exit.now; page = page.new; crossings = crossings.new }) result (outputs_told wants (after_all wants (told_with wants.plan job.now plan.now))) }
+    ensures { Writes (record { answer = answer.old; page = page.old; crossings = crossings.old }) (record { answer = answer.new; page = page.new; crossings = crossings.new }) result (outputs_told wants (after_all wants (told_with wants.plan job.now plan.now))) }
 {
-    let r = job_reader::read_job(job, &mut given[..]);
-    if !r.ok {
-        return answer::write_notice(&mut answer[..], r.refusal);
-    }
-    let m = r.job.members.count;
-    let n = r.job.edges.count;
+    let j = match job_reader::read_job(job, given) {
+        Ok(j) => j,
+        Err(r) => return answer::write_notice(answer, u8::from(r)),
+    };
+    let m = j.members.count;
+    let n = j.edges.count;
     if n <= FEW_ROUTES {
         let mut few = [0.0; FEW_SLOT_NUMBERS];
         return draw_job::draw_in(
             wants,
-            r.job,
+            j,
             plan,
-            &given[..],
-            &mut sorted[..],
+            given,
+            sorted,
             &mut edges[..m],
             &mut lanes[..m],
-            &mut taps[..],
-            &mut few[..],
+            taps,
+            &mut few,
             &mut counts[..n],
-            &mut mask[..],
-            &mut scratch[..],
-            &mut answer[..],
-            &mut page[..],
-            &mut crossings[..],
+            mask,
+            scratch,
+            answer,
+            page,
+            crossings,
         );
     }
     let mut points = [0.0; ALL_SLOT_NUMBERS];
     draw_job::draw_in(
         wants,
-        r.job,
+        j,
         plan,
-        &given[..],
-        &mut sorted[..],
+        given,
+        sorted,
         &mut edges[..m],
         &mut lanes[..m],
-        &mut taps[..],
-        &mut points[..],
+        taps,
+        &mut points,
         &mut counts[..n],
-        &mut mask[..],
-        &mut scratch[..],
-        &mut answer[..],
-        &mut page[..],
-        &mut crossings[..],
+        mask,
+        scratch,
+        answer,
+        page,
+        crossings,
     )
 }

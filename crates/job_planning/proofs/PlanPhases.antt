@@ -1,6 +1,6 @@
 -- The planner's phases, from what its callees ensure to what is told and written. Assumes nothing.
 use Prim.Native.Nat.{ℕ, ◌≤◌, ◌<◌}
-use mathlib.Core.Path.{◌≡◌, refl, sym, ap, ◌∙◌, subst}
+use mathlib.Core.Path.{◌≡◌, sym, ap, ◌∙◌, subst}
 use mathlib.Core.Bool.{Bool, true, false, cond}
 use mathlib.Core.List.{List, []}
 use borrow.Author.Tests.{lt-ltb, le-ltb}
@@ -10,15 +10,18 @@ use lib.Ieee.{Float}
 use Rattle.limits.specs.Limits.{plan_room}
 use Rattle.geometry.specs.Points.{Route}
 use Rattle.job.specs.declared.Job as code
-use Rattle.job.specs.declared.JobRead.{JobRead}
+use Rattle.std.specs.Prelude.{Ok, Err}
+use Rattle.refusal.specs.declared.Refusal.{Refusal}
+use Rattle.refusal.specs.Refusal.{refusal_number}
 use Rattle.job.specs.Job.{read_job}
-use Rattle.job.specs.Job as job
-use Rattle.job.specs.AllTables.{JobTold, told_job}
+use Rattle.job.specs.AllTables.{JobTold}
 use Rattle.plan.specs.BoardTables as tables
 use Rattle.plan.specs.Prepared.{plan_in}
 use Rattle.plan.specs.Plan.{plan_of}
 use Rattle.plan.specs.Plan as planning
-use Rattle.components.specs.declared.Step.{Step}
+use Rattle.std.specs.Prelude.{Result, Ok, Err}
+use Rattle.plan.specs.declared.Planning.{Planning}
+use Rattle.components.specs.declared.NoRoom.{NoRoom}
 use Rattle.components.specs.Settled.{step_in}
 use Rattle.answer.specs.Answer.{notice_bytes}
 use Rattle.answer.proofs.Stores.{notice_length}
@@ -37,34 +40,31 @@ pub plan_writes : (before after : List ℕ) (r : ℕ) (p : planning.Plan) (t : T
 unfolding plan_told_bytes
 plan_writes before after r p t e b c = record { bytes = rw e b; count = rw e c }
 
-module _ (j : code.Job) (buffer : List Float) (from : Came j buffer) (sizes : Sizes j) (s : Step)
+module _ (j : code.Job) (buffer : List Float) (from : Came j buffer) (sizes : Sizes j) (s : Result Planning NoRoom)
     (is : step_in j.bundles.count s
     ≡ plan_of (tables.board_of j.options j.nodes j.ports (take j.edges.count j.edges.rows) j.bundles j.members) (tables.given_routes buffer j.edges) j.flags.separates_collectors j.grants.tap_visits) where
   planned_is : planned (job_in j buffer) ≡ step_in j.bundles.count s
   planned_is = ap (λ (g : List Route). plan_of (job_in j buffer).board g j.flags.separates_collectors j.grants.tap_visits) (sym (given_same j buffer from sizes)) ∙ sym is
 
-  pub plan_refused : s.refused ≡ true → after_search (planned (job_in j buffer)) ≡ rejected 13
+  pub plan_refused : (e : NoRoom) → s ≡ Err e → after_search (planned (job_in j buffer)) ≡ rejected 13
   unfolding after_search
-  plan_refused e =
-      let z : planned (job_in j buffer) ≡ planning.refused s.plan.left.0 = planned_is ∙ rw e in
+  plan_refused e h =
+      let z : planned (job_in j buffer) ≡ planning.refused e.left.0 = planned_is ∙ ap (step_in j.bundles.count) h in
       ap after_search z
 
-  pub plan_taken : s.refused ≡ false → after_search (planned (job_in j buffer)) ≡ taken (plan_in j.bundles.count s.plan)
+  pub plan_taken : (p : Planning) → s ≡ Ok p → after_search (planned (job_in j buffer)) ≡ taken (plan_in j.bundles.count p)
   unfolding after_search
-  plan_taken e =
-      let z : planned (job_in j buffer) ≡ planning.going (plan_in j.bundles.count s.plan) = planned_is ∙ rw e in
+  plan_taken p h =
+      let z : planned (job_in j buffer) ≡ planning.going (plan_in j.bundles.count p) = planned_is ∙ ap (step_in j.bundles.count) h in
       ap after_search z
 
-module _ (r : JobRead) (buffer : List Float) (bytes : List ℕ) (t : JobTold r buffer (read_job bytes)) where
-  pub read_refused : r.ok ≡ false → plan_told bytes ≡ rejected r.refusal
-  unfolding told_job plan_after_reading
-  read_refused e =
-      let z : read_job bytes ≡ job.refusal r.refusal = sym t.is ∙ rw e in
-      ap plan_after_reading z
+pub read_refused : (r : Refusal) (buffer : List Float) (bytes : List ℕ) → JobTold (Err r) buffer (read_job bytes) → plan_told bytes ≡ rejected (refusal_number r)
+unfolding plan_after_reading
+read_refused r buffer bytes t = ap plan_after_reading (sym t.is)
 
-  pub read_planned : r.ok ≡ true → plan_told bytes ≡ after_search (planned (job_in r.job buffer))
-  unfolding plan_after_reading
-  read_planned e = ap plan_after_reading (read_accepted r buffer bytes t e)
+pub read_planned : (j : code.Job) (buffer : List Float) (bytes : List ℕ) → JobTold (Ok j) buffer (read_job bytes) → plan_told bytes ≡ after_search (planned (job_in j buffer))
+unfolding plan_after_reading
+read_planned j buffer bytes t = ap plan_after_reading (read_accepted j buffer bytes t)
 
 pub writes_as : (before after : List ℕ) (r : ℕ) (s t : Taken) → s ≡ t → PlanWrites before after r s → PlanWrites before after r t
 writes_as before after r s t e w = subst (PlanWrites before after r) e w

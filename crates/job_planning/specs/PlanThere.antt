@@ -1,7 +1,6 @@
 -- What stands in the plan's buffer after a call of stage_plan: never more than the largest plan, and where there is room for that, the plan or the notice at its front. Assumes nothing.
 use Rattle.std.specs.Prelude.{ℕ, ◌≤◌, ◌≡◌, refl, Bool, true, false, cond, List, [], ltb, length, take}
 use Rattle.std.proofs.Common.{sym, ap, ◌∙◌, arith, le-ltb, ltb-false}
-use Rattle.std.proofs.lemmas.List.Edits.{sets}
 use Rattle.limits.specs.Limits.{plan_room}
 use Rattle.answer.proofs.Stores.{notice_length}
 use Rattle.job.specs.Job.{Job, read_job}

@@ -14,6 +14,7 @@ ghost use Rattle.plan_stage.specs.Entries.{after_search, plan_told};
 ghost use Rattle.job_planning.specs.PlanWrites.{PlanWrites};
 
 use job::Job;
+use refusal::Refusal;
 use search::TapVisits;
 
 // The plan (13) of a job that was read: its bytes, or the notice of 13.
@@ -36,13 +37,13 @@ fn plan_in(j: Job, given: &[f64], sorted: &mut [f64], work: &mut [f64], plan: &m
         given,
         j.flags.separates_collectors,
         TapVisits(j.grants.tap_visits),
-        &mut sorted[..],
-        &mut work[..],
+        sorted,
+        work,
     );
-    if s.refused {
-        return answer::write_notice(&mut plan[..], 13);
+    match s {
+        Ok(p) => plan_writer::write_plan(plan, p, j.bundles.count),
+        Err(e) => answer::write_notice(plan, u8::from(Refusal::from(e))),
     }
-    plan_writer::write_plan(&mut plan[..], s.plan, j.bundles.count)
 }
 
 // Reads the job and plans it.
@@ -57,15 +58,8 @@ pub fn read_and_plan(
     requires sorted_len { (length sorted.old ≡ candidate_room) × (length work.old ≡ search_work) }
     ensures { PlanWrites plan.old plan.new result (plan_told job.now) }
 {
-    let r = job_reader::read_job(job, &mut given[..]);
-    if !r.ok {
-        return answer::write_notice(&mut plan[..], r.refusal);
+    match job_reader::read_job(job, given) {
+        Ok(j) => plan_in(j, given, sorted, work, plan),
+        Err(r) => answer::write_notice(plan, u8::from(r)),
     }
-    plan_in(
-        r.job,
-        &given[..],
-        &mut sorted[..],
-        &mut work[..],
-        &mut plan[..],
-    )
 }

@@ -11,51 +11,40 @@ ghost use Rattle.job.specs.Reads.{first_keys, ended_as, NodesTold, PortsTold, Ed
 
 use board::{Edge, PlacedNode, Port};
 use geometry::{Node, Point, Side};
-use job::{EdgeRead, EdgesRead, Ended, NodeRead, NodesRead, PointRead, PortRead, PortsRead};
+use job::{EdgesRead, NodesRead, PortsRead};
 use limits::{KEY_ROOM, MAX_EDGES, MAX_NODES, MAX_PORTS};
+use refusal::Refusal;
 
 // ---- tables
 //
 // The keys of a table's rows go to lent columns, one number to a row. Where an id stands alone the
 // second column is one of zeros. An id is looked up in the columns of the tables before.
 
-pub fn read_nodes(s: &[u8], from: usize, count: usize, ids: &mut [u64], grid: bool) -> NodesRead
+pub fn read_nodes(
+    s: &[u8],
+    from: usize,
+    count: usize,
+    ids: &mut [u64],
+    grid: bool,
+) -> Result<NodesRead, Refusal>
     requires { (from < 1024) × (count ≤ max_nodes) × (length ids.old ≡ key_room) }
     ensures { NodesTold grid s.now from count ids.new result }
 {
     let corner = Point { x: 0.0, y: 0.0 };
     let body = Node {
-        corner: corner,
+        corner,
         width: 0.0,
         height: 0.0,
     };
-    let none = PlacedNode { id: 0, body: body };
-    let mut t = NodesRead {
-        ok: false,
-        refusal: 0,
-        at: from,
-        rows: [none; MAX_NODES],
-    };
+    let mut rows = [PlacedNode { id: 0, body }; MAX_NODES];
     let mut at = from;
-    let mut i: usize = 0;
-    while i < count {
-        let one = job_records::node_at(s, grid, at);
-        let n = match one {
-            NodeRead::Bad(r) => {
-                t.ok = false;
-                t.refusal = r;
-                return t;
-            }
-            NodeRead::Good(v) => v,
-        };
-        t.rows[i] = n;
+    for i in 0..count {
+        let n = job_records::node_at(s, grid, at)?;
+        rows[i] = n;
         ids[i] = n.id;
         at += 36;
-        i += 1;
     }
-    t.ok = true;
-    t.at = at;
-    t
+    Ok(NodesRead { at, rows })
 }
 
 pub fn read_ports(
@@ -68,7 +57,7 @@ pub fn read_ports(
     nodes: &mut [u64],
     ids: &mut [u64],
     grid: bool,
-) -> PortsRead
+) -> Result<PortsRead, Refusal>
     requires from_bound { (from < 8192) × (count ≤ max_ports) × (n ≤ key_room) }
     requires node_ids_len { (length node_ids.now ≡ key_room) × (length zeros.now ≡ key_room) × (length nodes.old ≡ key_room) × (length ids.old ≡ key_room) }
     ensures { PortsTold grid s.now from count (first_keys node_ids.now zeros.now n) nodes.new ids.new result }
@@ -79,44 +68,24 @@ pub fn read_ports(
         side: Side::North,
         offset: 0.0,
     };
-    let mut t = PortsRead {
-        ok: false,
-        refusal: 0,
-        at: from,
-        known: false,
-        rows: [none; MAX_PORTS],
-    };
+    let mut rows = [none; MAX_PORTS];
     let mut known = true;
     let mut at = from;
-    let mut i: usize = 0;
-    while i < count {
-        let one = job_records::port_at(s, grid, at);
-        let p = match one {
-            PortRead::Bad(r) => {
-                t.ok = false;
-                t.refusal = r;
-                return t;
-            }
-            PortRead::Good(v) => v,
-        };
+    for i in 0..count {
+        let p = job_records::port_at(s, grid, at)?;
         let f = job_keys::find(node_ids, zeros, 0, n, p.node, 0);
-        known = known & f.known;
-        let side = p.side;
-        t.rows[i] = Port {
-            node: f.at,
+        known = known & f.is_some();
+        rows[i] = Port {
+            node: f.unwrap_or(0),
             id: p.id,
-            side: side,
+            side: p.side,
             offset: p.offset,
         };
         nodes[i] = p.node;
         ids[i] = p.id;
         at += 17;
-        i += 1;
     }
-    t.ok = true;
-    t.at = at;
-    t.known = known;
-    t
+    Ok(PortsRead { at, known, rows })
 }
 
 // The points of one route, total points standing before them.
@@ -127,25 +96,17 @@ fn read_points(
     total: usize,
     points: &mut [f64],
     grid: bool,
-) -> Ended
+) -> Result<(), Refusal>
     requires { (from < 60000) × (count ≤ max_route_points) × (total + count ≤ max_points) × (length points.old ≡ point_numbers) }
     ensures { ended_as result (points_from points.new 0 (total + count)) (drop (from + 16 * count) s.now) ≡ many count (push (point grid)) (points_from points.old 0 total) (drop from s.now) }
 {
     let mut at = from;
-    let mut i: usize = 0;
-    while i < count {
-        let one = job_records::point_at(s, grid, at);
-        let p = match one {
-            PointRead::Bad(r) => {
-                return Ended::Stopped(r);
-            }
-            PointRead::Good(v) => v,
-        };
-        route_views::put_point(&mut points[..], total + i, p);
+    for i in 0..count {
+        let p = job_records::point_at(s, grid, at)?;
+        route_views::put_point(points, total + i, p);
         at += 16;
-        i += 1;
     }
-    Ended::Well
+    Ok(())
 }
 
 pub fn read_edges(
@@ -158,7 +119,7 @@ pub fn read_edges(
     points: &mut [f64],
     ids: &mut [u64],
     grid: bool,
-) -> EdgesRead
+) -> Result<EdgesRead, Refusal>
     requires from_bound { (from < 16384) × (count ≤ max_edges) × (n ≤ key_room) × (length points.old ≡ point_numbers) }
     requires node_ids_len { (length node_ids.now ≡ key_room) × (length zeros.now ≡ key_room) × (length ids.old ≡ key_room) }
     ensures { EdgesTold grid s.now from count (first_keys node_ids.now zeros.now n) points.new ids.new result }
@@ -170,52 +131,31 @@ pub fn read_edges(
         first: 0,
         count: 0,
     };
-    let mut t = EdgesRead {
-        ok: false,
-        refusal: 0,
-        at: from,
-        known: false,
-        rows: [none; MAX_EDGES],
-        total: 0,
-    };
+    let mut rows = [none; MAX_EDGES];
     let mut known = true;
     let mut at = from;
-    let mut total: usize = 0;
-    let mut i: usize = 0;
-    while i < count {
-        let one = job_records::edge_head_at(s, at, total);
-        let e = match one {
-            EdgeRead::Bad(r) => {
-                t.ok = false;
-                t.refusal = r;
-                return t;
-            }
-            EdgeRead::Good(v) => v,
-        };
-        let route = read_points(s, at + 22, e.count, total, &mut points[..], grid);
-        if let Ended::Stopped(r) = route {
-            t.ok = false;
-            t.refusal = r;
-            return t;
-        }
+    let mut total = 0;
+    for i in 0..count {
+        let e = job_records::edge_head_at(s, at, total)?;
+        read_points(s, at + 22, e.count, total, points, grid)?;
         let f = job_keys::find(node_ids, zeros, 0, n, e.source, 0);
         let g = job_keys::find(node_ids, zeros, 0, n, e.target, 0);
-        known = known & (f.known & g.known);
-        t.rows[i] = Edge {
+        known = known & (f.is_some() & g.is_some());
+        rows[i] = Edge {
             id: e.id,
-            source: f.at,
-            target: g.at,
+            source: f.unwrap_or(0),
+            target: g.unwrap_or(0),
             first: e.first,
             count: e.count,
         };
         ids[i] = e.id;
         at += 22 + 16 * e.count;
         total += e.count;
-        i += 1;
     }
-    t.ok = true;
-    t.at = at;
-    t.known = known;
-    t.total = total;
-    t
+    Ok(EdgesRead {
+        at,
+        known,
+        rows,
+        total,
+    })
 }

@@ -1,6 +1,6 @@
 -- What the reader leaves in its tables is what the plan asks for.
 -- Assumes nothing.
-use Rattle.std.specs.Prelude.{ℕ, ◌+◌, ◌-◌, ◌*◌, ◌≤◌, ◌<◌, ◌≡◌, refl, true, List, [], ◌∷◌, map, length, get_or, take, Float}
+use Rattle.std.specs.Prelude.{ℕ, ◌+◌, ◌-◌, ◌≤◌, ◌<◌, ◌≡◌, refl, Ok, List, [], ◌∷◌, map, length, get_or, take, Float}
 use Rattle.std.proofs.Math.Path.{sym}
 use Rattle.std.proofs.Common.{ap, ◌∙◌, subst, arith, get_or-take, length-take-le}
 use Rattle.limits.specs.Limits.{point_numbers}
@@ -10,10 +10,9 @@ use Rattle.board.specs.declared.Edge.{Edge}
 use Rattle.board.specs.Board as board
 use Rattle.wire.proofs.All.{All, all_at}
 use Rattle.job.specs.declared.Job as code
-use Rattle.job.specs.declared.JobRead.{JobRead}
 use Rattle.job.specs.Job.{read_job, given_routes}
 use Rattle.job.specs.Job as job
-use Rattle.job.specs.AllTables.{JobTold, told_job}
+use Rattle.job.specs.AllTables.{JobTold}
 use Rattle.job.proofs.GoodRecords.{GoodPort, GoodEdge, GoodBundle, GoodMember}
 use Rattle.job.proofs.Sound.{accepted_sound}
 use Rattle.job.proofs.Sound as sound
@@ -38,13 +37,12 @@ same_routes nodes total buffer (e ∷ es) h =
     ap (λ (r : Route). r ∷ map (given_route buffer) es) (window_points buffer total e.first e.count h.0.window)
     ∙ ap (λ (rs : List Route). board.route_of (points_from buffer 0 total) e ∷ rs) (same_routes nodes total buffer es h.1)
 
-module _ (r : JobRead) (buffer : List Float) (bytes : List ℕ) (t : JobTold r buffer (read_job bytes)) where
-  pub read_accepted : r.ok ≡ true → read_job bytes ≡ job.accepted (job_in r.job buffer)
-  unfolding told_job
-  read_accepted e = sym t.is ∙ rw e
+module _ (j : code.Job) (buffer : List Float) (bytes : List ℕ) (t : JobTold (Ok j) buffer (read_job bytes)) where
+  pub read_accepted : read_job bytes ≡ job.accepted (job_in j buffer)
+  read_accepted = sym t.is
 
-  pub came : length buffer ≡ point_numbers → r.ok ≡ true → Came r.job buffer
-  came long e = record { bytes = bytes; is = read_accepted e; fits = t.fits; long = long }
+  pub came : length buffer ≡ point_numbers → Came j buffer
+  came long = record { bytes = bytes; is = read_accepted; fits = t.fits; long = long }
 
 module _ (j : code.Job) (buffer : List Float) (from : Came j buffer) (sizes : Sizes j) where
   pub good : sound.Sound (job_in j buffer)

@@ -1,6 +1,6 @@
 -- `kind` is the request's words, and no other kind is; a touch at the tap shares one point, as in demand 3, and a strict crossing one that is an end of neither.
 -- Assumes nothing.
-use Rattle.std.specs.Prelude.{◌≡◌, ℕ, ◌+◌, ◌*◌, ◌<◌, Bool, not, ◌&&◌, ◌||◌, cond, Float}
+use Rattle.std.specs.Prelude.{◌≡◌, ℕ, ◌+◌, ◌*◌, ◌<◌, Bool, not, ◌&&◌, ◌||◌, cond, Float, Option}
 use Rattle.std.proofs.Math.Path.{refl}
 use Rattle.std.proofs.Common.{sym, ap, ◌∙◌, subst, inl, inr, arith, true≢false, T_not, zero-lt-suc, mul-pos}
 use Rattle.std.proofs.Math.Bool.{true, false}
@@ -17,7 +17,6 @@ use Rattle.binary64.specs.Rational.{value}
 use Rattle.binary64.proofs.Fraction.{eq→Sameℚ, Sameℚ→eq}
 use Rattle.geometry.specs.declared.Point.{Point}
 use Rattle.geometry.specs.declared.Segment.{Segment}
-use Rattle.geometry.specs.declared.Tap.{Tap}
 use Rattle.geometry.specs.declared.Meet.{Meet}
 use Rattle.geometry.specs.declared.Meet.TheVariants as meeting
 use Rattle.geometry.specs.Contact.{matches, coincide, level, slanted, meet, at_tap, perpendicular, strict, contact}
@@ -83,7 +82,7 @@ same_place_self c p C s =
 
 -- ---- the kind by its tests
 
-module _ (bus : Segment) (a b : Point) (tap : Tap) where
+module _ (bus : Segment) (a b : Point) (tap : Option Point) where
   -- what the Rust says of a pair of this kind
   rust : (k : Contact) → kind bus a b tap ≡ k → (permitted : Bool) → contact bus a b tap permitted ≡ disallowed permitted k
   rust k e permitted = sym (kind_contact bus a b tap permitted) ∙ ap (disallowed permitted) e
@@ -153,7 +152,7 @@ module _ (bus : Segment) (a b : Point) (tap : Tap) where
   exclusive Slanted Overlap h j = absurd (j.2 h.2)
   exclusive Slanted Slanted h j = refl
 
-module _ (bus : Segment) (a b : Point) (tap : Tap) (F : Numbers bus a b tap) where
+module _ (bus : Segment) (a b : Point) (tap : Option Point) (F : Numbers bus a b tap) where
   none_slants : T (not (slanted bus.start bus.end)) → T (not (slanted a b)) → ¬ OneSlants bus a b
   none_slants n m (inl s) = not_slants bus.start bus.end F.bus_start F.bus_end n s
   none_slants n m (inr s) = not_slants a b F.first F.last m s
@@ -220,7 +219,7 @@ only_strict true t e = tt
 only_strict false true e = absurd (true≢false (sym (ap is_strict e)))
 only_strict false false e = absurd (true≢false (sym (ap is_strict e)))
 
-pub strictly : (bus : Segment) (a b : Point) (tap : Tap) → kind bus a b tap ≡ StrictCrossing → Strictly bus a b
+pub strictly : (bus : Segment) (a b : Point) (tap : Option Point) → kind bus a b tap ≡ StrictCrossing → Strictly bus a b
 strictly bus a b tap e = go (case bus a b tap)
   where
     by : (w : Meet) → meet bus a b ≡ w → T (not (slanted bus.start bus.end)) → T (not (slanted a b)) → T (not (coincide a b)) → kind_of bus a b tap w ≡ StrictCrossing → Strictly bus a b
@@ -233,7 +232,7 @@ strictly bus a b tap e = go (case bus a b tap)
     go (slanting c t k) = absurd (true≢false (sym (ap is_strict (sym k ∙ e))))
     go (straight c n m k) = by (meet bus a b) refl n m c (sym k ∙ e)
 
-module _ (bus : Segment) (a b : Point) (tap : Tap) (F : Numbers bus a b tap) where
+module _ (bus : Segment) (a b : Point) (tap : Option Point) (F : Numbers bus a b tap) where
   -- ---- "touch at the tap shares one point, as in demand 3"
   pub tap_shares : kind bus a b tap ≡ TouchAtTap → SharesOne bus a b (Touches a b tap)
   tap_shares e =

@@ -1,10 +1,9 @@
 -- Request F-6's words for the six kinds: by the Rust's answer with crossings forbidden and with crossings permitted, and by the exact points that a bus and a run share; no definition of a kind is cited. Definitions of theorems.
 -- Assumes nothing.
-use Rattle.std.specs.Prelude.{◌≡◌, ◌⊎◌, true, false}
+use Rattle.std.specs.Prelude.{◌≡◌, ◌⊎◌, true, false, Option}
 use Rattle.binary64.specs.Rational.{Sameℚ, value}
 use Rattle.geometry.specs.declared.Point.{Point}
 use Rattle.geometry.specs.declared.Segment.{Segment}
-use Rattle.geometry.specs.declared.Tap.{Tap}
 use Rattle.geometry.specs.Contact.{contact}
 use Rattle.exact.specs.Exact.{Exact, Same, exact, HasLength}
 use Rattle.exact.specs.Promise.{Shared, Crosses}
@@ -36,7 +35,7 @@ module _ (bus : Segment) (a b : Point) where
     pub other_shared : Shared bus a b other
     pub differ : ¬ Same one other
 
-module _ (bus : Segment) (a b : Point) (tap : Tap) where
+module _ (bus : Segment) (a b : Point) (tap : Option Point) where
   -- "no contact there even with crossings forbidden"
   abbrev pub NoContact : Type 0
   NoContact = contact bus a b tap false ≡ false

@@ -6,30 +6,35 @@
 
 #![tactic(auto)]
 
-ghost use Rattle.std.specs.Prelude.{◌≡◌, ◌+◌, ◌*◌, ◌<◌, length};
+ghost use Rattle.std.specs.Prelude.{◌≡◌, ◌+◌, ◌*◌, ◌<◌, length, is_ok, IfErr};
+ghost use Rattle.refusal.specs.declared.Refusal.TheVariants.{GeometryVisitsSpent};
 ghost use Rattle.drawing.specs.Build.{tap_of};
 ghost use Rattle.drawing.specs.Check.{own, clash};
 ghost use Rattle.checks.specs.Purse.{charged};
-ghost use Rattle.checks.specs.CheckRows.{taps_from, box_at, edge_at, Tabled};
+ghost use Rattle.checks.specs.CheckRows.{box_at, edge_at};
+ghost use Rattle.checks.specs.Lent.{taps_lent, TapsLent};
 
 use board::{Edge, Options};
-use geometry::{Node, Segment, Tap};
+use checks::BundleTaps;
+use drawing::GeometryVisits;
+use geometry::{Node, Point, Segment};
+use refusal::Refusal;
 
-// consume_geometry_visit: one visit is paid before each look. False where none is left.
-pub fn charge(left: &mut u32) -> bool
-    ensures { (result, left.new) ≡ charged left.old }
+// consume_geometry_visit: one visit is paid before each look, if one is left.
+pub fn charge(visits: &mut GeometryVisits) -> Result<(), Refusal>
+    ensures paid { (is_ok result, visits.new.0) ≡ charged visits.old.0 }
+    ensures refusal { IfErr result (λ r. r ≡ GeometryVisitsSpent) }
 {
-    let n = *left;
-    if n == 0 {
-        return false;
+    if visits.0 == 0 {
+        return Err(Refusal::GeometryVisitsSpent);
     }
-    *left = n - 1;
-    true
+    visits.0 -= 1;
+    Ok(())
 }
 
 // ---- verify_new_bundle_route_contacts
 
-pub fn clashes(o: Options, allow: bool, bus: Segment, tap: Tap, run: Segment) -> bool
+pub fn clashes(o: Options, allow: bool, bus: Segment, tap: Option<Point>, run: Segment) -> bool
     ensures { result ≡ clash o allow bus tap run }
 {
     let kind = contact_test::contact_kind(bus, run.start, run.end, tap);
@@ -38,18 +43,16 @@ pub fn clashes(o: Options, allow: bool, bus: Segment, tap: Tap, run: Segment) ->
 }
 
 // A route's tap among those of a bundle.
-pub fn tap_on_route(edges: &[usize], taps: &[f64], first: usize, count: usize, e: usize) -> Tap
-    requires { Tabled first count edges.now taps.now }
-    ensures { result ≡ tap_of (taps_from edges.now taps.now first count) e }
+pub fn tap_on_route(own: BundleTaps, e: usize) -> Option<Point>
+    requires { TapsLent own }
+    ensures { result ≡ tap_of (taps_lent own.entry) e }
 {
-    let mut i: usize = 0;
-    while i < count {
-        if edges[first + i] == e {
-            return Tap::At(route_views::point_at(taps, first + i));
+    for i in own.first..own.first + own.count {
+        if own.table.edges[i] == e {
+            return Some(route_views::point_at(own.table.taps, i));
         }
-        i += 1;
     }
-    Tap::Absent
+    None
 }
 
 // ---- verify_one_bundle_route_node_interiors

@@ -1,9 +1,9 @@
 -- Routes in slots, one rewritten, and the members that are left.
 -- Assumes nothing.
-use Prim.Native.Nat.{ℕ, zero, suc, ◌+◌, ◌*◌, ◌-◌, ◌≤◌, ◌<◌}
+use Rattle.std.specs.Prelude.{Option, Some, None}
+use Prim.Native.Nat.{ℕ, suc, ◌+◌, ◌*◌, ◌-◌, ◌≤◌, ◌<◌}
 use mathlib.Core.Path.{◌≡◌, refl, sym, ap, ◌∙◌}
-use mathlib.Core.List.{List, [], ◌∷◌, ◌++◌}
-use mathlib.Core.Option.{Option, none, some}
+use mathlib.Core.List.{List}
 use mathlib.Core.Bool.{Bool, true, false, cond}
 use native.Mathlib.Omega.{arith}
 use lib.Dec.{ltb}
@@ -15,12 +15,10 @@ use Rattle.limits.specs.Limits.{slot_points}
 use Rattle.geometry.specs.declared.Point.{Point}
 use Rattle.geometry.specs.declared.Role.{Role}
 use Rattle.geometry.specs.Points.{Route, point_at, points_from}
-use Rattle.route.specs.declared.Rewritten.{Rewritten}
-use Rattle.route.specs.declared.Rewritten.TheVariants.{Refused, Made}
 use Rattle.route.specs.Window.{points_length}
 use Rattle.route.specs.Slots.{routes_of, Held, Stored, held_set, slot_is}
 use Rattle.route.specs.Contract.{told, left_in, Leaves}
-use Rattle.drawing.specs.Build.{TapOn, route_at}
+use Rattle.drawing.specs.Build.{route_at}
 use Rattle.drawing.specs.Rewrite.{rewritten, two_points, corridor_depth, rewrite_one, put_route, then_routes, rewrite_all}
 use Rattle.checks.specs.CheckRows.{taps_from}
 use Rattle.checks.specs.MemberSlices.{members_from, depth_at, rewrite_with, routes_in, CountsKept, Roomy}
@@ -37,38 +35,38 @@ module _ (inside : Bool) (role : Role) (pitch depth : Float) (tap : Point) (s : 
   abbrev pub asked_in : Option Route
   asked_in = rewritten inside role pitch depth tap (points_from s (slot_points * e) (get_or ns e 0))
 
-  asked_is : asked ≡ cond (ltb (get_or ns e 0) 2) none (two_points asked_in)
+  asked_is : asked ≡ cond (ltb (get_or ns e 0) 2) None (two_points asked_in)
   unfolding rewrite_with
   asked_is = rw (slot_is s ns e h, points_length s (slot_points * e) (get_or ns e 0))
 
-  none_put : asked ≡ none → routes_in false s ns ≡ put_route asked e (routes_of s ns)
+  none_put : asked ≡ None → routes_in false s ns ≡ put_route asked e (routes_of s ns)
   unfolding routes_in put_route
   none_put x = rw x
 
   pub member_short : get_or ns e 0 < 2 → routes_in false s ns ≡ put_route asked e (routes_of s ns)
-  member_short l = none_put (asked_is ∙ ap (λ (b : Bool). cond b none (two_points asked_in)) (lt-ltb (get_or ns e 0) 2 l))
+  member_short l = none_put (asked_is ∙ ap (λ (b : Bool). cond b None (two_points asked_in)) (lt-ltb (get_or ns e 0) 2 l))
 
   long : 2 ≤ get_or ns e 0 → asked ≡ two_points asked_in
-  long l = asked_is ∙ ap (λ (b : Bool). cond b none (two_points asked_in)) (le-ltb (get_or ns e 0) 2 l)
+  long l = asked_is ∙ ap (λ (b : Bool). cond b None (two_points asked_in)) (le-ltb (get_or ns e 0) 2 l)
 
-  pub member_refused : (t u : List Float) (c : ℕ) → 2 ≤ get_or ns e 0 → Leaves Refused u t c asked_in → routes_in false s ns ≡ put_route asked e (routes_of s ns)
+  pub member_refused : (t u : List Float) (c : ℕ) → 2 ≤ get_or ns e 0 → Leaves None u t c asked_in → routes_in false s ns ≡ put_route asked e (routes_of s ns)
   unfolding told two_points
   member_refused t u c l x = none_put (long l ∙ ap two_points (sym x.route))
 
-  made_is : (m : ℕ) (t u : List Float) (c : ℕ) → 2 ≤ get_or ns e 0 → Leaves (Made m) u t c asked_in → asked ≡ cond (ltb m 2) none (some (points_from t 0 m))
+  made_is : (m : ℕ) (t u : List Float) (c : ℕ) → 2 ≤ get_or ns e 0 → Leaves (Some m) u t c asked_in → asked ≡ cond (ltb m 2) None (Some (points_from t 0 m))
   unfolding told two_points
-  made_is m t u c l x = long l ∙ ap two_points (sym x.route) ∙ ap (λ (n : ℕ). cond (ltb n 2) none (some (points_from t 0 m))) (points_length t 0 m)
+  made_is m t u c l x = long l ∙ ap two_points (sym x.route) ∙ ap (λ (n : ℕ). cond (ltb n 2) None (Some (points_from t 0 m))) (points_length t 0 m)
 
-  pub member_tiny : (m : ℕ) (t u : List Float) (c : ℕ) → 2 ≤ get_or ns e 0 → m < 2 → Leaves (Made m) u t c asked_in → routes_in false s ns ≡ put_route asked e (routes_of s ns)
-  member_tiny m t u c l k x = none_put (made_is m t u c l x ∙ ap (λ (b : Bool). cond b none (some (points_from t 0 m))) (lt-ltb m 2 k))
+  pub member_tiny : (m : ℕ) (t u : List Float) (c : ℕ) → 2 ≤ get_or ns e 0 → m < 2 → Leaves (Some m) u t c asked_in → routes_in false s ns ≡ put_route asked e (routes_of s ns)
+  member_tiny m t u c l k x = none_put (made_is m t u c l x ∙ ap (λ (b : Bool). cond b None (Some (points_from t 0 m))) (lt-ltb m 2 k))
 
-  pub member_made : (m : ℕ) (t u v : List Float) (c : ℕ) (ms : List ℕ) → 2 ≤ get_or ns e 0 → 2 ≤ m → Held ns → Leaves (Made m) u t c asked_in → Stored s ns e (points_from t 0 m) v ms → routes_in true v ms ≡ put_route asked e (routes_of s ns)
+  pub member_made : (m : ℕ) (t u v : List Float) (c : ℕ) (ms : List ℕ) → 2 ≤ get_or ns e 0 → 2 ≤ m → Held ns → Leaves (Some m) u t c asked_in → Stored s ns e (points_from t 0 m) v ms → routes_in true v ms ≡ put_route asked e (routes_of s ns)
   unfolding routes_in put_route
   member_made m t u v c ms l k w x y =
-      ap (λ (r : List Route). some r) (y.routes w)
-      ∙ sym (ap (λ (o : Option Route). put_route o e (routes_of s ns)) (made_is m t u c l x ∙ ap (λ (b : Bool). cond b none (some (points_from t 0 m))) (le-ltb m 2 k)))
+      ap (λ (r : List Route). Some r) (y.routes w)
+      ∙ sym (ap (λ (o : Option Route). put_route o e (routes_of s ns)) (made_is m t u c l x ∙ ap (λ (b : Bool). cond b None (Some (points_from t 0 m))) (le-ltb m 2 k)))
 
-pub made_most : (m : ℕ) (t u : List Float) (c : ℕ) (o : Option Route) → c ≤ slot_points - 2 → Leaves (Made m) u t c o → m ≤ slot_points
+pub made_most : (m : ℕ) (t u : List Float) (c : ℕ) (o : Option Route) → c ≤ slot_points - 2 → Leaves (Some m) u t c o → m ≤ slot_points
 unfolding left_in
 made_most m t u c o l x = let z : m ≤ c + 2 = x.scratch in omega arith
 

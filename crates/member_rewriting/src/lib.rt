@@ -20,7 +20,6 @@ ghost use Rattle.checks.specs.MemberSlices.{members_from, depth_at, rewrite_with
 
 use geometry::{Point, Role};
 use limits::SLOT_POINTS;
-use route::Rewritten;
 
 // ---- rewrite_member_routes
 
@@ -39,7 +38,8 @@ fn corridor_depth(offset: f64, pitch: f64, lane: u32) -> f64
 }
 
 // A route of count points from point start on, rewritten into out: through the trunk if the bundle
-// counts as interior, else by a corridor of this depth.
+// counts as interior, else by a corridor of this depth. Both roles stay written out: the four functions
+// are the Rust's, and one call with a role would only move the match.
 fn rewrite_route(
     inside: bool,
     role: Role,
@@ -50,7 +50,7 @@ fn rewrite_route(
     start: usize,
     count: usize,
     out: &mut [f64],
-) -> Rewritten
+) -> Option<usize>
     requires { (2 * (start + count) ≤ length points.now) × (2 * (count + 2) ≤ length out.old) }
     ensures { Leaves result out.old out.new count (rewritten inside role pitch depth tap (points_from points.now start count)) }
 {
@@ -117,8 +117,8 @@ fn rewrite_member(
         &mut scratch[..],
     );
     match r {
-        Rewritten::Refused => false,
-        Rewritten::Made(m) => {
+        None => false,
+        Some(m) => {
             if m < 2 {
                 return false;
             }
@@ -148,8 +148,7 @@ pub fn rewrite_member_routes(
     ensures told { routes_in result points.new counts.new ≡ rewrite_all inside role pitch offset (taps_from edges.now taps.now first count) (members_from edges.now lanes.now first count) (routes_of points.old counts.old) }
     ensures hold { Held counts.new }
 {
-    let mut i: usize = 0;
-    while i < count {
+    for i in 0..count {
         let e = edges[first + i];
         let depth = corridor_depth(offset, pitch, lanes[first + i]);
         let tap = route_views::point_at(taps, first + i);
@@ -166,7 +165,6 @@ pub fn rewrite_member_routes(
         ) {
             return false;
         }
-        i += 1;
     }
     true
 }

@@ -26,11 +26,9 @@ fn put_columns(out: &mut [u8], at: usize, w: usize, n: u64, fill: u8)
     ensures { out.new ≡ sets out.old at (columns fill w n) }
 {
     let mut v = n;
-    let mut i = w;
-    while i > 0 {
-        i -= 1;
+    for i in (0..w).rev() {
         out[at + i] = column_of(v, fill);
-        v = v / 10;
+        v /= 10;
     }
 }
 

@@ -1,8 +1,7 @@
 -- Every collector number of a drawn grid job's answer can stand on the page: a whole number of 128ths, not negative, below 2 ^ 33. For every plan whose numbers are multiples of 1/128 up to 2 ^ 20. Assumes nothing.
-use Rattle.std.specs.Prelude.{ℕ, zero, suc, ◌-◌, ◌*◌, ◌^◌, ◌≤◌, ◌<◌, refl, Bool, true, List, [], ◌∷◌, map, ℤ, pos, negsuc, nat_abs, Float, length, take, get_or}
+use Rattle.std.specs.Prelude.{ℕ, zero, suc, ◌-◌, ◌*◌, ◌^◌, ◌≤◌, ◌<◌, refl, Bool, true, List, [], ◌∷◌, map, ℤ, pos, negsuc, nat_abs, Float, length, take, get_or, Option, Some, None}
 use Rattle.std.proofs.Math.Path.{◌≡◌, subst}
 use Rattle.std.proofs.Common.{sym, ap, ◌∙◌, mul-le-mul_right, arith, length-take-le, get_or-take}
-use Rattle.std.proofs.Math.Option.{Option, none, some}
 use Rattle.std.specs.Float.Ieee.{lt}
 use Rattle.std.specs.Float.Ieee.Positive.{num, den}
 use Rattle.binary64.specs.Range.{Within}
@@ -19,7 +18,7 @@ use Rattle.job.specs.Job.{Job, given_routes, read_job}
 use Rattle.job.specs.Job as job
 use Rattle.job.proofs.Sound.{Sound, accepted_sound}
 use Rattle.plan.specs.declared.Bound.{Bound}
-use Rattle.plan.specs.declared.Bound.TheVariants.{None, At}
+use Rattle.plan.specs.declared.Bound.TheVariants as bounded
 use Rattle.plan.specs.Depths.{offsets_of}
 use Rattle.plan.proofs.CarriedNumbers.{OfBound}
 use Rattle.plan.specs.Plan.{Plan}
@@ -110,8 +109,8 @@ near_within z h =
 
 within : (zs : List (Option ℤ)) → Every Placed zs → Every (OfBound (Within 30)) (map I.bound zs)
 within [] h = tt
-within (none ∷ zs) h = (tt, within zs h.1)
-within (some z ∷ zs) h = (near_within z h.0, within zs h.1)
+within (None ∷ zs) h = (tt, within zs h.1)
+within (Some z ∷ zs) h = (near_within z h.0, within zs h.1)
 
 -- ---- a job with bit 2 set, read, and a plan on the grid
 module _ (bytes : List ℕ) (j : Job) (came : read_job bytes ≡ job.accepted j) (g : j.flags.on_grid ≡ true) where

@@ -1,7 +1,6 @@
 -- The collector of every bundle of an answer is upright, so that it has one x; and the answer has the ids of the job's bundles, in job order. Assumes nothing.
-use Rattle.std.specs.Prelude.{ℕ, ◌≡◌, refl, Bool, true, false, ◌||◌, cond, List, [], ◌∷◌, map, Float, length}
+use Rattle.std.specs.Prelude.{ℕ, ◌≡◌, refl, Bool, true, false, ◌||◌, cond, List, [], ◌∷◌, map, Float, length, Option, Some, None}
 use Rattle.std.proofs.Common.{sym, ap, ◌∙◌, subst, arith}
-use Rattle.std.proofs.Math.Option.{Option, none, some}
 use Rattle.std.specs.Float.Ieee.{ne, sub}
 use Rattle.std.specs.Float.{binary64}
 use Rattle.std.proofs.lemmas.List.{length-map}
@@ -35,13 +34,13 @@ rail_upright b u = refl
 
 inside_upright : (b : Board) (u : Bundle) (x : Float) (o : Option (List TapOn)) → Standing (inside_or o b u x).collector
 unfolding inside_or drawn_inside drawn_as
-inside_upright b u x none = rail_upright b u
-inside_upright b u x (some ts) = refl
+inside_upright b u x None = rail_upright b u
+inside_upright b u x (Some ts) = refl
 
 build_upright : (b : Board) (u : Bundle) (x : Option Float) (rs : List Route) → Standing (build b u x rs).collector
 unfolding build
-build_upright b u none rs = rail_upright b u
-build_upright b u (some x) rs = inside_upright b u x _
+build_upright b u None rs = rail_upright b u
+build_upright b u (Some x) rs = inside_upright b u x _
 
 built_upright : (b : Board) (given : List Route) (earlier ts : List Turn) (ds : List Drawn) → Built b given earlier ts ds → Upright ds
 unfolding Built

@@ -1,10 +1,9 @@
 -- Each printed number reads back to the number printed. Assumes nothing.
 use Prim.Native.Nat.{ℕ, zero, suc, ◌+◌, ◌*◌, ◌-◌, ◌/◌, ◌%◌, ◌^◌, ◌<◌}
-use Rattle.std.specs.Prelude.{◌≡◌, Bool, not, cond, List, [], ◌∷◌, ◌++◌, T, eqb, leb}
+use Rattle.std.specs.Prelude.{◌≡◌, Bool, not, cond, List, [], ◌∷◌, ◌++◌, T, eqb, leb, Option, Some}
 use Rattle.std.proofs.Math.Path.{refl, ap}
 use Rattle.std.proofs.Common.{sym, ◌∙◌, append-nil, append_assoc, div-add-mod', div-lt_iff_lt-mul, pow-suc, add-mul, mul_assoc, le→leb, eqb→eq, lit<}
 use Rattle.std.proofs.Math.Bool.{true, false}
-use Rattle.std.proofs.Math.Option.{Option, some}
 use native.Mathlib.Omega.{arith}
 use Rattle.page_text.specs.Listing.{column, columns, right, number_field}
 use Rattle.page_text.specs.Reading.{is_digit, decimals, point, nothing, digits, field, read, read_id}
@@ -131,7 +130,7 @@ module _ (rest : ℕ → List ℕ → Option ℕ) where
           whole_read w (n / 10) (n % 10) l k (last_digit n) (positive n (g tt)) ∙ ap (λ (z : ℕ). digits rest z l) (div-add-mod' n 10)
 
 -- an id reads back
-ended : (n : ℕ) → digits nothing n [] ≡ some n
+ended : (n : ℕ) → digits nothing n [] ≡ Some n
 unfolding digits nothing
 ended n = refl
 
@@ -139,7 +138,7 @@ none_behind : nothing 0 [] ≡ digits nothing 0 []
 unfolding digits nothing
 none_behind = refl
 
-pub id_reads_back : (w n : ℕ) → 0 < w → n < 10 ^ w → read_id (right w n) ≡ some n
+pub id_reads_back : (w n : ℕ) → 0 < w → n < 10 ^ w → read_id (right w n) ≡ Some n
 id_reads_back zero n p h = absurd (omega arith)
 id_reads_back (suc w) n p h = ap read_id (sym (append-nil (right (suc w) n))) ∙ right_read nothing w n [] h (none_behind) ∙ ended n
 
@@ -155,15 +154,15 @@ point_behind : (l : List ℕ) → point 0 (46 ∷ l) ≡ digits point 0 (46 ∷ 
 unfolding digits point
 point_behind l = refl
 
-decimals_end : (a : ℕ) → decimals 0 a [] ≡ some a
+decimals_end : (a : ℕ) → decimals 0 a [] ≡ Some a
 unfolding decimals
 decimals_end a = refl
 
-pub reads_back : (k : ℕ) → k < 128 * 10 ^ 12 → read (number_field k) ≡ some (k * 78125)
+pub reads_back : (k : ℕ) → k < 128 * 10 ^ 12 → read (number_field k) ≡ Some (k * 78125)
 unfolding number_field
 reads_back k h =
     let d = k % 128 * 78125 in
     right_read point 11 (k / 128) (46 ∷ columns 48 7 d) (omega arith) (point_behind (columns 48 7 d)) ∙ point_read (k / 128) (columns 48 7 d)
     ∙ ap (λ (z : List ℕ). decimals 7 (k / 128) z) (sym (append-nil (columns 48 7 d)))
     ∙ decimals_back 7 0 7 (k / 128) d [] refl (omega arith)
-    ∙ decimals_end (k / 128 * 10000000 + d) ∙ ap some (parts k)
+    ∙ decimals_end (k / 128 * 10000000 + d) ∙ ap Some (parts k)

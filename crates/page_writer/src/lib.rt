@@ -26,9 +26,8 @@ fn put_entry(out: &mut [u8], at: usize, w: usize, b: DrawnBundle) -> usize
     ensures bytes { out.new ≡ sets out.old at (bundle_line w b) }
     ensures place { result ≡ at + (66 + w) }
 {
-    let collector = b.collector;
-    let start = collector.start;
-    let end = collector.end;
+    let start = b.collector.start;
+    let end = b.collector.end;
     let x = parts_of(start.x);
     let low = parts_of(binary64::min(start.y, end.y));
     let high = parts_of(binary64::max(start.y, end.y));
@@ -42,13 +41,9 @@ pub fn put_page(out: &mut [u8], t: DrawnBundles) -> usize
     ensures bytes { out.new ≡ sets out.old 0 (page_bytes id_columns (take t.count t.rows)) }
     ensures place { result ≡ length (page_bytes id_columns (take t.count t.rows)) }
 {
-    let n = t.count;
     let mut at: usize = 0;
-    let mut i: usize = 0;
-    while i < n {
-        let row = t.rows[i];
-        at = put_entry(&mut out[..], at, ID_COLUMNS, row);
-        i += 1;
+    for i in 0..t.count {
+        at = put_entry(&mut out[..], at, ID_COLUMNS, t.rows[i]);
     }
     at
 }

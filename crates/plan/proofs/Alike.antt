@@ -1,7 +1,7 @@
 -- Two ways to search that say the same, while the counts of visits that they leave stay related: the plans of both say the same, and their counts are related.
 -- Assumes nothing.
 use Rattle.std.proofs.Math.Path.{◌≡◌, ap, subst}
-use Rattle.std.specs.Prelude.{refl, Bool, cond, ◌||◌, ℕ, length, replicate, Float}
+use Rattle.std.specs.Prelude.{refl, Bool, cond, ◌||◌, ℕ, length, replicate, Float, Option}
 use Rattle.std.proofs.Common.{sym, ◌∙◌}
 use Rattle.std.proofs.Math.Bool.{true, false, not}
 use mathlib.Core.List.{List, [], ◌∷◌, map}
@@ -18,7 +18,6 @@ use Rattle.search.specs.declared.Bounds.{Bounds}
 use Rattle.search.specs.declared.Outcome.{Outcome}
 use Rattle.search.specs.declared.Outcome.TheVariants as outcome
 use Rattle.search.specs.declared.Searched.{Searched}
-use Rattle.geometry.specs.declared.Stretch.{Stretch}
 use Rattle.search.specs.Search.{answer}
 use Rattle.plan.specs.Depths.{◌⊕◌, ◌⊖◌, pitch_of, parting_pitch}
 use Rattle.search.specs.declared.CollectorBounds.{CollectorBounds}
@@ -39,7 +38,7 @@ pub record Twins (look mate : Look) : Type 1 where
   pub Ok : ℕ → Type 0
   pub kept : Kept look
   pub before : (m n : ℕ) → kept.R m n → Ok n → Ok m
-  pub step : (role : Role) (r : Bounds) (ms : List (List Stretch)) (n w : ℕ) → R n w → Ok (look role r ms n).left.0 → Alike R (look role r ms n) (mate role r ms w)
+  pub step : (role : Role) (r : Bounds) (ms : List (List (Option (Float × Float)))) (n w : ℕ) → R n w → Ok (look role r ms n).left.0 → Alike R (look role r ms n) (mate role r ms w)
 
 pub record SamePass (R : ℕ → ℕ → Type 0) (s t : FirstPass) : Type 0 where
   pub same : t.ranges ≡ s.ranges

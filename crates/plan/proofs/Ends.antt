@@ -1,6 +1,6 @@
 -- The turns of the loops over runs, over the routes of a bundle's members, and over edges.
 -- Assumes nothing.
-use Rattle.std.specs.Prelude.{◌≡◌, Bool, false, length, get_or, take, drop, eqb, Float}
+use Rattle.std.specs.Prelude.{◌≡◌, Bool, false, length, get_or, take, drop, eqb, Float, Option}
 use Rattle.std.proofs.Math.Path.{refl, sym, ap}
 use Rattle.std.proofs.Common.{◌∙◌, subst, length-drop, drop_of_length-le, get_or-take, get_or-drop, eq-eqb, ne_eqb}
 use Rattle.std.proofs.Math.Bool.{true, cond}
@@ -9,7 +9,6 @@ use Prim.Native.Nat.{ℕ, zero, suc, ◌+◌, ◌-◌, ◌≤◌, ◌<◌}
 use native.Mathlib.Omega.{arith}
 use Rattle.geometry.specs.declared.Role.{Role}
 use Rattle.geometry.specs.declared.Segment.{Segment}
-use Rattle.geometry.specs.declared.Stretch.{Stretch}
 use Rattle.geometry.specs.Points.{Route, point_at, run_at, points_from}
 use Rattle.geometry.specs.Stretch.{stretch, holds}
 use Rattle.board.specs.Board.{window}
@@ -35,7 +34,7 @@ module _ (role : Role) (pitch x : Float) (s : List Float) where
       ap (λ (j : ℕ). cond (holds x (stretch role pitch (point_at s a) (point_at s j))) (At (point_at s j).x) (diverges_at role pitch x (points_from s j (suc k)))) e
       ∙ ap (λ (j : ℕ). cond (holds x (stretch role pitch (point_at s a) (point_at s (a + 1)))) (At (point_at s (a + 1)).x) (diverges_at role pitch x (points_from s (a + 1) j))) f
 
-  module _ (a k : ℕ) (h : 1 < k) (g : Segment) (eg : g ≡ run_at s a) (t : Stretch) (et : t ≡ stretch role pitch g.start g.end) (r : Bool) (er : r ≡ holds x t) where
+  module _ (a k : ℕ) (h : 1 < k) (g : Segment) (eg : g ≡ run_at s a) (t : Option (Float × Float)) (et : t ≡ stretch role pitch g.start g.end) (r : Bool) (er : r ≡ holds x t) where
     tested : r ≡ holds x (stretch role pitch (point_at s a) (point_at s (a + 1)))
     tested = er ∙ ap (holds x) (et ∙ ap (λ (z : Segment). stretch role pitch z.start z.end) eg)
 

@@ -1,9 +1,8 @@
 -- A grant that covers what is due: no search of the plan is spent, and each says what it says when visits never run out.
 -- Assumes nothing.
 use Rattle.std.proofs.Common.{sym, ap, subst, arith}
-use Rattle.std.specs.Prelude.{Bool, List, ℕ, ◌+◌, ◌-◌, ◌≤◌}
+use Rattle.std.specs.Prelude.{Bool, List, ℕ, ◌+◌, ◌-◌, ◌≤◌, Option, Float}
 use Rattle.geometry.specs.declared.Role.{Role}
-use Rattle.geometry.specs.declared.Stretch.{Stretch}
 use Rattle.geometry.specs.Points.{Route}
 use Rattle.board.specs.declared.Bundle.{Bundle}
 use Rattle.board.specs.Board.{Board}
@@ -22,7 +21,7 @@ use Rattle.plan.specs.Plan.{first_pass, plan_with, plan_of, free, due}
 abbrev pub Covers : ℕ → ℕ → ℕ → Type 0
 Covers f n w = f ≤ w + n
 
-look_alike : (f : ℕ) (role : Role) (r : Bounds) (ms : List (List Stretch)) (n w : ℕ) → f ≤ w + n → (free role r ms n).left.0 ≤ f → Alike (Covers f) (free role r ms n) (search_of role r ms w)
+look_alike : (f : ℕ) (role : Role) (r : Bounds) (ms : List (List (Option (Float × Float)))) (n w : ℕ) → f ≤ w + n → (free role r ms n).left.0 ≤ f → Alike (Covers f) (free role r ms n) (search_of role r ms w)
 look_alike f role r ms n w h k =
     let e = enough role r ms w (omega arith) in
     let p = price_bound role r ms in

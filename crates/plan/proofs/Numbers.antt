@@ -1,6 +1,6 @@
 -- On a board whose numbers are within their limits every bound, corridor and stretch end of the plan is a finite number. The powers of two here are wide: they only keep the numbers finite.
 -- Assumes nothing.
-use Rattle.std.specs.Prelude.{◌≡◌, refl, Bool, not, cond, ℕ, suc, ◌+◌, ◌*◌, ◌≤◌, ◌<◌, length, drop, T, eqb, leb, Float}
+use Rattle.std.specs.Prelude.{◌≡◌, refl, Bool, not, cond, ℕ, suc, ◌+◌, ◌*◌, ◌≤◌, ◌<◌, length, drop, T, eqb, leb, Float, Option, Some, None}
 use Rattle.std.proofs.Common.{sym, subst, arith}
 use Rattle.std.proofs.Math.Bool.{true, false}
 use mathlib.Core.List.{List, [], ◌∷◌, map}
@@ -29,9 +29,7 @@ use Rattle.geometry.specs.Stretch.{from_to, shortened, stretch}
 use Rattle.board.specs.Board.{Board, rail_depth}
 use Rattle.plan.specs.declared.Used.{Used}
 use Rattle.plan.specs.declared.Bound.{Bound}
-use Rattle.plan.specs.declared.Bound.TheVariants as bound
-use Rattle.geometry.specs.declared.Stretch.{Stretch}
-use Rattle.geometry.specs.declared.Stretch.TheVariants.{Nowhere, Of}
+use Rattle.plan.specs.declared.Bound.TheVariants as bounded
 use Rattle.search.specs.Stretches.{stretches, members}
 use Rattle.sorting.specs.Lists.{Every}
 use Rattle.sorting.specs.Sorted.{every_get_d}
@@ -90,8 +88,8 @@ module _ (b : Board) (routes : List Route) (good : Numbers b routes) where
 
   -- ---- offsets and corridors
   offset_small : (u : Bundle) (e : ℕ) (o : Bound) → 31 ≤ e → e ≤ 1000 → SmallBound e o → Small (e + 2) (offset_past b u o)
-  offset_small u e bound.None h k s = zero_small (e + 2)
-  offset_small u e (bound.At w) h k s =
+  offset_small u e bounded.None h k s = zero_small (e + 2)
+  offset_small u e (bounded.At w) h k s =
       let two : suc (suc e) ≤ e + 2 = omega arith in
       greatest_small (e + 2) ((w ⊕ parting_pitch b) ⊖ (boundary_depth b u ⊕ parting_pitch b)) zero64
       (wider (suc (suc e)) (e + 2) ((w ⊕ parting_pitch b) ⊖ (boundary_depth b u ⊕ parting_pitch b)) two
@@ -109,12 +107,12 @@ module _ (b : Board) (routes : List Route) (good : Numbers b routes) where
       (lanes_small u (lane_count (members_in b u)) (lane_count_small (members_in b u) (members_good u))))
 
   further_small : (j k : ℕ) (o : Bound) (d : Float) → j ≤ k → SmallBound j o → Small k d → SmallBound k (further o d)
-  further_small j k bound.None d h s t = t
-  further_small j k (bound.At w) d h s t = greatest_small k w d (wider j k w h s) t
+  further_small j k bounded.None d h s t = t
+  further_small j k (bounded.At w) d h s t = greatest_small k w d (wider j k w h s) t
 
   wider_bound : (j k : ℕ) (o : Bound) → j ≤ k → SmallBound j o → SmallBound k o
-  wider_bound j k bound.None h s = tt
-  wider_bound j k (bound.At x) h s = wider j k x h s
+  wider_bound j k bounded.None h s = tt
+  wider_bound j k (bounded.At x) h s = wider j k x h s
 
   abbrev SmallUsed : ℕ → Used → Type 0
   SmallUsed e w = SmallBound e w.input × SmallBound e w.output
@@ -149,7 +147,7 @@ module _ (b : Board) (routes : List Route) (good : Numbers b routes) where
   among_small u offset r [] s e = tt
   among_small u offset r (m ∷ ms) s e = go (eqb m.edge r) (among_small u offset r ms s e.1)
     where
-      go : (t : Bool) → SmallBound 1002 (corridor_among b u offset r ms) → SmallBound 1002 (cond t (bound.At (corridor_x b u offset m)) (corridor_among b u offset r ms))
+      go : (t : Bool) → SmallBound 1002 (corridor_among b u offset r ms) → SmallBound 1002 (cond t (bounded.At (corridor_x b u offset m)) (corridor_among b u offset r ms))
       go true h = corridor_small u offset m s e.0
       go false h = h
 
@@ -161,8 +159,8 @@ module _ (b : Board) (routes : List Route) (good : Numbers b routes) where
       go (same_role u.role role) (corridor_among b u d r (members_in b u)) (corridor_from b role r us ds) (among_small u d r (members_in b u) e.0 (members_good u)) (corridor_from_small role r us ds e.1)
     where
       first : (o p : Bound) → SmallBound 1002 o → SmallBound 1002 p → SmallBound 1002 (first_of o p)
-      first bound.None p s t = t
-      first (bound.At x) p s t = s
+      first bounded.None p s t = t
+      first (bounded.At x) p s t = s
 
       go : (t : Bool) (o p : Bound) → SmallBound 1002 o → SmallBound 1002 p → SmallBound 1002 (cond t (first_of o p) p)
       go true o p s t = first o p s t
@@ -170,7 +168,7 @@ module _ (b : Board) (routes : List Route) (good : Numbers b routes) where
 
   corridors_small : (role : Role) (r : ℕ) → SmallBound 1002 (corridor_of b role r)
   corridors_small role r =
-      corridor_from_small role r b.bundles (offsets_of b) (offsets_small b.bundles 31 (record { input = bound.None; output = bound.None }) (omega arith) (omega (arith, good.few)) (tt, tt))
+      corridor_from_small role r b.bundles (offsets_of b) (offsets_small b.bundles 31 (record { input = bounded.None; output = bounded.None }) (omega arith) (omega (arith, good.few)) (tt, tt))
 
   -- ---- bounds
   pub route_small : (m : Member) → Every (λ (p : Point). Small 30 p.x) (route_of b routes m)
@@ -187,8 +185,8 @@ module _ (b : Board) (routes : List Route) (good : Numbers b routes) where
   end_small (p ∷ q ∷ ps) e = end_small (q ∷ ps) e.1
 
   map_small : (j k : ℕ) (f : Float → Float) (o : Bound) → SmallBound j o → ((x : Float) → Small j x → Small k (f x)) → SmallBound k (map_bound f o)
-  map_small j k f bound.None s g = tt
-  map_small j k f (bound.At x) s g = g x s
+  map_small j k f bounded.None s g = tt
+  map_small j k f (bounded.At x) s g = g x s
 
   reach_small : (role : Role) (m : Member) → SmallBound 1002 (reach b routes role m)
   reach_small Input m =
@@ -201,20 +199,20 @@ module _ (b : Board) (routes : List Route) (good : Numbers b routes) where
       (wider 31 1002 (x ⊕ b.options.member_endpoint_reserve) (omega arith) (add_small 30 20 30 x b.options.member_endpoint_reserve (omega arith) (omega arith) (omega arith) s good.reserve)) (corridors_small Input m.edge))
 
   tighter_small : (role : Role) (o : Bound) (x : Float) → SmallBound 1002 o → Small 1002 x → Small 1002 (tighter role o x)
-  tighter_small Input bound.None x s t = t
-  tighter_small Output bound.None x s t = t
-  tighter_small Input (bound.At d) x s t = least_small 1002 d x s t
-  tighter_small Output (bound.At d) x s t = greatest_small 1002 d x s t
+  tighter_small Input bounded.None x s t = t
+  tighter_small Output bounded.None x s t = t
+  tighter_small Input (bounded.At d) x s t = least_small 1002 d x s t
+  tighter_small Output (bounded.At d) x s t = greatest_small 1002 d x s t
 
   reach_all_small : (role : Role) (o : Bound) (ms : List Member) → SmallBound 1002 o → SmallBound 1002 (reach_all b routes role o ms)
   unfolding reach_all
   reach_all_small role o [] s = s
-  reach_all_small role o (m ∷ ms) s = go (reach b routes role m) (reach_small role m) (λ x t. reach_all_small role (bound.At (tighter role o x)) ms (tighter_small role o x s t))
+  reach_all_small role o (m ∷ ms) s = go (reach b routes role m) (reach_small role m) (λ x t. reach_all_small role (bounded.At (tighter role o x)) ms (tighter_small role o x s t))
     where
-      go : (r : Bound) → SmallBound 1002 r → ((x : Float) → Small 1002 x → SmallBound 1002 (reach_all b routes role (bound.At (tighter role o x)) ms))
-          → SmallBound 1002 (if_at r bound.None (λ x. reach_all b routes role (bound.At (tighter role o x)) ms))
-      go bound.None s f = tt
-      go (bound.At x) s f = f x s
+      go : (r : Bound) → SmallBound 1002 r → ((x : Float) → Small 1002 x → SmallBound 1002 (reach_all b routes role (bounded.At (tighter role o x)) ms))
+          → SmallBound 1002 (if_at r bounded.None (λ x. reach_all b routes role (bounded.At (tighter role o x)) ms))
+      go bounded.None s f = tt
+      go (bounded.At x) s f = f x s
 
   abbrev pub FairRange : Role → CollectorBounds → Type 0
   FairRange role Absent = Unit {0}
@@ -256,12 +254,12 @@ module _ (b : Board) (routes : List Route) (good : Numbers b routes) where
           }
 
   lowered_under : (d : Float) (o : Bound) → Small 1002 d → SmallBound 1002 o → T (le (lowered d o) d)
-  lowered_under d bound.None s t = le_refl_finite d s.0.is_finite
-  lowered_under d (bound.At y) s t = least_le_left d y s.0.is_finite t.0.is_finite
+  lowered_under d bounded.None s t = le_refl_finite d s.0.is_finite
+  lowered_under d (bounded.At y) s t = least_le_left d y s.0.is_finite t.0.is_finite
 
   raised_over : (d : Float) (o : Bound) → Small 1002 d → SmallBound 1002 o → T (le d (raised d o))
-  raised_over d bound.None s t = le_refl_finite d s.0.is_finite
-  raised_over d (bound.At y) s t = le_greatest_left d y s.0.is_finite t.0.is_finite
+  raised_over d bounded.None s t = le_refl_finite d s.0.is_finite
+  raised_over d (bounded.At y) s t = le_greatest_left d y s.0.is_finite t.0.is_finite
 
   between_fair : (u : Bundle) (lower upper : Bound) → SmallBound 1002 lower → SmallBound 1002 upper → (role : Role) (d : Float) → Small 1002 d → FairRange role (between b u lower upper role d)
   between_fair u lower upper sl su Input d s =
@@ -282,19 +280,19 @@ module _ (b : Board) (routes : List Route) (good : Numbers b routes) where
   -- the bounds of a bundle are numbers, and the desired x is the better of them
   pub bounds_fair : (u : Bundle) (lower upper : Bound) → SmallBound 1002 lower → SmallBound 1002 upper → FairRange u.role (bounds_of b routes u lower upper)
   unfolding bounds_of
-  bounds_fair u lower upper sl su = go (leb u.width 1) (leb u.count 1) (reach_all b routes u.role bound.None (members_in b u)) (reach_all_small u.role bound.None (members_in b u) tt)
+  bounds_fair u lower upper sl su = go (leb u.width 1) (leb u.count 1) (reach_all b routes u.role bounded.None (members_in b u)) (reach_all_small u.role bounded.None (members_in b u) tt)
     where
       go : (s t : Bool) (r : Bound) → SmallBound 1002 r → FairRange u.role (cond s Absent (cond t Absent (if_at r Absent (between b u lower upper u.role))))
       go true t r h = tt
       go false true r h = tt
-      go false false bound.None h = tt
-      go false false (bound.At d) h = between_fair u lower upper sl su u.role d h
+      go false false bounded.None h = tt
+      go false false (bounded.At d) h = between_fair u lower upper sl su u.role d h
 
   -- ---- stretches
   from_to_real : (low high : Float) → Real low → Real high → RealStretch (from_to low high)
   from_to_real low high r s = go (le low high)
     where
-      go : (t : Bool) → RealStretch (cond t (Of low high) Nowhere)
+      go : (t : Bool) → RealStretch (cond t (Some (low, high)) None)
       go true = (r, s)
       go false = tt
 
@@ -305,7 +303,7 @@ module _ (b : Board) (routes : List Route) (good : Numbers b routes) where
   stretch_real : (role : Role) (p q : Point) → Small 30 p.x → Small 30 q.x → RealStretch (stretch role (parting_pitch b) p q)
   stretch_real role p q s t = go (Ieee.ne p.y q.y) (Ieee.le q.x p.x) (shortened role (parting_pitch b) p.x q.x) (shortened_real role p.x q.x s t)
     where
-      go : (c d : Bool) (e : Stretch) → RealStretch e → RealStretch (cond c Nowhere (cond d Nowhere e))
+      go : (c d : Bool) (e : Option (Float × Float)) → RealStretch e → RealStretch (cond c None (cond d None e))
       go true d e h = tt
       go false true e h = tt
       go false false e h = h

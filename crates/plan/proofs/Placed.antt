@@ -1,13 +1,12 @@
 -- Every x that a search finds lies in a stretch of a given route.
 -- Assumes nothing.
-use Rattle.std.specs.Prelude.{ℕ, ◌-◌, ◌<◌, ◌≡◌, Bool, leb, length, drop, Float}
+use Rattle.std.specs.Prelude.{ℕ, ◌-◌, ◌<◌, ◌≡◌, Bool, leb, length, drop, Float, Option}
 use Rattle.std.proofs.Math.Path.{refl}
 use Rattle.std.proofs.Common.{sym, subst, true≢false, arith, length-take, length-drop}
 use Rattle.std.proofs.Math.Bool.{true, false, cond}
 use mathlib.Core.List.{List, [], ◌∷◌, map}
 use Rattle.geometry.specs.declared.Point.{Point}
 use Rattle.geometry.specs.declared.Role.{Role}
-use Rattle.geometry.specs.declared.Stretch.{Stretch}
 use Rattle.geometry.specs.Points.{Route, runs}
 use Rattle.geometry.specs.Stretch.{stretch, holds}
 use Rattle.board.specs.declared.Bundle.{Bundle}
@@ -31,7 +30,7 @@ use Rattle.plan.specs.Plan.{found_x}
 use Rattle.plan.proofs.CarriedNumbers.{Windowed, OfBound}
 
 -- ---- the search finds only what every member allows
-commons_common : (ms : List (List Stretch)) (xs : List Float) → Every (λ (x : Float). common x ms ≡ true) (commons ms xs)
+commons_common : (ms : List (List (Option (Float × Float)))) (xs : List Float) → Every (λ (x : Float). common x ms ≡ true) (commons ms xs)
 unfolding commons
 commons_common ms [] = tt
 commons_common ms (x ∷ xs) = go (common x ms) refl (commons_common ms xs)
@@ -40,16 +39,16 @@ commons_common ms (x ∷ xs) = go (common x ms) refl (commons_common ms xs)
     go true e h = (e, h)
     go false e h = h
 
-abbrev Common : List (List Stretch) → Outcome → Type 0
+abbrev Common : List (List (Option (Float × Float))) → Outcome → Type 0
 Common ms (outcome.Found x) = common x ms ≡ true
 Common ms outcome.Nothing = Unit {0}
 Common ms outcome.Spent = Unit {0}
 
-first_common : (ms : List (List Stretch)) (xs : List Float) → Every (λ (x : Float). common x ms ≡ true) xs → Common ms (first xs)
+first_common : (ms : List (List (Option (Float × Float)))) (xs : List Float) → Every (λ (x : Float). common x ms ≡ true) xs → Common ms (first xs)
 first_common ms [] e = tt
 first_common ms (x ∷ xs) e = e.0
 
-pub found_common : (role : Role) (r : Bounds) (ms : List (List Stretch)) (v : ℕ) → Common ms (search_of role r ms v).outcome
+pub found_common : (role : Role) (r : Bounds) (ms : List (List (Option (Float × Float)))) (v : ℕ) → Common ms (search_of role r ms v).outcome
 found_common role r ms v = subst (λ (s : Searched). Common ms s.outcome) (sym (search_paid role r ms v)) (go (leb (price role r ms) v))
   where
     go : (t : Bool) → Common ms (cond t (answer (freely role r ms) (v - price role r ms)) (answer outcome.Spent 0)).outcome

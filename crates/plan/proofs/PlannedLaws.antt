@@ -1,6 +1,6 @@
 -- The planned x of a bundle that shares no route with a bundle of the other role, where collectors of one role are not separated and the grant is sufficient.
 -- Assumes nothing.
-use Rattle.std.specs.Prelude.{◌≡◌, refl, ◌⊎◌, Bool, true, false, cond, length, get_or, leb}
+use Rattle.std.specs.Prelude.{◌≡◌, refl, ◌⊎◌, Bool, true, false, cond, length, get_or, leb, Option, Float}
 use Rattle.std.proofs.Common.{sym, ◌∙◌, subst, inl, inr, arith, le-leb}
 use Rattle.std.proofs.Math.Path.{ap}
 use mathlib.Core.List.{List, [], ◌∷◌}
@@ -12,7 +12,6 @@ use Rattle.geometry.specs.Points.{Route}
 use Rattle.board.specs.Board.{Board}
 use Rattle.plan.specs.declared.Bound.{Bound}
 use Rattle.plan.specs.declared.Bound.TheVariants.{None, At}
-use Rattle.geometry.specs.declared.Stretch.{Stretch}
 use Rattle.search.specs.declared.Bounds.{Bounds}
 use Rattle.search.specs.declared.Outcome.{Outcome}
 use Rattle.search.specs.declared.Outcome.TheVariants as outcome
@@ -33,7 +32,7 @@ use Rattle.plan.proofs.SmallNumbers.{Numbers}
 use Rattle.plan.proofs.Numbers.{FairRange, bounds_fair, trunks_real}
 
 -- x is the best of the fractions that lie between the bounds and in a stretch of every member; where none is planned there is none, and where bounds are absent none is planned
-abbrev pub Best : Role → CollectorBounds → List (List Stretch) → Bound → Type 0
+abbrev pub Best : Role → CollectorBounds → List (List (Option (Float × Float))) → Bound → Type 0
 Best role Absent ms x = x ≡ None
 Best role (Between r) ms None = (q : Fraction) → Good r ms q → ⊥
 Best role (Between r) ms (At x) = Real x × Good r ms (value x) × ((q : Fraction) → Good r ms q → UpToℚ role q x)
@@ -63,7 +62,7 @@ module _ (b : Board) (routes : List Route) where
   ranges_at (u ∷ us) n zero d h = ap (ranged u (bounds_of b routes u None None)) (found_alike u (bounds_of b routes u None None) n)
   ranges_at (u ∷ us) n (suc i) d h = ranges_at us (seek free b routes u None None n).left.0 i d (omega arith)
 
-  answer_best : (role : Role) (r : Bounds) (ms : List (List Stretch)) (f : Outcome) → Answers role r ms f → Best role (Between r) ms (initial_x (ranged no_ranged.bundle (Between r) f))
+  answer_best : (role : Role) (r : Bounds) (ms : List (List (Option (Float × Float)))) (f : Outcome) → Answers role r ms f → Best role (Between r) ms (initial_x (ranged no_ranged.bundle (Between r) f))
   answer_best role r ms (outcome.Found x) a = a
   answer_best role r ms outcome.Nothing a = a
   answer_best role r ms outcome.Spent a = absurd a

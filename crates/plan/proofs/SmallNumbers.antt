@@ -17,7 +17,7 @@ use Rattle.board.specs.declared.Member.{Member}
 use Rattle.geometry.specs.Points.{Route}
 use Rattle.board.specs.Board.{Board}
 use Rattle.plan.specs.declared.Bound.{Bound}
-use Rattle.plan.specs.declared.Bound.TheVariants as bound
+use Rattle.plan.specs.declared.Bound.TheVariants as bounded
 use Rattle.search.specs.Stretches.{members}
 use Rattle.sorting.specs.Lists.{Every}
 use Rattle.search.specs.Good.{Real}
@@ -29,8 +29,8 @@ abbrev pub Small : ℕ → Float → Type 0
 Small k x = Within k x × T (fits binary64 x)
 
 abbrev pub SmallBound : ℕ → Bound → Type 0
-SmallBound k bound.None = Unit {0}
-SmallBound k (bound.At x) = Small k x
+SmallBound k bounded.None = Unit {0}
+SmallBound k (bounded.At x) = Small k x
 
 -- the limits of the job
 pub record Numbers (b : Board) (routes : List Route) : Type 0 where
@@ -88,9 +88,9 @@ lane_count_small (m ∷ []) e = omega (arith, e.0)
 lane_count_small (m ∷ n ∷ ms) e = lane_count_small (n ∷ ms) e.1
 
 pub raised_small : (k : ℕ) (x : Float) (o : Bound) → Small k x → SmallBound k o → Small k (raised x o)
-raised_small k x bound.None s t = s
-raised_small k x (bound.At y) s t = greatest_small k x y s t
+raised_small k x bounded.None s t = s
+raised_small k x (bounded.At y) s t = greatest_small k x y s t
 
 pub lowered_small : (k : ℕ) (x : Float) (o : Bound) → Small k x → SmallBound k o → Small k (lowered x o)
-lowered_small k x bound.None s t = s
-lowered_small k x (bound.At y) s t = least_small k x y s t
+lowered_small k x bounded.None s t = s
+lowered_small k x (bounded.At y) s t = least_small k x y s t

@@ -1,12 +1,11 @@
 -- What the plan pays. Visits granted are visits left plus those that the definition counts; where they never run out it counts the sum of the prices of its searches.
 -- Assumes nothing.
-use Rattle.std.specs.Prelude.{◌≡◌, refl, Bool, true, false, cond, List, ℕ, ◌+◌, ◌-◌, ◌≤◌, leb}
+use Rattle.std.specs.Prelude.{◌≡◌, refl, Bool, true, false, cond, List, ℕ, ◌+◌, ◌-◌, ◌≤◌, leb, Option, Float}
 use Rattle.std.proofs.Common.{arith, le-leb, leb-true}
 use Rattle.geometry.specs.declared.Role.{Role}
 use Rattle.geometry.specs.Points.{Route}
 use Rattle.board.specs.Board.{Board}
 use Rattle.search.specs.declared.Bounds.{Bounds}
-use Rattle.geometry.specs.declared.Stretch.{Stretch}
 use Rattle.search.specs.declared.Outcome.TheVariants as outcome
 use Rattle.search.specs.Search.{search_of, answer}
 use Rattle.search.proofs.Count.{search_paid}
@@ -59,7 +58,7 @@ any look = record { R = λ m n. Unit {0}; same = λ n. tt; chain = λ l m n h k.
 
 -- ---- visits granted are visits left plus those counted
 
-counted_alike : (grant : ℕ) (role : Role) (r : Bounds) (ms : List (List Stretch)) (n w : ℕ) → w + n ≡ grant → Alike (λ m v. v + m ≡ grant) (counting grant role r ms n) (search_of role r ms w)
+counted_alike : (grant : ℕ) (role : Role) (r : Bounds) (ms : List (List (Option (Float × Float)))) (n w : ℕ) → w + n ≡ grant → Alike (λ m v. v + m ≡ grant) (counting grant role r ms n) (search_of role r ms w)
 counted_alike grant role r ms n w h =
     let e : grant - n ≡ w = omega arith in
     rw (search_paid role r ms w, e) (go (leb (price role r ms) w) refl)
@@ -93,7 +92,7 @@ module _ (b : Board) (routes : List Route) (separate : Bool) (v : ℕ) where
 abbrev grows : Kept pricing
 grows = record { R = λ m n. m ≤ n; same = λ n. omega arith; chain = λ l m n h k. omega arith; step = λ role r ms n. omega arith }
 
-priced_alike : (grant : ℕ) (role : Role) (r : Bounds) (ms : List (List Stretch)) (n w : ℕ) → w ≡ n → n + price role r ms ≤ grant → Alike (λ m v. v ≡ m) (pricing role r ms n) (counting grant role r ms w)
+priced_alike : (grant : ℕ) (role : Role) (r : Bounds) (ms : List (List (Option (Float × Float)))) (n w : ℕ) → w ≡ n → n + price role r ms ≤ grant → Alike (λ m v. v ≡ m) (pricing role r ms n) (counting grant role r ms w)
 priced_alike grant role r ms n w h k = rw (h, le-leb (price role r ms) (grant - n) (omega arith)) (record { same = refl; counts = refl })
 
 abbrev priced : (grant : ℕ) → Twins pricing (counting grant)

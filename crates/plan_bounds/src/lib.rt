@@ -65,14 +65,8 @@ fn end_x(role: Role, points: &[f64], start: usize, count: usize) -> Bound
         return Bound::None;
     }
     match role {
-        Role::Input => {
-            let p = route_views::route_last(points, start, count);
-            Bound::At(p.x)
-        }
-        Role::Output => {
-            let p = route_views::route_point(points, start, count, 0);
-            Bound::At(p.x)
-        }
+        Role::Input => Bound::At(route_views::route_last(points, start, count).x),
+        Role::Output => Bound::At(route_views::route_point(points, start, count, 0).x),
     }
 }
 
@@ -103,28 +97,17 @@ pub fn reach_all(
     ensures { (b : Board) (given : List Route) (lanes : List ℕ) → reserve ≡ b.options.member_endpoint_reserve → Rowed b edges.now lanes → u.first + u.count ≤ length b.members → Windowed b given points.now starts.now counts.now → Cornered b Input in_marks.now in_xs.now → Cornered b Output out_marks.now out_xs.now → result ≡ reach_all b given role None (members_in b u) }
 {
     let across = other(role);
-    let first = u.first;
-    let n = u.count;
     let mut d = Bound::None;
-    let mut i: usize = 0;
-    while i < n {
-        let k = first + i;
-        let at = edges[k];
-        let corridor = plan_corridors::corridor_of(across, in_marks, in_xs, out_marks, out_xs, at);
-        let start = starts[k];
-        let count = counts[k];
-        let end = end_x(role, points, start, count);
-        i += 1;
-        let r = member_reach(role, reserve, corridor, end);
-        match r {
-            Bound::None => {
-                return Bound::None;
-            }
-            Bound::At(x) => {
-                let t = tighten(role, d, x);
-                d = Bound::At(t);
-            }
-        }
+    for i in 0..u.count {
+        let k = u.first + i;
+        let corridor = plan_corridors::corridor_of(
+            across, in_marks, in_xs, out_marks, out_xs, edges[k],
+        );
+        let end = end_x(role, points, starts[k], counts[k]);
+        let Bound::At(x) = member_reach(role, reserve, corridor, end) else {
+            return Bound::None;
+        };
+        d = Bound::At(tighten(role, d, x));
     }
     d
 }
@@ -135,10 +118,9 @@ fn unless_crossed(low: f64, desired: f64, high: f64) -> CollectorBounds
     if low > high {
         return CollectorBounds::Absent;
     }
-    let x = plan_numbers::clamp(desired, low, high);
     CollectorBounds::Between(Bounds {
         minimum: low,
-        desired: x,
+        desired: plan_numbers::clamp(desired, low, high),
         maximum: high,
     })
 }
@@ -186,11 +168,8 @@ pub fn interior_collector_bounds(
     if u.count <= 1 {
         return CollectorBounds::Absent;
     }
-    let role = u.role;
-    let x = r.endpoint;
-    let reached = r.reached;
-    match reached {
+    match r.reached {
         Bound::None => CollectorBounds::Absent,
-        Bound::At(d) => span_of(role, x, rail, pitch, lower, upper, d),
+        Bound::At(d) => span_of(u.role, r.endpoint, rail, pitch, lower, upper, d),
     }
 }

@@ -1,7 +1,7 @@
 -- A plan that is written is read back; a plan that is taken has an entry for each bundle, visits within the grant and numbers of the format that pass 18; a plan of 32 entries has at most 297 bytes.
 -- Assumes nothing.
 use Rattle.std.specs.Prelude.{ℕ, zero, suc, ◌+◌, ◌-◌, ◌*◌, ◌^◌, ◌≤◌, ◌<◌, ◌≡◌, refl, Bool, true, false, ◌&&◌, cond, List, [], ◌∷◌, ◌++◌, eqb, leb, length, take, drop}
-use Rattle.std.proofs.Common.{sym, ap, ◌∙◌, subst, true≢false, append_assoc, append-nil, arith, length-append, take_at, drop_at, le-leb, eq-eqb, leb-true}
+use Rattle.std.proofs.Common.{sym, ap, ◌∙◌, subst, append_assoc, append-nil, arith, length-append, take_at, drop_at, le-leb, eq-eqb, leb-true}
 use Rattle.std.specs.Float.{binary64}
 use Rattle.std.specs.Float.Ieee.{of_bits, to_bits}
 use Rattle.std.specs.Float.Ieee.Bits.{of_bits-to_bits, of_bits-fits, to_bits-lt}
@@ -17,7 +17,7 @@ use Rattle.plan.specs.declared.Bound.TheVariants.{None, At}
 use Rattle.plan.specs.Plan.{Plan}
 use Rattle.plan.proofs.CarriedNumbers.{OfBound}
 use Rattle.plan_bytes.specs.PlanNumbers.{both}
-use Rattle.plan_bytes.specs.PlanBytes.{entry_bytes, body_bytes, plan_bytes, marked, entry, versioned, body, Taken, rejected, taken, every_planned, plannable, settled, length_fits, read_plan}
+use Rattle.plan_bytes.specs.PlanBytes.{entry_bytes, body_bytes, plan_bytes, marked, entry, versioned, body, rejected, taken, every_planned, plannable, settled, length_fits, read_plan}
 
 -- ---- there and back
 

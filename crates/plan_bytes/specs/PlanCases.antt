@@ -1,5 +1,5 @@
 -- Plans at the edges of document 02's F-5: what 17 and 18 are given for, and in which order. Assumes nothing.
-use Rattle.std.specs.Prelude.{ℕ, ◌≡◌, refl, Bool, true, false, List, [], ◌∷◌, ◌++◌, pos, negsuc, Float}
+use Rattle.std.specs.Prelude.{ℕ, ◌≡◌, refl, true, false, List, [], ◌∷◌, pos, negsuc, Float}
 use Rattle.std.specs.Float.{fin}
 use Rattle.std.specs.Float.Ieee.{of_bits, to_bits, le, lt, eq}
 use Rattle.binary64.specs.Accepted.{minus_zero, plus_zero, accepted}

@@ -1,15 +1,14 @@
 -- The numbers that pass 18: how they are tested, how large they are, and which they are with bit 2 set. Assumes nothing.
-use Rattle.std.specs.Prelude.{ℕ, ◌*◌, ◌^◌, ◌≤◌, ◌≡◌, refl, Bool, true, false, not, ◌&&◌, cond, List, [], ◌∷◌, T, ℤ, pos, nat_abs, Float}
+use Rattle.std.specs.Prelude.{◌*◌, ◌^◌, ◌≤◌, ◌≡◌, refl, Bool, true, false, not, ◌&&◌, cond, List, [], ◌∷◌, T, ℤ, pos, nat_abs, Float}
 use Rattle.std.proofs.Common.{sym, ap, ◌∙◌, subst, true≢false, mul-one, zero-mul, mul-le-mul_right, arith}
 use Rattle.std.specs.Float.{nan, inf, fin, binary64}
 use Rattle.std.specs.Float.Ieee.{fits, le, eq}
 use Rattle.std.specs.Float.Ieee.Bits.{is_true}
-use Rattle.std.specs.Float.Ieee.Positive.{num, den}
+use Rattle.std.specs.Float.Ieee.Positive.{den}
 use Rattle.std.specs.Float.Ieee.Scale.{finite}
 use Rattle.binary64.specs.Accepted.{zero64, is_coordinate, minus_zero, plus_zero, two_to}
 use Rattle.binary64.specs.ExactOnGrid.{at_size}
-use Rattle.binary64.proofs.Kind.{Between, within, by_tests, plus_zero_plain, finite_between}
-use Rattle.binary64.proofs.Plain.{Plain}
+use Rattle.binary64.proofs.Kind.{within, by_tests, plus_zero_plain, finite_between}
 use Rattle.binary64.specs.Range.{Within}
 use Rattle.binary64.specs.Value.{over, under, num_parts, at_most→le, eq→same}
 use Rattle.grid.specs.DraftingGrid.{on_plan_grid, parts_of}

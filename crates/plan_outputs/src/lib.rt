@@ -27,11 +27,9 @@ fn run_end(role: Role, pitch: f64, x: f64, points: &[f64], start: usize, count: 
     requires { 2 * (start + count) ≤ length points.now }
     ensures { result ≡ diverges_at role pitch x (points_from points.now start count) }
 {
-    let mut i: usize = 0;
-    while i + 1 < count {
+    for i in 0..count.saturating_sub(1) {
         let run = route_views::route_run(points, start, count, i);
         let s = shapes::shared_trunk_horizontal_range(run.start, run.end, role, pitch);
-        i += 1;
         if shapes::stretch_holds(s, x) {
             return Bound::At(run.end.x);
         }
@@ -53,25 +51,13 @@ pub fn input_shared_trunk_divergence_x(
     requires count_in_bounds { u.first + u.count ≤ length starts.now }
     ensures { result ≡ divergence_over u.role pitch x None (routes points.now (window u.first u.count starts.now) (window u.first u.count counts.now)) }
 {
-    let role = u.role;
-    let first = u.first;
-    let n = u.count;
     let mut d = Bound::None;
-    let mut i: usize = 0;
-    while i < n {
-        let k = first + i;
-        let start = starts[k];
-        let count = counts[k];
-        i += 1;
-        let e = run_end(role, pitch, x, points, start, count);
-        match e {
-            Bound::None => {
-                return Bound::None;
-            }
-            Bound::At(y) => {
-                d = plan_numbers::furthest(d, y);
-            }
-        }
+    for i in 0..u.count {
+        let k = u.first + i;
+        let Bound::At(y) = run_end(u.role, pitch, x, points, starts[k], counts[k]) else {
+            return Bound::None;
+        };
+        d = plan_numbers::furthest(d, y);
     }
     d
 }
@@ -122,15 +108,9 @@ pub fn required_output_collector_x(
     ensures { (b : Board) (given : List Route) (rail : Float) (ranges : List Ranged) → AllTell b given points.now starts.now counts.now rail pitch t → SameBundles ranges t → result ≡ required b given ranges (map x_of (take t.count p.rows)) None (take count which.now) }
 {
     let mut r = Bound::None;
-    let mut k: usize = 0;
-    while k < count {
+    for k in 0..count {
         let i = which[k];
-        let row = t.rows[i];
-        let u = row.bundle;
-        let old = p.rows[i];
-        let x = old.x;
-        k += 1;
-        let a = ask(points, starts, counts, pitch, u, x);
+        let a = ask(points, starts, counts, pitch, t.rows[i].bundle, p.rows[i].x);
         r = further_of(r, a);
     }
     r

@@ -1,15 +1,15 @@
 -- What the steps of the plan's reader come to. Assumes nothing.
 use Prim.Native.Nat.{ℕ, suc, ◌+◌, ◌-◌, ◌≤◌, ◌<◌}
 use mathlib.Core.Path.{◌≡◌, refl, sym, ap, ◌∙◌, subst}
-use mathlib.Core.Bool.{Bool, true, false, not, ◌&&◌, cond, true≢false}
+use mathlib.Core.Bool.{Bool, true, false, ◌&&◌, cond, true≢false}
 use mathlib.Core.List.{List, [], ◌∷◌, ◌++◌, map, append-nil, append_assoc}
 use native.Mathlib.Omega.{arith}
 use native.Mathlib.Numerals.{add-one}
 use lib.Dec.{eqb, leb}
-use lib.Ieee.{binary64, of_bits}
+use lib.Ieee.{Float, binary64, of_bits}
 use lib.Seq.{take-suc-set}
 use lib.ListN.{length, get_or, take, drop, set, length-drop}
-use borrow.Author.Tests.{eq-eqb, ne_eqb, le-leb, leb-true, leb-false, not-true, not-false}
+use borrow.Author.Tests.{eq-eqb, ne_eqb, le-leb, leb-true, leb-false}
 use Rattle.wire.specs.Bytes.{number}
 use Rattle.wire.proofs.BytesLaws.{number_one}
 use Rattle.wire.specs.Read.{Read, refused, got, after, read, give, field, list_of}
@@ -20,24 +20,26 @@ use Rattle.plan.specs.declared.Planned.{Planned}
 use Rattle.plan.specs.Plan.{Plan}
 use Rattle.plan.specs.Prepared.{x_of}
 use Rattle.plan_bytes.specs.PlanBytes.{marked, entry, versioned, body, rejected, taken, every_planned, plannable, settled, length_fits, read_plan}
-use Rattle.plan_reader.specs.declared.Entry.{Entry}
-use Rattle.plan_reader.specs.declared.Entry.TheVariants.{Bad, Empty, Pattern}
+use Rattle.refusal.specs.declared.Refusal.{Refusal}
+use Rattle.refusal.specs.declared.Refusal.TheVariants.{PlanMismatch}
+use Rattle.refusal.specs.Refusal.{refusal_number}
+use Rattle.std.specs.Prelude.{Result, Ok, Err, Option}
+use Rattle.std.specs.Prelude as std
 use Rattle.plan_reader.specs.declared.Entries.{Entries}
-use Rattle.plan_reader.specs.declared.Judged.{Judged}
-use Rattle.plan_reader.specs.Reading.{as_17, told_entry, prefixed, SoFar, EntriesTold, JudgedAs}
+use Rattle.plan_reader.specs.Reading.{as_17, told_number, told_entry, judged, prefixed, SoFar, EntriesTold}
 
 -- ---- one entry
 
-pub pattern_good : (s : List ℕ) (at b : ℕ) → at + 9 ≤ length s → b ≡ number (take 8 (drop (at + 1) s)) → told_entry (Pattern b) at s ≡ as_17 (marked 1 (drop (at + 1) s))
-unfolding told_entry as_17 marked after
-pattern_good s at b h e =
+pub number_good : (s : List ℕ) (at b : ℕ) → at + 9 ≤ length s → b ≡ number (take 8 (drop (at + 1) s)) → told_number (Ok b) at s ≡ as_17 (marked 1 (drop (at + 1) s))
+unfolding told_number as_17 marked after
+number_good s at b h e =
     let k : at + 1 + 8 ≤ length s = omega (arith, h) in
     let z : at + 1 + 8 ≡ at + 9 = omega arith in
     rw (field_at 8 (at + 1) s k, e, z)
 
-pub pattern_bad : (s : List ℕ) (at : ℕ) → length s < at + 9 → told_entry Bad at s ≡ as_17 (marked 1 (drop (at + 1) s))
-unfolding told_entry as_17 marked after
-pattern_bad s at h = let k : length s < at + 1 + 8 = omega (arith, h) in rw (field_past 8 (at + 1) s (omega arith) k)
+pub number_bad : (s : List ℕ) (at : ℕ) → length s < at + 9 → told_number (Err PlanMismatch) at s ≡ as_17 (marked 1 (drop (at + 1) s))
+unfolding told_number as_17 marked after
+number_bad s at h = let k : length s < at + 1 + 8 = omega (arith, h) in rw (field_past 8 (at + 1) s (omega arith) k)
 
 entry_byte : (s : List ℕ) (at : ℕ) → at < length s → entry (drop at s) ≡ marked (get_or s at 0) (drop (at + 1) s)
 unfolding after
@@ -45,18 +47,23 @@ entry_byte s at h =
     let k : at + 1 ≤ length s = omega (arith, h) in
     rw (field_at 1 at s k, number_one s at h)
 
-pub entry_empty : (s : List ℕ) (at : ℕ) → at < length s → get_or s at 0 ≡ 0 → told_entry Empty at s ≡ as_17 (entry (drop at s))
+pub entry_none : (s : List ℕ) (at : ℕ) → at < length s → get_or s at 0 ≡ 0 → told_entry (Ok std.None) at s ≡ as_17 (entry (drop at s))
 unfolding told_entry as_17 marked
-entry_empty s at h e = rw (entry_byte s at h, e)
+entry_none s at h e = rw (entry_byte s at h, e)
 
-pub entry_number : (s : List ℕ) (at : ℕ) (r : Entry) → at < length s → get_or s at 0 ≡ 1 → told_entry r at s ≡ as_17 (marked 1 (drop (at + 1) s)) → told_entry r at s ≡ as_17 (entry (drop at s))
-entry_number s at r h e w = w ∙ ap as_17 (ap (λ (m : ℕ). marked m (drop (at + 1) s)) (sym e) ∙ sym (entry_byte s at h))
+pub entry_number : (s : List ℕ) (at b : ℕ) → at < length s → get_or s at 0 ≡ 1 → told_number (Ok b) at s ≡ as_17 (marked 1 (drop (at + 1) s)) → told_entry (Ok (std.Some b)) at s ≡ as_17 (entry (drop at s))
+unfolding told_entry
+entry_number s at b h e w = w ∙ ap as_17 (ap (λ (m : ℕ). marked m (drop (at + 1) s)) (sym e) ∙ sym (entry_byte s at h))
 
-pub entry_other : (s : List ℕ) (at : ℕ) → at < length s → (get_or s at 0 ≡ 0 → ⊥) → (get_or s at 0 ≡ 1 → ⊥) → told_entry Bad at s ≡ as_17 (entry (drop at s))
+pub entry_cut : (s : List ℕ) (at : ℕ) (r : Refusal) → at < length s → get_or s at 0 ≡ 1 → told_number (Err r) at s ≡ as_17 (marked 1 (drop (at + 1) s)) → told_entry (Err r) at s ≡ as_17 (entry (drop at s))
+unfolding told_entry told_number
+entry_cut s at r h e w = w ∙ ap as_17 (ap (λ (m : ℕ). marked m (drop (at + 1) s)) (sym e) ∙ sym (entry_byte s at h))
+
+pub entry_other : (s : List ℕ) (at : ℕ) → at < length s → (get_or s at 0 ≡ 0 → ⊥) → (get_or s at 0 ≡ 1 → ⊥) → told_entry (Err PlanMismatch) at s ≡ as_17 (entry (drop at s))
 unfolding told_entry as_17 marked
 entry_other s at h e f = rw (entry_byte s at h, ne_eqb (get_or s at 0) 0 e, ne_eqb (get_or s at 0) 1 f)
 
-pub entry_past : (s : List ℕ) (at : ℕ) → length s ≤ at → told_entry Bad at s ≡ as_17 (entry (drop at s))
+pub entry_past : (s : List ℕ) (at : ℕ) → length s ≤ at → told_entry (Err PlanMismatch) at s ≡ as_17 (entry (drop at s))
 unfolding told_entry as_17 after
 entry_past s at h = let k : length s < at + 1 = omega (arith, h) in rw (field_past 1 at s (omega arith) k)
 
@@ -142,35 +149,59 @@ and_true : (a : Bool) → (a && true) ≡ a
 and_true true = refl
 and_true false = refl
 
+and_false : (a : Bool) → (a && false) ≡ false
+and_false true = refl
+and_false false = refl
+
+is_17 : {A : Type 0} (e : Refusal) (r : Read A) → refused (refusal_number e) ≡ as_17 r → 17 ≡ refusal_number e
+unfolding as_17
+is_17 e (refused m) q = cc
+is_17 e (got a t) q = let z : ◌≡◌ {A = ℕ} 0 1 = cc in absurd (omega arith)
+
 module _ (grid : Bool) (s : List ℕ) (from n at i : ℕ) (passes : Bool) (rows : List Planned) (f : SoFar grid s from n at i passes (map x_of (take i rows))) (before : i < n) (room : i < length rows) where
-  pub empty_turn : (e : Entry) → e ≡ Empty → told_entry e at s ≡ as_17 (entry (drop at s)) → SoFar grid s from n (at + 1) (i + 1) passes (map x_of (take (i + 1) (set rows i (record { x = None }))))
+  pub none_turn : told_entry (Ok std.None) at s ≡ as_17 (entry (drop at s)) → SoFar grid s from n (at + 1) (i + 1) passes (map x_of (take (i + 1) (set rows i (record { x = None }))))
   unfolding told_entry every_planned
-  empty_turn e q w =
-      let g : got None (drop (at + 1) s) ≡ as_17 (entry (drop at s)) = subst (λ (z : Entry). told_entry z at s ≡ as_17 (entry (drop at s))) q w in
+  none_turn w =
       subst (λ (b : Bool). SoFar grid s from n (at + 1) (i + 1) b (map x_of (take (i + 1) (set rows i (record { x = None }))))) (and_true passes)
-      (next grid s from n at (at + 1) i passes (map x_of (take i rows)) _ None None true f before (as_got (entry (drop at s)) None (drop (at + 1) s) g) refl (λ h. refl) (rows_more rows i None room))
+      (next grid s from n at (at + 1) i passes (map x_of (take i rows)) _ None None true f before (as_got (entry (drop at s)) None (drop (at + 1) s) w) refl (λ h. refl) (rows_more rows i None room))
 
-  pub pattern_turn : (e : Entry) (b : ℕ) (j : Judged) → e ≡ Pattern b → told_entry e at s ≡ as_17 (entry (drop at s)) → JudgedAs grid b j → SoFar grid s from n (at + 9) (i + 1) (passes && j.passes) (map x_of (take (i + 1) (set rows i (record { x = At j.x }))))
-  unfolding told_entry every_planned
-  pattern_turn e b j q w k =
-      let g : got (At (of_bits binary64 b)) (drop (at + 9) s) ≡ as_17 (entry (drop at s)) = subst (λ (z : Entry). told_entry z at s ≡ as_17 (entry (drop at s))) q w in
-      next grid s from n at (at + 9) i passes (map x_of (take i rows)) _ (At (of_bits binary64 b)) (At j.x) j.passes f before (as_got (entry (drop at s)) (At (of_bits binary64 b)) (drop (at + 9) s) g)
-      (k.passed ∙ sym (and_true (plannable grid (of_bits binary64 b)))) (λ h. ap At (k.number h)) (rows_more rows i (At j.x) room)
+  number_turn : (b : ℕ) (y : Bound) (t : Bool) → told_entry (Ok (std.Some b)) at s ≡ as_17 (entry (drop at s)) → t ≡ plannable grid (of_bits binary64 b) → (t ≡ true → At (of_bits binary64 b) ≡ y)
+      → SoFar grid s from n (at + 9) (i + 1) (passes && t) (map x_of (take (i + 1) (set rows i (record { x = y }))))
+  unfolding told_entry told_number every_planned
+  number_turn b y t w p q =
+      next grid s from n at (at + 9) i passes (map x_of (take i rows)) _ (At (of_bits binary64 b)) y t f before (as_got (entry (drop at s)) (At (of_bits binary64 b)) (drop (at + 9) s) w)
+      (p ∙ sym (and_true (plannable grid (of_bits binary64 b)))) q (rows_more rows i y room)
 
-  pub bad_turn : (e : Entry) → e ≡ Bad → told_entry e at s ≡ as_17 (entry (drop at s)) → as_17 (list_of n entry (drop from s)) ≡ refused 17
+  judged_is : (b : ℕ) (p : Bool) → plannable grid (of_bits binary64 b) ≡ p → judged grid b ≡ cond p (std.Some (of_bits binary64 b)) std.None
+  judged_is b p e = rw e
+
+  pub pass_turn : (b : ℕ) (y : Float) → told_entry (Ok (std.Some b)) at s ≡ as_17 (entry (drop at s)) → std.Some y ≡ judged grid b
+      → SoFar grid s from n (at + 9) (i + 1) passes (map x_of (take (i + 1) (set rows i (record { x = At y }))))
+  pass_turn b y w e = go (plannable grid (of_bits binary64 b)) refl
+    where
+      go : (p : Bool) → plannable grid (of_bits binary64 b) ≡ p → SoFar grid s from n (at + 9) (i + 1) passes (map x_of (take (i + 1) (set rows i (record { x = At y }))))
+      go true h =
+          let k : std.Some y ≡ std.Some (of_bits binary64 b) = e ∙ judged_is b true h in
+          subst (λ (c : Bool). SoFar grid s from n (at + 9) (i + 1) c (map x_of (take (i + 1) (set rows i (record { x = At y }))))) (and_true passes) (number_turn b (At y) true w (sym h) (λ g. cc))
+      go false h = let k : std.Some y ≡ std.None = e ∙ judged_is b false h in absurd (cc)
+
+  pub fail_turn : (b : ℕ) → told_entry (Ok (std.Some b)) at s ≡ as_17 (entry (drop at s)) → std.None ≡ judged grid b
+      → SoFar grid s from n (at + 9) (i + 1) false (map x_of (take (i + 1) (set rows i (record { x = None }))))
+  fail_turn b w e = go (plannable grid (of_bits binary64 b)) refl
+    where
+      go : (p : Bool) → plannable grid (of_bits binary64 b) ≡ p → SoFar grid s from n (at + 9) (i + 1) false (map x_of (take (i + 1) (set rows i (record { x = None }))))
+      go true h = let k : std.None ≡ std.Some (of_bits binary64 b) = e ∙ judged_is b true h in absurd (cc)
+      go false h =
+          subst (λ (c : Bool). SoFar grid s from n (at + 9) (i + 1) c (map x_of (take (i + 1) (set rows i (record { x = None }))))) (and_false passes) (number_turn b None false w (sym h) (λ g. absurd (true≢false (sym g))))
+
+  pub bad_turn : (e : Refusal) → told_entry (Err e) at s ≡ as_17 (entry (drop at s)) → as_17 (list_of n entry (drop from s)) ≡ refused (refusal_number e)
   unfolding told_entry prefixed as_17
-  bad_turn e q w =
-      let g : refused 17 ≡ as_17 (entry (drop at s)) = subst (λ (z : Entry). told_entry z at s ≡ as_17 (entry (drop at s))) q w in
+  bad_turn e w =
+      let g : refused 17 ≡ as_17 (entry (drop at s)) = ap refused (is_17 e (entry (drop at s)) w) ∙ w in
       let r = as_refused (entry (drop at s)) g in
       let z : n - i ≡ suc (n - (i + 1)) = omega (arith, before) in
       let h : list_of (n - i) entry (drop at s) ≡ refused r.0 = ap (λ (k : ℕ). list_of k entry (drop at s)) z ∙ stopped (n - (i + 1)) (drop at s) r.0 r.1 in
-      sym f.goes ∙ ap (λ (o : Read (List Bound)). as_17 (prefixed f.list o)) h
-
-pub ended : (grid : Bool) (s : List ℕ) (from n at i : ℕ) (passes : Bool) (rows : List Planned) → i ≡ n → SoFar grid s from n at i passes (map x_of (take i rows)) → EntriesTold grid s from n (record { ok = true; passes = passes; at = at; rows = rows })
-ended grid s from n at i passes rows e f = record { good = λ h. subst (λ (k : ℕ). SoFar grid s from n at k passes (map x_of (take k rows))) e f; bad = λ h. absurd (true≢false h) }
-
-pub broken : (grid : Bool) (s : List ℕ) (from n at : ℕ) (passes : Bool) (rows : List Planned) → as_17 (list_of n entry (drop from s)) ≡ refused 17 → EntriesTold grid s from n (record { ok = false; passes = passes; at = at; rows = rows })
-broken grid s from n at passes rows e = record { good = λ h. absurd (true≢false (sym h)); bad = λ h. e }
+      sym f.goes ∙ ap (λ (o : Read (List Bound)). as_17 (prefixed f.list o)) h ∙ ap refused (is_17 e (entry (drop at s)) w)
 
 -- ---- the whole
 
@@ -206,16 +237,15 @@ module _ (grid : Bool) (s : List ℕ) (n grant : ℕ) (long : 9 ≤ length s) (s
       let c : 5 + 4 ≤ length s = omega (arith, long) in
       rw (le-leb 4 (length s) a, field_at 1 4 s b, number_one s 4 (omega (arith, long)), field_at 4 5 s c, is_size, is_version, is_left)
 
-  module _ (e : Entries) (told : EntriesTold grid s 9 n e) where
-    -- the entries, where they were read
-    entries_are : e.ok ≡ true → (l : List Bound) × (list_of n entry (drop 9 s) ≡ got l (drop e.at s)) × (e.passes ≡ every_planned (plannable grid) l) × (e.passes ≡ true → l ≡ map x_of (take n e.rows))
+  module _ (e : Entries) (told : EntriesTold grid s 9 n (Ok e)) where
+    -- the entries that were read
+    entries_are : (l : List Bound) × (list_of n entry (drop 9 s) ≡ got l (drop e.at s)) × (e.passes ≡ every_planned (plannable grid) l) × (e.passes ≡ true → l ≡ map x_of (take n e.rows))
     unfolding prefixed as_17 list_of
-    entries_are h =
-        let f = told.good h in
+    entries_are =
         let z : n - n ≡ 0 = omega arith in
-        let g : as_17 (prefixed f.list (list_of 0 entry (drop e.at s))) ≡ as_17 (list_of n entry (drop 9 s)) = subst (λ (k : ℕ). as_17 (prefixed f.list (list_of k entry (drop e.at s))) ≡ as_17 (list_of n entry (drop 9 s))) z f.goes in
-        let w : got f.list (drop e.at s) ≡ as_17 (list_of n entry (drop 9 s)) = ap (λ (k : List Bound). got k (drop e.at s)) (sym (append-nil f.list)) ∙ g in
-        (f.list, as_got (list_of n entry (drop 9 s)) f.list (drop e.at s) w, f.passed, f.stands)
+        let g : as_17 (prefixed told.list (list_of 0 entry (drop e.at s))) ≡ as_17 (list_of n entry (drop 9 s)) = subst (λ (k : ℕ). as_17 (prefixed told.list (list_of k entry (drop e.at s))) ≡ as_17 (list_of n entry (drop 9 s))) z told.goes in
+        let w : got told.list (drop e.at s) ≡ as_17 (list_of n entry (drop 9 s)) = ap (λ (k : List Bound). got k (drop e.at s)) (sym (append-nil told.list)) ∙ g in
+        (told.list, as_got (list_of n entry (drop 9 s)) told.list (drop e.at s) w, told.passed, told.stands)
 
     left_over : leb (length s) e.at ≡ eqb (length (drop e.at s)) 0
     left_over = go (leb (length s) e.at) refl
@@ -224,14 +254,11 @@ module _ (grid : Bool) (s : List ℕ) (n grant : ℕ) (long : 9 ≤ length s) (s
         go true q = let k = leb-true (length s) e.at q in let d = length-drop e.at s in sym (eq-eqb (length (drop e.at s)) 0 (omega (arith, k, d)))
         go false q = let k = leb-false (length s) e.at q in let d = length-drop e.at s in sym (ne_eqb (length (drop e.at s)) 0 (λ z. omega (arith, k, d, z)))
 
-    judged : (o : Bool) → e.ok ≡ o → settled grid grant (after (list_of n entry (drop 9 s)) (λ xs. give (record { xs = xs; left = left })))
-        ≡ cond ((o && leb (length s) e.at) && leb left grant) (cond e.passes (taken (with_left (map x_of (take n e.rows)))) (rejected 18)) (rejected 17)
+    settled_is : settled grid grant (after (list_of n entry (drop 9 s)) (λ xs. give (record { xs = xs; left = left })))
+        ≡ cond (leb (length s) e.at && leb left grant) (cond e.passes (taken (with_left (map x_of (take n e.rows)))) (rejected 18)) (rejected 17)
     unfolding settled after as_17
-    judged false q =
-        let r = as_refused (list_of n entry (drop 9 s)) (sym (told.bad q)) in
-        rw r.1
-    judged true q =
-        let r = entries_are q in
+    settled_is =
+        let r = entries_are in
         rw (r.1, sym left_over) (pass (leb (length s) e.at && leb left grant) e.passes refl (every_planned (plannable grid) r.0) refl r.2 r.3)
       where
         pass : {l : List Bound} (c p : Bool) → e.passes ≡ p → (v : Bool) → every_planned (plannable grid) l ≡ v → e.passes ≡ every_planned (plannable grid) l → (e.passes ≡ true → l ≡ map x_of (take n e.rows))
@@ -241,26 +268,38 @@ module _ (grid : Bool) (s : List ℕ) (n grant : ℕ) (long : 9 ≤ length s) (s
         pass c false a true b f g = absurd (true≢false (sym b ∙ sym f ∙ a))
         pass c false a false b f g = refl
 
+    abbrev fits_all : Bool
+    fits_all = ((eqb size (length s - 4) && eqb version 1) && leb (length s) e.at) && leb left grant
+
     -- the tests in the order in which the code joins them
-    pub whole : read_plan grid n grant s
-        ≡ cond ((((eqb size (length s - 4) && eqb version 1) && e.ok) && leb (length s) e.at) && leb left grant) (cond e.passes (taken (with_left (map x_of (take n e.rows)))) (rejected 18)) (rejected 17)
+    whole : read_plan grid n grant s ≡ cond fits_all (cond e.passes (taken (with_left (map x_of (take n e.rows)))) (rejected 18)) (rejected 17)
     unfolding settled
     whole = read_long ∙ go (eqb size (length s - 4)) (eqb version 1)
       where
         go : (a b : Bool) → cond a (settled grid grant (cond b (after (list_of n entry (drop 9 s)) (λ xs. give (record { xs = xs; left = left }))) (refused 17))) (rejected 17)
-            ≡ cond ((((a && b) && e.ok) && leb (length s) e.at) && leb left grant) (cond e.passes (taken (with_left (map x_of (take n e.rows)))) (rejected 18)) (rejected 17)
-        go true true = judged e.ok refl
+            ≡ cond (((a && b) && leb (length s) e.at) && leb left grant) (cond e.passes (taken (with_left (map x_of (take n e.rows)))) (rejected 18)) (rejected 17)
+        go true true = settled_is
         go true false = refl
         go false b = refl
 
-    abbrev fits_all : Bool
-    fits_all = (((eqb size (length s - 4) && eqb version 1) && e.ok) && leb (length s) e.at) && leb left grant
+    pub whole_17 : fits_all ≡ false → read_plan grid n grant s ≡ rejected 17
+    whole_17 h = whole ∙ rw h
 
-    pub whole_17 : not ((((eqb size (length s - 4) && eqb version 1) && e.ok) && leb (length s) e.at) && leb left grant) ≡ true → read_plan grid n grant s ≡ rejected 17
-    whole_17 h = whole ∙ rw (not-true fits_all h)
+    pub whole_18 : fits_all ≡ true → e.passes ≡ false → read_plan grid n grant s ≡ rejected 18
+    whole_18 h k = whole ∙ rw (h, k)
 
-    pub whole_18 : not ((((eqb size (length s - 4) && eqb version 1) && e.ok) && leb (length s) e.at) && leb left grant) ≡ false → not e.passes ≡ true → read_plan grid n grant s ≡ rejected 18
-    whole_18 h k = whole ∙ rw (not-false fits_all h, not-true e.passes k)
+    pub whole_0 : fits_all ≡ true → e.passes ≡ true → read_plan grid n grant s ≡ taken (record { xs = map x_of (take n e.rows); left = left })
+    whole_0 h k = whole ∙ rw (h, k)
 
-    pub whole_0 : not ((((eqb size (length s - 4) && eqb version 1) && e.ok) && leb (length s) e.at) && leb left grant) ≡ false → not e.passes ≡ false → read_plan grid n grant s ≡ taken (record { xs = map x_of (take n e.rows); left = left })
-    whole_0 h k = whole ∙ rw (not-false fits_all h, not-false e.passes k)
+  -- an entry was refused
+  pub broken : (r : Refusal) → EntriesTold grid s 9 n (Err r) → read_plan grid n grant s ≡ rejected (refusal_number r)
+  unfolding settled after
+  broken r told =
+      let k = is_17 r (list_of n entry (drop 9 s)) (sym told) in
+      let b = as_refused (list_of n entry (drop 9 s)) (ap refused k ∙ sym told) in
+      read_long ∙ rw b.1 (go b.0 (eqb size (length s - 4)) (eqb version 1)) ∙ ap rejected k
+    where
+      go : (r : ℕ) (a b : Bool) → cond a (settled grid grant (cond b (refused r) (refused 17))) (rejected 17) ≡ rejected 17
+      go r true true = refl
+      go r true false = refl
+      go r false b = refl

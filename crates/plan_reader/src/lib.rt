@@ -6,52 +6,36 @@ ghost use Rattle.std.specs.Prelude.{◌≡◌, ◌+◌, ◌≤◌, ◌<◌, drop
 ghost use Rattle.limits.specs.Limits.{max_bundles};
 ghost use Rattle.grid.specs.DraftingGrid.{on_plan_grid};
 ghost use Rattle.plan_bytes.specs.PlanBytes.{marked, entry, read_plan};
-ghost use Rattle.plan_reader.specs.Reading.{as_17, told_entry, told_plan, EntriesTold, JudgedAs};
+ghost use Rattle.plan_reader.specs.Reading.{as_17, told_number, told_entry, told_plan, judged, EntriesTold};
 
 use limits::MAX_BUNDLES;
 use plan::{Bound, Planned, Planning};
+use refusal::Refusal;
 use search::TapVisits;
 
-// An entry as it stands: neither mark, or cut off; none; a number's pattern.
-#[derive(Clone, Copy)]
-pub enum Entry {
-    Bad,
-    Empty,
-    Pattern(u64),
-}
-
-fn pattern_at(s: &[u8], at: usize) -> Entry
+// The pattern of an entry's number.
+fn pattern_at(s: &[u8], at: usize) -> Result<u64, Refusal>
     requires { at < 1048576 }
-    ensures { told_entry result at s.now ≡ as_17 (marked 1 (drop (at + 1) s.now)) }
+    ensures { told_number result at s.now ≡ as_17 (marked 1 (drop (at + 1) s.now)) }
 {
     if at + 9 <= s.len() {
-        return Entry::Pattern(wire::be64(s, at + 1));
+        Ok(wire::be64(s, at + 1))
+    } else {
+        Err(Refusal::PlanMismatch)
     }
-    Entry::Bad
 }
 
-// The entry at a place.
-fn entry_at(s: &[u8], at: usize) -> Entry
+// The entry at a place: none, or a number's pattern.
+fn entry_at(s: &[u8], at: usize) -> Result<Option<u64>, Refusal>
     requires { at < 1048576 }
     ensures { told_entry result at s.now ≡ as_17 (entry (drop at s.now)) }
 {
-    if at < s.len() {
-        let m = s[at];
-        if m == 0 {
-            return Entry::Empty;
-        }
-        if m == 1 {
-            return pattern_at(s, at);
-        }
+    let mark = *s.get(at).ok_or(Refusal::PlanMismatch)?;
+    match mark {
+        0 => Ok(None),
+        1 => Ok(Some(pattern_at(s, at)?)),
+        _ => Err(Refusal::PlanMismatch),
     }
-    Entry::Bad
-}
-
-// A pattern's number, and whether 18 lets it pass; 0 where it is none.
-#[derive(Clone, Copy)]
-pub struct Judged {
-    pub passes: bool,
-    pub x: f64,
 }
 
 // Whether x is a multiple of 1/128 with magnitude at most 2^20: raised by 1.5 * 2^45 it is rounded to
@@ -67,141 +51,80 @@ fn is_on_plan_grid(x: f64) -> bool
     false
 }
 
-// The number of a pattern keeps its sign where it is minus zero; with bit 2 of the flags set it does
-// not pass.
-fn judged_number(b: u64, grid: bool) -> Judged
-    ensures { JudgedAs grid b result }
+// A pattern's number, where 18 lets it pass. It keeps its sign where it is minus zero; with bit 2 of the
+// flags set that does not pass.
+fn judged_number(b: u64, grid: bool) -> Option<f64>
+    ensures { result ≡ judged grid b }
 {
     if b % 0x8000000000000000 > 0x7ff0000000000000 {
-        return Judged {
-            passes: false,
-            x: 0.0,
-        };
+        return None;
     }
     let x = f64::from_bits(b);
     let small = (-1073741824.0 <= x) & (x <= 1073741824.0);
     if !grid {
-        return Judged {
-            passes: small,
-            x: x,
-        };
+        return small.then_some(x);
     }
-    let on = is_on_plan_grid(x);
     let other = b != 0x8000000000000000;
-    Judged {
-        passes: small & (other & on),
-        x: x,
-    }
+    (small & (other & is_on_plan_grid(x))).then_some(x)
 }
 
-// The entries of some bundles: whether each has its mark and its bytes, whether every number passes,
-// where they end.
-#[derive(Clone, Copy)]
-pub struct Entries {
-    pub ok: bool,
-    pub passes: bool,
-    pub at: usize,
-    pub rows: [Planned; MAX_BUNDLES],
+// The entries of some bundles, all with their marks and their bytes: whether every number passes, where
+// they end.
+struct Entries {
+    passes: bool,
+    at: usize,
+    rows: [Planned; MAX_BUNDLES],
 }
 
-// The entries of n bundles from a place on.
-fn read_entries(s: &[u8], from: usize, n: usize, grid: bool) -> Entries
+// The entries of n bundles from a place on. All are read also where a number does not pass, as 17 is
+// looked for before 18.
+fn read_entries(s: &[u8], from: usize, n: usize, grid: bool) -> Result<Entries, Refusal>
     requires { (n ≤ max_bundles) × (from ≤ 9) }
     ensures { EntriesTold grid s.now from n result }
 {
     let mut rows = [Planned { x: Bound::None }; MAX_BUNDLES];
     let mut passes = true;
     let mut at = from;
-    let mut i: usize = 0;
-    while i < n {
-        let e = entry_at(s, at);
-        match e {
-            Entry::Bad => {
-                return Entries {
-                    ok: false,
-                    passes: passes,
-                    at: at,
-                    rows: rows,
-                };
+    for i in 0..n {
+        let mut x = Bound::None;
+        if let Some(b) = entry_at(s, at)? {
+            match judged_number(b, grid) {
+                Some(y) => x = Bound::At(y),
+                None => passes = false,
             }
-            Entry::Empty => {
-                rows[i] = Planned { x: Bound::None };
-                at += 1;
-                i += 1;
-            }
-            Entry::Pattern(b) => {
-                let j = judged_number(b, grid);
-                let y = j.x;
-                let good = j.passes;
-                rows[i] = Planned { x: Bound::At(y) };
-                passes = passes & good;
-                at += 9;
-                i += 1;
-            }
+            at += 8;
         }
+        rows[i] = Planned { x };
+        at += 1;
     }
-    Entries {
-        ok: true,
-        passes: passes,
-        at: at,
-        rows: rows,
-    }
-}
-
-// A plan that was read: 0, or 17 or 18; the plan says nothing then.
-#[derive(Clone, Copy)]
-pub struct PlanRead {
-    pub number: u8,
-    pub plan: Planning,
+    Ok(Entries { passes, at, rows })
 }
 
 // The plan that some bytes are, for a job with n bundles and such a grant of tap visits, its numbers on
 // the grid or not.
-pub fn read_plan(s: &[u8], n: usize, grant: u32, grid: bool) -> PlanRead
+pub fn read_plan(s: &[u8], n: usize, grant: u32, grid: bool) -> Result<Planning, Refusal>
     requires { n ≤ max_bundles }
     ensures { told_plan n result ≡ read_plan grid n grant s.now }
 {
-    let none = Planning {
-        rows: [Planned { x: Bound::None }; MAX_BUNDLES],
-        left: TapVisits(0),
-    };
     if s.len() < 9 {
-        return PlanRead {
-            number: 17,
-            plan: none,
-        };
+        return Err(Refusal::PlanMismatch);
     }
     let size = wire::be32(s, 0);
     let left = wire::be32(s, 5);
-    let version = s[4];
-    let e = read_entries(s, 9, n, grid);
-    let rows = e.rows;
-    let ok = e.ok;
-    let passes = e.passes;
-    let end = e.at;
-    let read = Planning {
-        rows: rows,
-        left: TapVisits(left),
-    };
-    let fits = ((size as usize) == s.len() - 4)
-        & (version == 1)
-        & ok
-        & (s.len() <= end)
-        & (left <= grant);
+    let Entries {
+        passes,
+        at: end,
+        rows,
+    } = read_entries(s, 9, n, grid)?;
+    let fits = (size as usize == s.len() - 4) & (s[4] == 1) & (s.len() <= end) & (left <= grant);
     if !fits {
-        return PlanRead {
-            number: 17,
-            plan: none,
-        };
+        return Err(Refusal::PlanMismatch);
     }
     if !passes {
-        return PlanRead {
-            number: 18,
-            plan: none,
-        };
+        return Err(Refusal::PlannedNumber);
     }
-    PlanRead {
-        number: 0,
-        plan: read,
-    }
+    Ok(Planning {
+        rows,
+        left: TapVisits(left),
+    })
 }

@@ -43,14 +43,12 @@ pub fn search_between(
             left: granted,
         },
         CollectorBounds::Between(s) => {
-            let first = u.first;
-            let end = first + u.count;
-            let role = u.role;
+            let end = u.first + u.count;
             collector_xs::common_horizontal_collector_x(
                 points,
-                &starts[first..end],
-                &counts[first..end],
-                role,
+                &starts[u.first..end],
+                &counts[u.first..end],
+                u.role,
                 pitch,
                 s,
                 granted,
@@ -80,9 +78,8 @@ pub fn interior_collector_range_bounded(
     ensures { (b : Board) (given : List Route) → Tells b given points.now starts.now counts.now rail pitch r → result ≡ seek search_of b given r.bundle lower upper granted.0 }
 {
     let bounds = plan_bounds::interior_collector_bounds(r, rail, pitch, lower, upper);
-    let u = r.bundle;
     search_between(
-        points, starts, counts, pitch, u, bounds, granted, xs, scratch,
+        points, starts, counts, pitch, r.bundle, bounds, granted, xs, scratch,
     )
 }
 
@@ -95,11 +92,7 @@ pub fn narrow(b: CollectorBounds, o: Outcome) -> CollectorBounds
     match o {
         Outcome::Found(x) => match b {
             CollectorBounds::Absent => CollectorBounds::Absent,
-            CollectorBounds::Between(s) => CollectorBounds::Between(Bounds {
-                minimum: s.minimum,
-                desired: x,
-                maximum: s.maximum,
-            }),
+            CollectorBounds::Between(s) => CollectorBounds::Between(Bounds { desired: x, ..s }),
         },
         Outcome::Nothing => CollectorBounds::Absent,
         Outcome::Spent => CollectorBounds::Absent,
@@ -127,15 +120,12 @@ fn interior_collector_range(
     let s = search_between(
         points, starts, counts, pitch, u, bounds, granted, xs, scratch,
     );
-    let o = s.outcome;
-    let found = narrow(bounds, o);
-    let left = s.left;
     Ranging {
         range: Range {
             bundle: u,
-            bounds: found,
+            bounds: narrow(bounds, s.outcome),
         },
-        left: left,
+        left: s.left,
     }
 }
 
@@ -168,30 +158,14 @@ pub fn first_pass(
         bounds: CollectorBounds::Absent,
     }; MAX_BUNDLES];
     let mut left = granted;
-    let n = t.count;
-    let mut i: usize = 0;
-    while i < n {
-        let r = t.rows[i];
+    for i in 0..t.count {
         let s = interior_collector_range(
-            points,
-            starts,
-            counts,
-            rail,
-            pitch,
-            r,
-            left,
-            &mut xs[..],
-            &mut scratch[..],
+            points, starts, counts, rail, pitch, t.rows[i], left, xs, scratch,
         );
-        let found = s.range;
-        rows[i] = found;
+        rows[i] = s.range;
         left = s.left;
-        i += 1;
     }
-    Ranges {
-        rows: rows,
-        left: left,
-    }
+    Ranges { rows, left }
 }
 
 // ---- searches anew
@@ -233,34 +207,15 @@ pub fn search_again(
 {
     let mut rows = p.rows;
     let mut left = p.left;
-    let mut k: usize = 0;
-    while k < count {
+    for k in 0..count {
         let i = which[k];
-        let row = t.rows[i];
-        let old = rows[i];
-        let known = old.x;
-        let most = upper_at(pitch, upper, known);
+        let most = upper_at(pitch, upper, rows[i].x);
         let s = interior_collector_range_bounded(
-            points,
-            starts,
-            counts,
-            rail,
-            pitch,
-            row,
-            lower,
-            most,
-            left,
-            &mut xs[..],
-            &mut scratch[..],
+            points, starts, counts, rail, pitch, t.rows[i], lower, most, left, xs, scratch,
         );
-        let o = s.outcome;
-        let x = plan_numbers::found_x(o);
-        rows[i] = Planned { x: x };
+        let x = plan_numbers::found_x(s.outcome);
+        rows[i] = Planned { x };
         left = s.left;
-        k += 1;
     }
-    Planning {
-        rows: rows,
-        left: left,
-    }
+    Planning { rows, left }
 }

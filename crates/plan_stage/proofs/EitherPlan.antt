@@ -1,15 +1,14 @@
 -- A job drawn from a plan that is given or from our own: what it comes to, how many bytes that is, and what the plan is. Assumes nothing.
-use Rattle.std.specs.Prelude.{ℕ, ◌≤◌, ◌<◌, ◌≡◌, Bool, true, false, List, [], ◌∷◌, map, ℤ, Float, length}
+use Rattle.std.specs.Prelude.{ℕ, ◌≤◌, ◌<◌, ◌≡◌, Bool, true, false, List, [], ◌∷◌, map, ℤ, Float, length, Option, Some, None}
 use Rattle.std.proofs.Math.Path.{refl}
 use Rattle.std.proofs.Common.{sym, ap, ◌∙◌, subst, arith}
-use Rattle.std.proofs.Math.Option.{Option, none, some}
 use Rattle.limits.specs.Limits.{largest_answer}
 use Rattle.sorting.specs.Lists.{Every}
 use Rattle.job.specs.Job.{Job, given_routes, read_job}
 use Rattle.job.specs.Job as job
 use Rattle.job.proofs.Sound.{accepted_sound}
 use Rattle.plan.specs.declared.Bound.{Bound}
-use Rattle.plan.specs.declared.Bound.TheVariants.{None, At}
+use Rattle.plan.specs.declared.Bound.TheVariants as bounded
 use Rattle.plan.proofs.CarriedNumbers.{OfBound}
 use Rattle.plan.specs.Plan.{Plan, Step}
 use Rattle.plan.specs.Plan as planning
@@ -99,12 +98,12 @@ record Wholly (xs : List Bound) : Type 0 where
 wholly : (xs : List Bound) → Every (OfBound Real) xs → every_planned (plannable true) xs ≡ true → Wholly xs
 unfolding every_planned
 wholly [] r e = record { wholes = []; are = refl; near = tt }
-wholly (None ∷ xs) r e = let w = wholly xs r.1 e in record { wholes = none ∷ w.wholes; are = ap (λ (l : List Bound). None ∷ l) w.are; near = (tt, w.near) }
-wholly (At x ∷ xs) r e =
+wholly (bounded.None ∷ xs) r e = let w = wholly xs r.1 e in record { wholes = None ∷ w.wholes; are = ap (λ (l : List Bound). bounded.None ∷ l) w.are; near = (tt, w.near) }
+wholly (bounded.At x ∷ xs) r e =
     let b = both (plannable true x) (every_planned (plannable true) xs) e in
     let w = wholly xs r.1 b.1 in
     let o = plannable_on_grid x r.0 b.0 in
-    record { wholes = some o.whole ∷ w.wholes; are = ap (λ (y : Float). At y ∷ xs) o.is ∙ ap (λ (l : List Bound). At (on o.whole) ∷ l) w.are; near = (o.near, w.near) }
+    record { wholes = Some o.whole ∷ w.wholes; are = ap (λ (y : Float). bounded.At y ∷ xs) o.is ∙ ap (λ (l : List Bound). bounded.At (on o.whole) ∷ l) w.are; near = (o.near, w.near) }
 
 pub taken_whole : (plan : List ℕ) (j : Job) → j.flags.on_grid ≡ true → (p : Plan) → plan_for j plan ≡ taken p → WholePlan p
 taken_whole plan j g p t =

@@ -2,14 +2,13 @@
 use Rattle.std.specs.Prelude.{ℕ, ◌≤◌, ◌<◌, ◌≡◌, refl, Bool, true, cond, ℤ, Float, length, take}
 use Rattle.std.proofs.Common.{sym, ap, ◌∙◌, subst, arith, lt-ltb, le-ltb}
 use mathlib.Core.List.{List, [], ◌∷◌, map}
-use Rattle.std.proofs.Math.Option.{Option, none, some}
 use Rattle.limits.specs.Limits.{answer_room, plan_room, largest_answer}
 use Rattle.sorting.specs.Lists.{Every}
 use Rattle.job.specs.Job.{Job, read_job}
 use Rattle.job.specs.Job as job
 use Rattle.job.proofs.Sound.{accepted_sound}
 use Rattle.plan.specs.declared.Bound.{Bound}
-use Rattle.plan.specs.declared.Bound.TheVariants.{None, At}
+use Rattle.plan.specs.declared.Bound.TheVariants as bounded
 use Rattle.plan.proofs.CarriedNumbers.{OfBound}
 use Rattle.plan.specs.Plan.{Plan}
 use Rattle.drawing.specs.Sheet as sheets

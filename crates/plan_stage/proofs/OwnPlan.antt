@@ -1,9 +1,8 @@
 -- Our own plan of an accepted job always passes 17 and 18, bit 2 clear or set, and is read back as it was. Assumes nothing.
-use Rattle.std.specs.Prelude.{ℕ, ◌≤◌, ◌<◌, ◌≡◌, refl, Bool, List, [], ◌∷◌, map, ℤ, length}
+use Rattle.std.specs.Prelude.{ℕ, ◌≤◌, ◌<◌, ◌≡◌, refl, Bool, List, [], ◌∷◌, map, ℤ, length, Option, Some, None}
 use Rattle.std.proofs.Common.{sym, ◌∙◌, subst, arith}
 use Rattle.std.proofs.Math.Path.{ap}
 use Rattle.std.proofs.Math.Bool.{true, false}
-use Rattle.std.proofs.Math.Option.{Option, none, some}
 use Rattle.limits.specs.Limits.{plan_room}
 use Rattle.binary64.proofs.Plain.{Plain}
 use Rattle.sorting.specs.Lists.{Every}
@@ -13,7 +12,7 @@ use Rattle.job.specs.Job.{Job, given_routes, read_job}
 use Rattle.job.specs.Job as job
 use Rattle.job.proofs.Sound.{accepted_sound}
 use Rattle.plan.specs.declared.Bound.{Bound}
-use Rattle.plan.specs.declared.Bound.TheVariants.{None, At}
+use Rattle.plan.specs.declared.Bound.TheVariants as bounded
 use Rattle.plan.proofs.CarriedNumbers.{OfBound}
 use Rattle.plan.specs.Plan.{Plan, Step, left_of}
 use Rattle.plan.specs.Plan as planning
@@ -36,15 +35,15 @@ use Rattle.plan_stage.specs.Entries.{after_search, plan_after_reading, plan_told
 
 all_real : (xs : List Bound) → Every (OfBound Plain) xs → Every (OfBound Real) xs
 all_real [] e = tt
-all_real (None ∷ xs) e = (tt, all_real xs e.1)
-all_real (At x ∷ xs) e = (e.0.1, all_real xs e.1)
+all_real (bounded.None ∷ xs) e = (tt, all_real xs e.1)
+all_real (bounded.At x ∷ xs) e = (e.0.1, all_real xs e.1)
 
 -- whole numbers over 128 pass with bit 2 set
 all_near : (xs : List (Option ℤ)) → Every Placed xs → every_planned (plannable true) (map I.bound xs) ≡ true
 unfolding every_planned
 all_near [] e = refl
-all_near (none ∷ xs) e = all_near xs e.1
-all_near (some z ∷ xs) e = rw (near_plannable z e.0, all_near xs e.1)
+all_near (None ∷ xs) e = all_near xs e.1
+all_near (Some z ∷ xs) e = rw (near_plannable z e.0, all_near xs e.1)
 
 same_plan : (p q : Plan) → planning.going p ≡ planning.going q → p ≡ q
 same_plan p q e = cc

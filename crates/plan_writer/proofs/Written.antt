@@ -1,6 +1,6 @@
 -- What the writer's steps come to. Assumes nothing.
 use Prim.Native.Nat.{ℕ, ◌+◌, ◌-◌, ◌*◌, ◌≤◌, ◌<◌}
-use mathlib.Core.Path.{◌≡◌, refl, sym, ap, ◌∙◌, subst}
+use mathlib.Core.Path.{◌≡◌, sym, ap, ◌∙◌, subst}
 use mathlib.Core.List.{List, [], ◌∷◌, ◌++◌, map}
 use native.Mathlib.Omega.{arith}
 use lib.ListN.{length, get_or, take, drop, length-append, length-take}
@@ -15,7 +15,6 @@ use Rattle.plan.specs.declared.Bound.TheVariants.{None, At}
 use Rattle.plan.specs.declared.Planned.{Planned}
 use Rattle.plan.specs.declared.Planning.{Planning}
 use Rattle.plan.specs.Prepared.{plan_in, x_of}
-use Rattle.plan.specs.Plan.{Plan}
 use Rattle.plan_bytes.specs.PlanBytes.{entry_bytes, body_bytes, plan_bytes}
 use Rattle.plan_writer.specs.Rows.{row_bytes}
 

@@ -20,12 +20,12 @@ fn put_entry(out: &mut [u8], at: usize, x: Bound) -> usize
 {
     match x {
         Bound::None => {
-            wire::put8(&mut out[..], at, 0);
+            wire::put8(out, at, 0);
             at + 1
         }
         Bound::At(y) => {
-            wire::put8(&mut out[..], at, 1);
-            wire::put_number(&mut out[..], at + 1, y);
+            wire::put8(out, at, 1);
+            wire::put_number(out, at + 1, y);
             at + 9
         }
     }
@@ -38,12 +38,8 @@ fn put_entries(out: &mut [u8], from: usize, p: Planning, n: usize) -> usize
     ensures place { result ≡ from + length (all_bytes row_bytes (take n p.rows)) }
 {
     let mut at = from;
-    let mut i: usize = 0;
-    while i < n {
-        let row = p.rows[i];
-        let x = row.x;
-        at = put_entry(&mut out[..], at, x);
-        i += 1;
+    for row in &p.rows[..n] {
+        at = put_entry(out, at, row.x);
     }
     at
 }
@@ -54,10 +50,9 @@ pub fn write_plan(out: &mut [u8], p: Planning, n: usize) -> usize
     ensures bytes { out.new ≡ sets out.old 0 (plan_bytes (plan_in n p)) }
     ensures place { result ≡ length (plan_bytes (plan_in n p)) }
 {
-    let left = p.left;
-    wire::put8(&mut out[..], 4, 1);
-    wire::put32(&mut out[..], 5, left.0);
-    let end = put_entries(&mut out[..], 9, p, n);
-    wire::put32(&mut out[..], 0, (end - 4) as u32);
+    wire::put8(out, 4, 1);
+    wire::put32(out, 5, p.left.0);
+    let end = put_entries(out, 9, p, n);
+    wire::put32(out, 0, (end - 4) as u32);
     end
 }

@@ -1,15 +1,12 @@
 -- How many points and taps the sheet of an accepted job has, before the last shift and after it. Assumes nothing.
-use Rattle.std.specs.Prelude.{ℕ, zero, suc, ◌+◌, ◌*◌, ◌≤◌, ◌≡◌, refl, Bool, true, false, ◌||◌, cond, List, [], ◌∷◌, ◌++◌, map, length, set, take, drop, Float}
+use Rattle.std.specs.Prelude.{ℕ, zero, suc, ◌+◌, ◌*◌, ◌≤◌, ◌≡◌, refl, Bool, true, false, ◌||◌, cond, List, [], ◌∷◌, ◌++◌, map, length, set, take, drop, Float, Option, Some, None}
 use Rattle.std.proofs.Common.{sym, ap, ◌∙◌, subst, arith, length-take}
-use Rattle.std.proofs.Math.Option.{Option, none, some}
 use Rattle.std.proofs.lemmas.List.{length-map}
 use Rattle.std.specs.Float.Ieee.{ne}
 use Rattle.binary64.specs.Accepted.{zero64}
 use Rattle.geometry.specs.declared.Point.{Point}
 use Rattle.geometry.specs.declared.Role.{Role}
 use Rattle.geometry.specs.Points.{Route}
-use Rattle.route.specs.declared.Crossing.{Crossing}
-use Rattle.route.specs.declared.Crossing.TheVariants.{Nowhere, On}
 use Rattle.board.specs.declared.Edge.{Edge}
 use Rattle.board.specs.declared.Bundle.{Bundle}
 use Rattle.board.specs.declared.Member.{Member}
@@ -46,12 +43,12 @@ set_points [] j r h = omega arith
 set_points (q ∷ rs) zero r h = omega arith
 set_points (q ∷ rs) (suc j) r h = let k = set_points rs j r h in omega arith
 
-put_points : (o : Option Route) (j : ℕ) (rs qs : List Route) → Bounded o (length (route_at rs j) + 2) → put_route o j rs ≡ some qs → points_in qs ≤ points_in rs + 2
+put_points : (o : Option Route) (j : ℕ) (rs qs : List Route) → Bounded o (length (route_at rs j) + 2) → put_route o j rs ≡ Some qs → points_in qs ≤ points_in rs + 2
 unfolding put_route
-put_points none j rs qs h e = let z : ◌≡◌ {A = ℕ} 0 1 = cc in absurd (omega arith)
-put_points (some r) j rs qs h e = let same : set rs j r ≡ qs = cc in subst (λ (z : List Route). points_in z ≤ points_in rs + 2) same (set_points rs j r (h r refl))
+put_points None j rs qs h e = let z : ◌≡◌ {A = ℕ} 0 1 = cc in absurd (omega arith)
+put_points (Some r) j rs qs h e = let same : set rs j r ≡ qs = cc in subst (λ (z : List Route). points_in z ≤ points_in rs + 2) same (set_points rs j r (h r refl))
 
-all_points : (inside : Bool) (role : Role) (pitch offset : Float) (ts : List TapOn) (ms : List Member) (rs qs : List Route) → rewrite_all inside role pitch offset ts ms rs ≡ some qs → points_in qs ≤ points_in rs + 2 * length ms
+all_points : (inside : Bool) (role : Role) (pitch offset : Float) (ts : List TapOn) (ms : List Member) (rs qs : List Route) → rewrite_all inside role pitch offset ts ms rs ≡ Some qs → points_in qs ≤ points_in rs + 2 * length ms
 unfolding rewrite_all
 all_points inside role pitch offset [] ms rs qs e = let same : rs ≡ qs = cc in subst (λ (z : List Route). points_in z ≤ points_in rs + 2 * length ms) same (omega arith)
 all_points inside role pitch offset (t ∷ ts) [] rs qs e = let same : rs ≡ qs = cc in subst (λ (z : List Route). points_in z ≤ points_in rs + 0) same (omega arith)
@@ -75,13 +72,13 @@ sheet_points b allow (t ∷ ts) s u e =
 
 -- ---- a tap for each member
 
-then_count : (c : Crossing) (i n : ℕ) (o : Option (List TapOn)) → ((us : List TapOn) → o ≡ some us → length us ≡ n) → (ts : List TapOn) → tap_then c i o ≡ some ts → length ts ≡ suc n
+then_count : (c : Option (ℕ × Point)) (i n : ℕ) (o : Option (List TapOn)) → ((us : List TapOn) → o ≡ Some us → length us ≡ n) → (ts : List TapOn) → tap_then c i o ≡ Some ts → length ts ≡ suc n
 unfolding tap_then
-then_count Nowhere i n o h ts e = let z : ◌≡◌ {A = ℕ} 0 1 = cc in absurd (omega arith)
-then_count (On k p) i n none h ts e = let z : ◌≡◌ {A = ℕ} 0 1 = cc in absurd (omega arith)
-then_count (On k p) i n (some us) h ts e = let same : record { edge = i; place = p } ∷ us ≡ ts = cc in ap length (sym same) ∙ ap suc (h us refl)
+then_count None i n o h ts e = let z : ◌≡◌ {A = ℕ} 0 1 = cc in absurd (omega arith)
+then_count (Some (k, p)) i n None h ts e = let z : ◌≡◌ {A = ℕ} 0 1 = cc in absurd (omega arith)
+then_count (Some (k, p)) i n (Some us) h ts e = let same : record { edge = i; place = p } ∷ us ≡ ts = cc in ap length (sym same) ∙ ap suc (h us refl)
 
-trunk_count : (role : Role) (pitch x : Float) (ms : List Member) (rs : List Route) (ts : List TapOn) → trunk_taps role pitch x ms rs ≡ some ts → length ts ≡ length ms
+trunk_count : (role : Role) (pitch x : Float) (ms : List Member) (rs : List Route) (ts : List TapOn) → trunk_taps role pitch x ms rs ≡ Some ts → length ts ≡ length ms
 unfolding trunk_taps
 trunk_count role pitch x [] rs ts e = let same : [] ≡ ts = cc in ap length (sym same)
 trunk_count role pitch x (m ∷ ms) rs ts e =
@@ -96,15 +93,15 @@ railed_count : (b : Board) (u : Bundle) → length (railed b u).taps ≡ length 
 unfolding railed drawn_as
 railed_count b u = rail_count (rail_corner b u) (center (members_in b u)) (pitch_of b u) (members_in b u)
 
-inside_count : (b : Board) (u : Bundle) (x : Float) (o : Option (List TapOn)) → ((ts : List TapOn) → o ≡ some ts → length ts ≡ length (members_in b u)) → length (inside_or o b u x).taps ≡ length (members_in b u)
+inside_count : (b : Board) (u : Bundle) (x : Float) (o : Option (List TapOn)) → ((ts : List TapOn) → o ≡ Some ts → length ts ≡ length (members_in b u)) → length (inside_or o b u x).taps ≡ length (members_in b u)
 unfolding inside_or drawn_inside drawn_as
-inside_count b u x none h = railed_count b u
-inside_count b u x (some ts) h = h ts refl
+inside_count b u x None h = railed_count b u
+inside_count b u x (Some ts) h = h ts refl
 
 pub build_taps : (b : Board) (u : Bundle) (planned : Option Float) (rs : List Route) → length (build b u planned rs).taps ≡ length (members_in b u)
 unfolding build
-build_taps b u none rs = railed_count b u
-build_taps b u (some x) rs = inside_count b u x (trunk_taps u.role (pitch_of b u) x (members_in b u) rs) (trunk_count u.role (pitch_of b u) x (members_in b u) rs)
+build_taps b u None rs = railed_count b u
+build_taps b u (Some x) rs = inside_count b u x (trunk_taps u.role (pitch_of b u) x (members_in b u) rs) (trunk_count u.role (pitch_of b u) x (members_in b u) rs)
 
 taps_last : (ds : List Drawn) (d : Drawn) → taps_in (ds ++ (d ∷ [])) ≡ taps_in ds + length d.taps
 unfolding sum

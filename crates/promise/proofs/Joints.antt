@@ -1,13 +1,12 @@
 -- No false joint: the first three sentences of demand 3, of a sheet whose numbers are finite and whose tests are all clear; so of every sheet that is drawn.
 -- Assumes nothing.
-use Rattle.std.specs.Prelude.{ℕ, zero, suc, ◌<◌, ◌≡◌, refl, Bool, true, false, ◌||◌, cond, T, eqb, length, get_or, Float}
+use Rattle.std.specs.Prelude.{ℕ, zero, suc, ◌<◌, ◌≡◌, refl, Bool, true, false, ◌||◌, cond, T, eqb, length, get_or, Float, Some, None}
 use Rattle.std.proofs.Common.{sym, subst, arith, eqb-true, ne_eqb}
 use mathlib.Core.List.Memᴰ
 use mathlib.Core.List.{List, [], ◌∷◌, Memᴰ}
 use Rattle.std.specs.Float.Ieee.Scale.{finite}
 use Rattle.geometry.specs.declared.Point.{Point}
 use Rattle.geometry.specs.declared.Segment.{Segment}
-use Rattle.geometry.specs.declared.Tap.TheVariants.{Absent, At}
 use Rattle.geometry.specs.Points.{Route}
 use Rattle.geometry.specs.Contact.{slanted, contact}
 use Rattle.geometry.specs.Enters.{passes_inside}
@@ -64,7 +63,7 @@ unfolding tap_of
 tap_finite [] i f = tt
 tap_finite (t ∷ ts) i f = go (eqb t.edge i) (tap_finite ts i (λ x m. f x (Memᴰ.tail m)))
   where
-    go : (k : Bool) → FiniteTap (tap_of ts i) → FiniteTap (cond k (At t.place) (tap_of ts i))
+    go : (k : Bool) → FiniteTap (tap_of ts i) → FiniteTap (cond k (Some t.place) (tap_of ts i))
     go true h = f t (Memᴰ.head refl)
     go false h = h
 
@@ -79,7 +78,7 @@ unfolding tap_of
 tap_listed [] i p h = absurd h
 tap_listed (t ∷ ts) i p h = go (eqb t.edge i) refl h (tap_listed ts i p)
   where
-    go : (k : Bool) → eqb t.edge i ≡ k → Tapped (cond k (At t.place) (tap_of ts i)) p → (Tapped (tap_of ts i) p → Listed ts i p) → Listed (t ∷ ts) i p
+    go : (k : Bool) → eqb t.edge i ≡ k → Tapped (cond k (Some t.place) (tap_of ts i)) p → (Tapped (tap_of ts i) p → Listed ts i p) → Listed (t ∷ ts) i p
     go true e h f = record { tap = t; listed = Memᴰ.head refl; of_route = eqb-true t.edge i e; at_tap = h }
     go false e h f = let l = f h in record { tap = l.tap; listed = Memᴰ.tail l.listed; of_route = l.of_route; at_tap = l.at_tap }
 
@@ -143,7 +142,7 @@ module _ (o : Options) (routes : List Route) (drawn : List Drawn) (fine : AllFin
       nothing_shared t s.start s.end (record { bus_start = y.0; bus_end = y.1; first = x.0; last = x.1; its_tap = tt })
       l (go d c (apart_at o false drawn h j k less within) first second) p (record { on_bus = on.on_second; on_route = on.on_first })
     where
-      go : (d c : Drawn) → FreePair o false c d → SegmentOf d s → SegmentOf c t → contact t s.start s.end Absent false ≡ false
+      go : (d c : Drawn) → FreePair o false c d → SegmentOf d s → SegmentOf c t → contact t s.start s.end None false ≡ false
       go d c f (its_collector x) (its_collector y) = rw (x, y) f.collectors.contact
       go d c f (its_collector x) (its_spine y) = rw (x, y) f.spine_collector.contact
       go d c f (its_spine x) (its_collector y) = rw (x, y) f.collector_spine.contact

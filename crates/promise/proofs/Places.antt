@@ -1,10 +1,9 @@
 -- Best places: the last sentence of demand 3.
 -- Assumes nothing.
-use Rattle.std.specs.Prelude.{ℕ, zero, suc, ◌≤◌, ◌<◌, Bool, true, false, ◌&&◌, T, length, get_or, take, Float}
+use Rattle.std.specs.Prelude.{ℕ, zero, suc, ◌≤◌, ◌<◌, Bool, true, false, ◌&&◌, T, length, get_or, take, Float, Option, Some, None}
 use Rattle.std.proofs.Math.Path.{◌≡◌, refl, sym}
 use Rattle.std.proofs.Common.{ap, ◌∙◌, subst, inl, inr, arith, ne_eqb}
 use mathlib.Core.List.{List, [], ◌∷◌, map}
-use Rattle.std.proofs.Math.Option.{Option, none, some}
 use Rattle.std.specs.Float.Ieee.{le}
 use Rattle.std.specs.Float.Ieee.Fits.{and_i}
 use Rattle.binary64.proofs.Fraction.{AtMostℚ→le}
@@ -13,13 +12,8 @@ use Rattle.geometry.specs.declared.Point.{Point}
 use Rattle.geometry.specs.declared.Segment.{Segment}
 use Rattle.geometry.specs.declared.Role.{Role}
 use Rattle.geometry.specs.declared.Role.TheVariants.{Input, Output}
-use Rattle.geometry.specs.declared.Stretch.{Stretch}
-use Rattle.geometry.specs.declared.Stretch.TheVariants.{Nowhere, Of}
-use Rattle.geometry.specs.declared.Hit.{Hit}
 use Rattle.geometry.specs.Points.{Route, runs}
 use Rattle.geometry.specs.Stretch.{stretch, holds, on_trunk}
-use Rattle.route.specs.declared.Crossing.{Crossing}
-use Rattle.route.specs.declared.Crossing.TheVariants.{Nowhere as nowhere, On}
 use Rattle.route.specs.Intersection.{met_at, or_else, first_met, last_met, first_shared_trunk_intersection, last_shared_trunk_intersection}
 use Rattle.search.specs.Stretches.{stretches, members}
 use Rattle.search.proofs.BestOrder.{both}
@@ -34,7 +28,7 @@ use Rattle.board.specs.declared.Bundle.{Bundle}
 use Rattle.board.specs.declared.Member.{Member}
 use Rattle.board.specs.Board.{Board, no_bundle}
 use Rattle.plan.specs.declared.Bound.{Bound}
-use Rattle.plan.specs.declared.Bound.TheVariants.{None, At}
+use Rattle.plan.specs.declared.Bound.TheVariants as bounded
 use Rattle.plan.specs.declared.Used.{Used}
 use Rattle.plan.specs.Depths.{same_role, members_in, pitch_of, offsets_of, offsets_from, used_after}
 use Rattle.plan.specs.Bounds.{route_of, bounds_of, trunks}
@@ -55,27 +49,27 @@ use Rattle.promise.specs.Demand3.{NoBetter, BestPlace, at_best, at_rail}
 
 -- ---- an x that a stretch holds exactly is one that the test finds
 
-holds_true : (x : Float) (s : Stretch) → Real x → RealStretch s → Holds (value x) s → holds x s ≡ true
-holds_true x Nowhere r s h = absurd h
-holds_true x (Of l k) r s h = both (le l x) (le x k) (AtMostℚ→le l x s.0.0 r.0 h.0) (AtMostℚ→le x k r.0 s.1.0 h.1)
+holds_true : (x : Float) (s : Option (Float × Float)) → Real x → RealStretch s → Holds (value x) s → holds x s ≡ true
+holds_true x None r s h = absurd h
+holds_true x (Some (l, k)) r s h = both (le l x) (le x k) (AtMostℚ→le l x s.0.0 r.0 h.0) (AtMostℚ→le x k r.0 s.1.0 h.1)
 
 -- ---- a run that is met
 
-abbrev Somewhere : Crossing → Type 0
-Somewhere c = (k : ℕ) × (p : Point) × (c ≡ On k p)
+abbrev Somewhere : Option (ℕ × Point) → Type 0
+Somewhere c = (k : ℕ) × (p : Point) × (c ≡ Some (k, p))
 
-or_first : (a c : Crossing) → Somewhere a → Somewhere (or_else a c)
+or_first : (a c : Option (ℕ × Point)) → Somewhere a → Somewhere (or_else a c)
 unfolding or_else
-or_first nowhere c (k, p, e) = let z : ◌≡◌ {A = ℕ} 0 1 = cc in absurd (omega arith)
-or_first (On i q) c h = (i, q, refl)
+or_first None c (k, p, e) = let z : ◌≡◌ {A = ℕ} 0 1 = cc in absurd (omega arith)
+or_first (Some (i, q)) c h = (i, q, refl)
 
-or_second : (a c : Crossing) → Somewhere c → Somewhere (or_else a c)
+or_second : (a c : Option (ℕ × Point)) → Somewhere c → Somewhere (or_else a c)
 unfolding or_else
-or_second nowhere c h = h
-or_second (On i q) c h = (i, q, refl)
+or_second None c h = h
+or_second (Some (i, q)) c h = (i, q, refl)
 
 module _ (role : Role) (pitch x : Float) (real : Real x) where
-  abbrev hit : Segment → Hit
+  abbrev hit : Segment → Option Point
   hit s = on_trunk role pitch x s.start s.end
 
   here : (i : ℕ) (s : Segment) → holds x (stretch role pitch s.start s.end) ≡ true → Somewhere (met_at i (hit s))
@@ -101,13 +95,13 @@ trunk_somewhere Output pitch x r real s h = last_somewhere Output pitch x real 0
 -- ---- a planned x that every member allows has a tap on each
 
 abbrev Tapped : Option (List TapOn) → Type 0
-Tapped o = (ts : List TapOn) × (o ≡ some ts)
+Tapped o = (ts : List TapOn) × (o ≡ Some ts)
 
-then_tapped : (c : Crossing) (i : ℕ) (o : Option (List TapOn)) → Somewhere c → Tapped o → Tapped (tap_then c i o)
+then_tapped : (c : Option (ℕ × Point)) (i : ℕ) (o : Option (List TapOn)) → Somewhere c → Tapped o → Tapped (tap_then c i o)
 unfolding tap_then
-then_tapped nowhere i o (k, p, e) t = let z : ◌≡◌ {A = ℕ} 0 1 = cc in absurd (omega arith)
-then_tapped (On k p) i none h (ts, e) = let z : ◌≡◌ {A = ℕ} 0 1 = cc in absurd (omega arith)
-then_tapped (On k p) i (some us) h t = (record { edge = i; place = p } ∷ us, refl)
+then_tapped None i o (k, p, e) t = let z : ◌≡◌ {A = ℕ} 0 1 = cc in absurd (omega arith)
+then_tapped (Some (k, p)) i None h (ts, e) = let z : ◌≡◌ {A = ℕ} 0 1 = cc in absurd (omega arith)
+then_tapped (Some (k, p)) i (Some us) h t = (record { edge = i; place = p } ∷ us, refl)
 
 module _ (b : Board) (given : List Route) where
   all_tapped : (role : Role) (pitch x : Float) (ms : List Member) → Real x → Every (Every RealStretch) (members role pitch (map (route_of b given) ms)) → HoldsAll (value x) (members role pitch (map (route_of b given) ms)) → Tapped (trunk_taps role pitch x ms given)
@@ -120,10 +114,10 @@ module _ (b : Board) (given : List Route) where
   -- so the collector stands there
   stands : (u : Bundle) (x : Float) (o : Option (List TapOn)) → Tapped o → ((inside_or o b u x).collector.start.x ≡ x) × ((inside_or o b u x).collector.end.x ≡ x)
   unfolding inside_or drawn_inside drawn_as
-  stands u x none (ts, e) = let z : ◌≡◌ {A = ℕ} 0 1 = cc in absurd (omega arith)
-  stands u x (some ts) t = (refl, refl)
+  stands u x None (ts, e) = let z : ◌≡◌ {A = ℕ} 0 1 = cc in absurd (omega arith)
+  stands u x (Some ts) t = (refl, refl)
 
-  built_at_x : (good : Numbers b given) (u : Bundle) (x : Float) → Real x → HoldsAll (value x) (trunks b given u) → ((build b u (some x) given).collector.start.x ≡ x) × ((build b u (some x) given).collector.end.x ≡ x)
+  built_at_x : (good : Numbers b given) (u : Bundle) (x : Float) → Real x → HoldsAll (value x) (trunks b given u) → ((build b u (Some x) given).collector.start.x ≡ x) × ((build b u (Some x) given).collector.end.x ≡ x)
   unfolding build
   built_at_x good u x real h =
       stands u x (trunk_taps u.role (pitch_of b u) x (members_in b u) given)
@@ -140,16 +134,16 @@ module _ (b : Board) (given : List Route) where
   bounds_same r s f = cc
 
   -- the bundle as it is built on the given routes stands at its best place
-  built_best : (good : Numbers b given) (u : Bundle) (present : List Route) (r : CollectorBounds) → bounds_of b given u None None ≡ r → (x : Bound) → Best u.role r (trunks b given u) x → BestPlace b given present u (build b u (planned_x x) given)
+  built_best : (good : Numbers b given) (u : Bundle) (present : List Route) (r : CollectorBounds) → bounds_of b given u bounded.None bounded.None ≡ r → (x : Bound) → Best u.role r (trunks b given u) x → BestPlace b given present u (build b u (planned_x x) given)
   unfolding build
-  built_best good u present Absent e None h = at_rail (λ q a. let z : Absent ≡ Between a.bounds = sym e ∙ a.are_bounds in let w : ◌≡◌ {A = ℕ} 0 1 = cc in absurd (omega arith)) (record { start = refl; end = refl })
-  built_best good u present Absent e (At x) h = let w : ◌≡◌ {A = ℕ} 0 1 = cc in absurd (omega arith)
-  built_best good u present (Between r) e None h = at_rail (λ q a. let z : r ≡ a.bounds = bounds_same r a.bounds (sym e ∙ a.are_bounds) in h q (subst (λ (s : Bounds). Good s (trunks b given u) q) (sym z) a.good)) (record { start = refl; end = refl })
-  built_best good u present (Between r) e (At x) h =
+  built_best good u present Absent e bounded.None h = at_rail (λ q a. let z : Absent ≡ Between a.bounds = sym e ∙ a.are_bounds in let w : ◌≡◌ {A = ℕ} 0 1 = cc in absurd (omega arith)) (record { start = refl; end = refl })
+  built_best good u present Absent e (bounded.At x) h = let w : ◌≡◌ {A = ℕ} 0 1 = cc in absurd (omega arith)
+  built_best good u present (Between r) e bounded.None h = at_rail (λ q a. let z : r ≡ a.bounds = bounds_same r a.bounds (sym e ∙ a.are_bounds) in h q (subst (λ (s : Bounds). Good s (trunks b given u) q) (sym z) a.good)) (record { start = refl; end = refl })
+  built_best good u present (Between r) e (bounded.At x) h =
       let at = built_at_x good u x h.0 h.1.usable in
       at_best (value x) (record { bounds = r; are_bounds = e; good = h.1 })
       (λ p a. let z : r ≡ a.bounds = bounds_same r a.bounds (sym e ∙ a.are_bounds) in no_better u.role p x (h.2 p (subst (λ (s : Bounds). Good s (trunks b given u) p) (sym z) a.good)))
-      (record { start = same_x (build b u (some x) given).collector.start.x x at.0; end = same_x (build b u (some x) given).collector.end.x x at.1 })
+      (record { start = same_x (build b u (Some x) given).collector.start.x x at.0; end = same_x (build b u (Some x) given).collector.end.x x at.1 })
 
 -- ---- the turns
 
@@ -167,7 +161,7 @@ turns_length (u ∷ us) (x ∷ xs) (d ∷ ds) e f = ap suc (turns_length us xs d
 
 -- the turn of bundle k has its bundle and its planned x
 turn_at : (us : List Bundle) (xs : List Bound) (ds : List Float) → length xs ≡ length us → length ds ≡ length us → (k : ℕ) (c : Bundle) → k < length us
-    → ((get_or (turns_from us xs ds) k no_turn).bundle ≡ get_or us k c) × ((get_or (turns_from us xs ds) k no_turn).planned ≡ planned_x (get_or xs k None))
+    → ((get_or (turns_from us xs ds) k no_turn).bundle ≡ get_or us k c) × ((get_or (turns_from us xs ds) k no_turn).planned ≡ planned_x (get_or xs k bounded.None))
 unfolding turns_from
 turn_at [] xs ds e f k c h = absurd (omega arith)
 turn_at (u ∷ us) [] ds e f k c h = absurd (omega (arith, e))
@@ -241,13 +235,13 @@ best_place b given allow taps geometry p u good once d k h lone present =
     let ts = turns_of b p.xs in
     let ds = offsets_of b in
     let c = get_or b.bundles k no_bundle in
-    let f : length ds ≡ length b.bundles = offsets_length b b.bundles (record { input = None; output = None }) in
+    let f : length ds ≡ length b.bundles = offsets_length b b.bundles (record { input = bounded.None; output = bounded.None }) in
     let l : length ts ≡ length b.bundles = turns_length b.bundles p.xs ds d.sized f in
     let t = turn_at b.bundles p.xs ds d.sized f k no_bundle h in
     let a = accepted b allow given geometry ts u d.drawn in
     let fresh : Fresh b (take k ts) (get_or ts k no_turn) = subst (λ (z : Bundle). Every (λ (m : Member). touched b (take k ts) m.edge ≡ false) (members_in b z)) (sym t.0) (untouched b once k h lone p.xs ds) in
     let made : get_or u.drawn k no_drawn ≡ build b (get_or ts k no_turn).bundle (get_or ts k no_turn).planned given = a.drawn_fresh k (omega (arith, l)) fresh in
-    let same : build b (get_or ts k no_turn).bundle (get_or ts k no_turn).planned given ≡ build b c (planned_x (get_or p.xs k None)) given =
+    let same : build b (get_or ts k no_turn).bundle (get_or ts k no_turn).planned given ≡ build b c (planned_x (get_or p.xs k bounded.None)) given =
     ap (λ (z : Bundle). build b z (get_or ts k no_turn).planned given) t.0 ∙ ap (λ (z : Option Float). build b c z given) t.1 in
     subst (BestPlace b given present c) (sym (made ∙ same))
-    (built_best b given good c present (bounds_of b given c None None) refl (get_or p.xs k None) (planned_best b given good taps k no_bundle p h lone d.sufficient d.planned))
+    (built_best b given good c present (bounds_of b given c bounded.None bounded.None) refl (get_or p.xs k bounded.None) (planned_best b given good taps k no_bundle p h lone d.sufficient d.planned))

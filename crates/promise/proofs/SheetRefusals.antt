@@ -3,15 +3,13 @@
 use Prim.Native.Nat.{ℕ, zero, suc}
 use Rattle.std.proofs.Math.Path.{◌≡◌, refl, sym, ap}
 use Rattle.std.proofs.Common.{◌∙◌, subst, arith}
-use Rattle.std.specs.Prelude.{◌⊎◌, Bool}
+use Rattle.std.specs.Prelude.{◌⊎◌, Bool, Option, Some, None}
 use Rattle.std.proofs.Math.Logic.{inl, inr}
 use Rattle.std.proofs.Math.Bool.{true, false}
 use mathlib.Core.List.{List, [], ◌∷◌, ◌++◌, append_assoc}
-use Rattle.std.proofs.Math.Option.{Option, none, some}
 use Rattle.geometry.specs.Points.{Route}
 use Rattle.board.specs.Board.{Board}
-use Rattle.drawing.specs.declared.Verdict.{Verdict}
-use Rattle.drawing.specs.declared.Verdict.TheVariants.{Clean, Refused}
+use Rattle.drawing.specs.Verdict.{Verdict, Clean, Refused}
 use Rattle.drawing.specs.Check.{Test, due, barred, walk}
 use Rattle.drawing.specs.Sheet.{Turn, Progress, Outcome, refused, going, after_check, after_rewrite, after_turn, drawn_at, rewritten_by, inside_check, contact_check, checked, turn, sheet_of}
 use Rattle.promise.specs.Due.{AtTurn, Stops, ten, eleven, twelve}
@@ -90,7 +88,7 @@ module _ (b : Board) (allow : Bool) where
       own : (k r w : ℕ) (ts : List Test) (m : ℕ) → walk k ts m ≡ Refused r (record { 0 = w }) → refused r w ≡ refused n v → n ≡ k
       own k r w ts m f h = elim (walk_number k ts m r w f) [ inl x ↦ sym (outcome_number h) ∙ x | inr x ↦ absurd (other (sym (outcome_number h) ∙ x)) ]
 
-      at_contact : (rs : List Route) → rewritten_by b t (drawn_at b t s) s.routes ≡ some rs → (m : ℕ) → inside_check b t rs s.left ≡ Clean (record { 0 = m }) → (c : Verdict) → contact_check b allow t (drawn_at b t s) s.drawn rs m ≡ c
+      at_contact : (rs : List Route) → rewritten_by b t (drawn_at b t s) s.routes ≡ Some rs → (m : ℕ) → inside_check b t rs s.left ≡ Clean (record { 0 = m }) → (c : Verdict) → contact_check b allow t (drawn_at b t s) s.drawn rs m ≡ c
           → after_check c (λ left. going (record { routes = rs; drawn = s.drawn ++ (drawn_at b t s ∷ []); left = left })) ≡ refused n v → Stops b allow t s n
       at_contact rs r m i (Clean q) f h = not_refused _ n v h
       at_contact rs r m i (Refused k q) f h =
@@ -98,7 +96,7 @@ module _ (b : Board) (allow : Bool) where
           let y : k ≡ 11 = outcome_number h ∙ x in
           subst (Stops b allow t s) (sym x) (eleven rs r m i q.0 (f ∙ ap (λ (z : ℕ). Refused z q) y))
 
-      at_inside : (rs : List Route) → rewritten_by b t (drawn_at b t s) s.routes ≡ some rs → (c : Verdict) → inside_check b t rs s.left ≡ c
+      at_inside : (rs : List Route) → rewritten_by b t (drawn_at b t s) s.routes ≡ Some rs → (c : Verdict) → inside_check b t rs s.left ≡ c
           → after_check c (λ k. after_check (contact_check b allow t (drawn_at b t s) s.drawn rs k) (λ left. going (record { routes = rs; drawn = s.drawn ++ (drawn_at b t s ∷ []); left = left }))) ≡ refused n v → Stops b allow t s n
       at_inside rs r (Clean q) f h = at_contact rs r q.0 f (contact_check b allow t (drawn_at b t s) s.drawn rs q.0) refl h
       at_inside rs r (Refused k q) f h =
@@ -107,8 +105,8 @@ module _ (b : Board) (allow : Bool) where
           subst (Stops b allow t s) (sym x) (twelve rs r q.0 (f ∙ ap (λ (z : ℕ). Refused z q) y))
 
       at_rewrite : (o : Option (List Route)) → rewritten_by b t (drawn_at b t s) s.routes ≡ o → after_rewrite o s.left (λ rs. checked b allow t (drawn_at b t s) s.drawn rs s.left) ≡ refused n v → Stops b allow t s n
-      at_rewrite none r h = subst (Stops b allow t s) (outcome_number h) (ten r)
-      at_rewrite (some rs) r h = at_inside rs r (inside_check b t rs s.left) refl h
+      at_rewrite None r h = subst (Stops b allow t s) (outcome_number h) (ten r)
+      at_rewrite (Some rs) r h = at_inside rs r (inside_check b t rs s.left) refl h
 
   -- THE THEOREM: a sheet that is refused, and not with 14, was stopped by a turn
   pub sheet_stops : (ts : List Turn) (first : Progress) (n v : ℕ) → (n ≡ 14 → ⊥) → sheet_of b allow ts first ≡ refused n v → (t : Turn) × (s : Progress) × AtTurn b allow ts first t s × Stops b allow t s n

@@ -1,10 +1,9 @@
 -- The numbers of a sheet before the last shift, for every plan whose x are within 2 ^ 30: every x has magnitude at most 2 ^ 31 + 2 ^ 21 and every y at most 2 ^ 31 + 255 * 2 ^ 20, so both are below 2 ^ 32; and none is minus zero, where no number of the board and of the plan is.
 -- Assumes nothing.
-use Rattle.std.specs.Prelude.{ℕ, ◌+◌, ◌-◌, ◌*◌, ◌≤◌, ◌≡◌, Bool, ◌&&◌, ◌||◌, pos, Float}
+use Rattle.std.specs.Prelude.{ℕ, ◌+◌, ◌-◌, ◌*◌, ◌≤◌, ◌≡◌, Bool, ◌&&◌, ◌||◌, pos, Float, Option, Some, None}
 use Rattle.std.proofs.Common.{le_of_eq, mul-one, zero-mul, mul-pos, sym, ap, ◌∙◌, subst, true≢false}
 use Rattle.std.proofs.Math.Path.{refl}
 use mathlib.Core.List.{List, [], ◌∷◌}
-use Rattle.std.proofs.Math.Option.{Option, none, some}
 use Rattle.std.proofs.Math.Bool.{true, false}
 use native.Mathlib.Omega.{arith}
 use Rattle.std.proofs.Math.Dec.{T}
@@ -79,18 +78,18 @@ below_whole n x h =
 
 -- what equals a bounded number is bounded
 eq_bounded : (n : ℕ) (a x : Float) → Bounded n a → T (eq a x) → Bounded n x
-eq_bounded n a nan h e = absurd (none a e)
+eq_bounded n a nan h e = absurd (None a e)
   where
-    none : (a : Float) → T (eq a nan) → ⊥
-    none nan e = unfold eq in e
-    none (inf s) e = unfold eq in e
-    none (fin s m k) e = unfold eq in e
-eq_bounded n a (inf t) h e = absurd (none a h.is_finite e)
+    None : (a : Float) → T (eq a nan) → ⊥
+    None nan e = unfold eq in e
+    None (inf s) e = unfold eq in e
+    None (fin s m k) e = unfold eq in e
+eq_bounded n a (inf t) h e = absurd (None a h.is_finite e)
   where
-    none : (a : Float) → T (finite a) → T (eq a (inf t)) → ⊥
-    none nan f e = f
-    none (inf s) f e = f
-    none (fin s m k) f e = unfold eq in e
+    None : (a : Float) → T (finite a) → T (eq a (inf t)) → ⊥
+    None nan f e = f
+    None (inf s) f e = f
+    None (fin s m k) f e = unfold eq in e
 eq_bounded n a (fin t m k) h e =
     let x = fin t m k in
     let s = eq→same a x h.is_finite tt e in
@@ -230,8 +229,8 @@ module _ (b : Board) (routes : List Route) (limits : Limits b routes) where
   turns_in ts e = every_map OkTurn (OfTurn InX) ts (λ t. one t.planned) e
     where
       one : (o : Option Float) → OfPlan (Within 30) o → OfPlan InX o
-      one none s = tt
-      one (some x) s = bounded_mono 1073741824 2149580800 x (omega arith) s
+      one None s = tt
+      one (Some x) s = bounded_mono 1073741824 2149580800 x (omega arith) s
 
   -- THE RANGE of a sheet before the last shift, for every plan whose x are within 2 ^ 30
   pub sheet_ok : (allow : Bool) (ts : List Turn) (grant : ℕ) (u : Progress) → Every OkTurn ts → sheet_of b allow ts (blank routes grant) ≡ going u → OkSheet u

@@ -1,7 +1,7 @@
 -- Each x that a search finds is one of its bounds or an end of a stretch: what holds of all of these holds of it.
 -- Assumes nothing.
 use Rattle.std.proofs.Common.{sym, subst}
-use Rattle.std.specs.Prelude.{ℕ, ◌-◌, Bool, cond, leb, Float}
+use Rattle.std.specs.Prelude.{ℕ, ◌-◌, Bool, cond, leb, Float, Option, Some, None}
 use Rattle.std.proofs.Math.Bool.{true, false}
 use mathlib.Core.List.{List, [], ◌∷◌}
 use Rattle.std.specs.Float.Ieee.{lt}
@@ -9,8 +9,6 @@ use Rattle.binary64.specs.Bools.{either}
 use Rattle.binary64.specs.Order.{least, greatest}
 use Rattle.geometry.specs.declared.Role.{Role}
 use Rattle.geometry.specs.declared.Role.TheVariants.{Input, Output}
-use Rattle.geometry.specs.declared.Stretch.{Stretch}
-use Rattle.geometry.specs.declared.Stretch.TheVariants.{Nowhere, Of}
 use Rattle.search.specs.declared.Bounds.{Bounds}
 use Rattle.search.specs.declared.Candidate.{Candidate}
 use Rattle.search.specs.declared.Candidate.TheVariants as candidacy
@@ -27,9 +25,9 @@ use Rattle.plan.specs.Plan.{found_x}
 use Rattle.plan.proofs.CarriedNumbers.{OfBound, OfBounds}
 
 module _ (Q : Float → Type 0) where
-  abbrev pub OfStretch : Stretch → Type 0
-  OfStretch Nowhere = Unit {0}
-  OfStretch (Of low high) = Q low × Q high
+  abbrev pub OfStretch : Option (Float × Float) → Type 0
+  OfStretch None = Unit {0}
+  OfStretch (Some (low, high)) = Q low × Q high
 
   abbrev OfCandidate : Candidate → Type 0
   OfCandidate candidacy.Missing = Unit {0}
@@ -39,9 +37,9 @@ module _ (Q : Float → Type 0) where
   nearest_of Input low high d l h s = either (lt d high) d high Q s h
   nearest_of Output low high d l h s = either (lt low d) d low Q s l
 
-  candidate_of : (role : Role) (r : Bounds) (s : Stretch) → OfBounds Q r → OfStretch s → OfCandidate (candidate role r s)
-  candidate_of role r Nowhere b h = tt
-  candidate_of role r (Of low high) b h = go (lt (least high r.maximum) (greatest low r.minimum))
+  candidate_of : (role : Role) (r : Bounds) (s : Option (Float × Float)) → OfBounds Q r → OfStretch s → OfCandidate (candidate role r s)
+  candidate_of role r None b h = tt
+  candidate_of role r (Some (low, high)) b h = go (lt (least high r.maximum) (greatest low r.minimum))
     where
       go : (t : Bool) → OfCandidate (cond t candidacy.Missing (candidacy.At (nearest role (greatest low r.minimum) (least high r.maximum) r.desired)))
       go true = tt
@@ -53,17 +51,17 @@ module _ (Q : Float → Type 0) where
   onto_of xs candidacy.Missing e s = e
   onto_of xs (candidacy.At x) e s = every_last Q x xs e s
 
-  gathered_of : (role : Role) (r : Bounds) (xs : List Float) (ss : List Stretch) → OfBounds Q r → Every Q xs → Every OfStretch ss → Every Q (candidates_onto role r xs ss)
+  gathered_of : (role : Role) (r : Bounds) (xs : List Float) (ss : List (Option (Float × Float))) → OfBounds Q r → Every Q xs → Every OfStretch ss → Every Q (candidates_onto role r xs ss)
   unfolding candidates_onto
   gathered_of role r xs [] b e h = e
   gathered_of role r xs (s ∷ ss) b e h = gathered_of role r (onto xs (candidate role r s)) ss b (onto_of xs (candidate role r s) e (candidate_of role r s b h.0)) h.1
 
-  runs_of : (ms : List (List Stretch)) → Every (Every OfStretch) ms → Every OfStretch (all_runs ms)
+  runs_of : (ms : List (List (Option (Float × Float)))) → Every (Every OfStretch) ms → Every OfStretch (all_runs ms)
   unfolding all_runs
   runs_of [] e = tt
   runs_of (m ∷ ms) e = every_append OfStretch m (all_runs ms) e.0 (runs_of ms e.1)
 
-  commons_of : (ms : List (List Stretch)) (xs : List Float) → Every Q xs → Every Q (commons ms xs)
+  commons_of : (ms : List (List (Option (Float × Float)))) (xs : List Float) → Every Q xs → Every Q (commons ms xs)
   unfolding commons
   commons_of ms [] e = tt
   commons_of ms (x ∷ xs) e = go (common x ms) (commons_of ms xs e.1)
@@ -76,14 +74,14 @@ module _ (Q : Float → Type 0) where
   first_of [] e = tt
   first_of (x ∷ xs) e = e.0
 
-  freely_of : (role : Role) (r : Bounds) (ms : List (List Stretch)) → OfBounds Q r → Every (Every OfStretch) ms → OfBound Q (found_x (freely role r ms))
+  freely_of : (role : Role) (r : Bounds) (ms : List (List (Option (Float × Float)))) → OfBounds Q r → Every (Every OfStretch) ms → OfBound Q (found_x (freely role r ms))
   freely_of role r ms b e =
       let key = sort_key (falls role) in
       let xs = candidates_onto role r (r.desired ∷ []) (all_runs ms) in
       first_of (commons ms (candidates role r ms))
       (commons_of ms (candidates role r ms) (every_distinct key Q (sorted key xs) (every_sorted key Q xs (gathered_of role r (r.desired ∷ []) (all_runs ms) b (b.1, tt) (runs_of ms e)))))
 
-  pub found_made : (role : Role) (r : Bounds) (ms : List (List Stretch)) (v : ℕ) → OfBounds Q r → Every (Every OfStretch) ms → OfBound Q (found_x (search_of role r ms v).outcome)
+  pub found_made : (role : Role) (r : Bounds) (ms : List (List (Option (Float × Float)))) (v : ℕ) → OfBounds Q r → Every (Every OfStretch) ms → OfBound Q (found_x (search_of role r ms v).outcome)
   found_made role r ms v b e = subst (λ (s : Searched). OfBound Q (found_x s.outcome)) (sym (search_paid role r ms v)) (go (leb (price role r ms) v))
     where
       go : (t : Bool) → OfBound Q (found_x (cond t (answer (freely role r ms) (v - price role r ms)) (answer outcome.Spent 0)).outcome)

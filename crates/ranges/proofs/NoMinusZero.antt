@@ -1,6 +1,6 @@
 -- No offset, no corridor and no planned x is minus zero, where no number of the board is. Whatever was granted, and whether collectors of one role are separated or not.
 -- Assumes nothing.
-use Rattle.std.specs.Prelude.{◌≡◌, ℕ, ◌+◌, Bool, cond, T, eqb, Float}
+use Rattle.std.specs.Prelude.{◌≡◌, ℕ, ◌+◌, Bool, cond, T, eqb, Float, Option, Some, None}
 use Rattle.std.proofs.Math.Bool.{true, false}
 use mathlib.Core.List.{List, [], ◌∷◌, map}
 use Rattle.std.specs.Float.Ieee.{binary64, lt, fits, ne, le, sub, add}
@@ -12,8 +12,6 @@ use Rattle.geometry.specs.declared.Side.{Side}
 use Rattle.geometry.specs.declared.Side.TheVariants.{North, East, South, West}
 use Rattle.geometry.specs.declared.Role.{Role}
 use Rattle.geometry.specs.declared.Role.TheVariants.{Input, Output}
-use Rattle.geometry.specs.declared.Stretch.{Stretch}
-use Rattle.geometry.specs.declared.Stretch.TheVariants.{Nowhere, Of}
 use Rattle.geometry.specs.Points.{Route, runs}
 use Rattle.geometry.specs.Port.{port_point}
 use Rattle.geometry.specs.Stretch.{from_to, shortened, stretch}
@@ -27,7 +25,7 @@ use Rattle.sorting.specs.Sorted.{every_map, every_get_d}
 use Rattle.sorting.specs.Lists.{Every}
 use Rattle.plan.specs.declared.Used.{Used}
 use Rattle.plan.specs.declared.Bound.{Bound}
-use Rattle.plan.specs.declared.Bound.TheVariants.{None, At}
+use Rattle.plan.specs.declared.Bound.TheVariants as bounded
 use Rattle.plan.specs.Depths.{◌⊕◌, ◌⊖◌, number, same_role, no_node, port_of, node_of, endpoint_of, members_in, parting_pitch, inward, lanes, boundary_depth, lane_count, offset_past, last_depth, further, used_by, used, offset_of, used_after, offsets_from, offsets_of, corridor_x, corridor_among, first_of, corridor_from, corridor_of}
 use Rattle.plan.specs.Bounds.{route_of, trunks}
 use Rattle.plan.specs.Plan.{Plan, going, plan_of}
@@ -73,8 +71,8 @@ module _ (b : Board) (routes : List Route) (good : Numbers b routes) (plain : Pl
   depth_plain u = add_plain (node_of b u).body.width (rail_depth b.options) (node_plain u).2 (rail_small b routes good).1
 
   offset_plain : (u : Bundle) (o : Bound) → OfBound Plain o → Plain (offset_past b u o)
-  offset_plain u None s = zero_plain
-  offset_plain u (At w) s =
+  offset_plain u bounded.None s = zero_plain
+  offset_plain u (bounded.At w) s =
       let pitch = parting_pitch b in
       let d = (w ⊕ pitch) ⊖ (boundary_depth b u ⊕ pitch) in
       either (lt d zero64) zero64 d Plain zero_plain (sub_plain (w ⊕ pitch) (boundary_depth b u ⊕ pitch) (add_plain w pitch s (pitch_small b routes good).1) (add-fits binary64 (boundary_depth b u) pitch))
@@ -96,8 +94,8 @@ module _ (b : Board) (routes : List Route) (good : Numbers b routes) (plain : Pl
   used_plain Output o w s t = (t.0, s)
 
   further_plain : (o : Bound) (d : Float) → OfBound Plain o → Plain d → OfBound Plain (further o d)
-  further_plain None d s t = t
-  further_plain (At w) d s t = either (lt w d) d w Plain t s
+  further_plain bounded.None d s t = t
+  further_plain (bounded.At w) d s t = either (lt w d) d w Plain t s
 
   offsets_from_plain : (us : List Bundle) (w : Used) → PlainUsed w → Every Plain (offsets_from b us w)
   unfolding offsets_from
@@ -109,14 +107,14 @@ module _ (b : Board) (routes : List Route) (good : Numbers b routes) (plain : Pl
       (p, offsets_from_plain us (used_after b u w) (used_plain u.role (further (used_by u.role w) (last_depth b u o)) w (further_plain (used_by u.role w) (last_depth b u o) q (last_plain u o p)) s))
 
   pub offsets_plain : Every Plain (offsets_of b)
-  offsets_plain = offsets_from_plain b.bundles (record { input = None; output = None }) (tt, tt)
+  offsets_plain = offsets_from_plain b.bundles (record { input = bounded.None; output = bounded.None }) (tt, tt)
 
   among_plain : (u : Bundle) (offset : Float) (e : ℕ) (ms : List Member) → Plain offset → OfBound Plain (corridor_among b u offset e ms)
   unfolding corridor_among
   among_plain u offset e [] s = tt
   among_plain u offset e (m ∷ ms) s = go (eqb m.edge e) (among_plain u offset e ms s)
     where
-      go : (t : Bool) → OfBound Plain (corridor_among b u offset e ms) → OfBound Plain (cond t (At (corridor_x b u offset m)) (corridor_among b u offset e ms))
+      go : (t : Bool) → OfBound Plain (corridor_among b u offset e ms) → OfBound Plain (cond t (bounded.At (corridor_x b u offset m)) (corridor_among b u offset e ms))
       go true k =
           let l = lanes b u (m.tap_lane + 1) in
           inward_plain u.role (inward u.role (endpoint_of b u).x (rail_depth b.options)) (offset ⊕ l)
@@ -131,8 +129,8 @@ module _ (b : Board) (routes : List Route) (good : Numbers b routes) (plain : Pl
       go (same_role u.role role) (corridor_among b u d e (members_in b u)) (corridor_from b role e us ds) (among_plain u d e (members_in b u) h.0) (from_plain role e us ds h.1)
     where
       first : (o p : Bound) → OfBound Plain o → OfBound Plain p → OfBound Plain (first_of o p)
-      first None p s t = t
-      first (At x) p s t = s
+      first bounded.None p s t = t
+      first (bounded.At x) p s t = s
 
       go : (t : Bool) (o p : Bound) → OfBound Plain o → OfBound Plain p → OfBound Plain (cond t (first_of o p) p)
       go true o p s t = first o p s t
@@ -145,7 +143,7 @@ module _ (b : Board) (routes : List Route) (good : Numbers b routes) (plain : Pl
   from_to_plain : (low high : Float) → Plain low → Plain high → OfStretch Plain (from_to low high)
   from_to_plain low high s t = go (le low high)
     where
-      go : (k : Bool) → OfStretch Plain (cond k (Of low high) Nowhere)
+      go : (k : Bool) → OfStretch Plain (cond k (Some (low, high)) None)
       go true = (s, t)
       go false = tt
 
@@ -156,7 +154,7 @@ module _ (b : Board) (routes : List Route) (good : Numbers b routes) (plain : Pl
   stretch_plain : (role : Role) (p q : Point) → Plain p.x → Plain q.x → OfStretch Plain (stretch role (parting_pitch b) p q)
   stretch_plain role p q s t = go (ne p.y q.y) (le q.x p.x) (shortened role (parting_pitch b) p.x q.x) (shortened_plain role p.x q.x s t)
     where
-      go : (c d : Bool) (e : Stretch) → OfStretch Plain e → OfStretch Plain (cond c Nowhere (cond d Nowhere e))
+      go : (c d : Bool) (e : Option (Float × Float)) → OfStretch Plain e → OfStretch Plain (cond c None (cond d None e))
       go true d e h = tt
       go false true e h = tt
       go false false e h = h

@@ -1,4 +1,4 @@
--- No addition, subtraction or product of the drawing overflows: each rounded result on the way is below 2 ^ 34. Those that are drawn or written are in specs/Extent.antt and proofs/Page.antt; here are the others.
+-- No addition, subtraction or product of the drawing overflows: each rounded result on the way is below 2 ^ 34. Those that are drawn or written are in proofs/Extent.antt and proofs/Page.antt; here are the others.
 -- Assumes nothing.
 use Prim.Native.Nat.{suc, ◌≤◌}
 use Rattle.std.specs.Prelude.{List, Float}

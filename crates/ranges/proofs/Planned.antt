@@ -1,6 +1,6 @@
 -- Every planned x has magnitude at most 2 ^ 30: it lies in a stretch of a member's run, so between two given coordinates; and there are as many planned x as bundles. Whatever was granted, and whether collectors of one role are separated or not.
 -- Assumes nothing.
-use Rattle.std.specs.Prelude.{◌≡◌, ℕ, ◌^◌, Bool, true, false, ◌&&◌, cond, List, pos, length, Float}
+use Rattle.std.specs.Prelude.{◌≡◌, ℕ, ◌^◌, Bool, true, false, ◌&&◌, cond, List, pos, length, Float, Option, Some, None}
 use Rattle.std.proofs.Math.Path.{refl, subst}
 use Rattle.std.proofs.Common.{sym, mul-one, zero-mul, arith, true≢false}
 use Rattle.std.proofs.Math.Dec.{T}
@@ -15,8 +15,6 @@ use Rattle.binary64.specs.Monotone.{add_mono, sub_mono}
 use Rattle.geometry.specs.declared.Point.{Point}
 use Rattle.geometry.specs.declared.Role.{Role}
 use Rattle.geometry.specs.declared.Role.TheVariants.{Input, Output}
-use Rattle.geometry.specs.declared.Stretch.{Stretch}
-use Rattle.geometry.specs.declared.Stretch.TheVariants.{Nowhere, Of}
 use Rattle.geometry.specs.Points.{Route}
 use Rattle.geometry.specs.Stretch.{shortened, stretch, holds}
 use Rattle.board.specs.Board.{Board}
@@ -75,14 +73,14 @@ module _ (b : Board) (routes : List Route) (good : Numbers b routes) (signs : Si
   shortened_within : (role : Role) (x y z : Float) → Within 30 x → Within 30 y → holds z (shortened role pitch x y) ≡ true → Within 30 z
   shortened_within Input x y z s t = go (le x (sub binary64 y pitch))
     where
-      go : (k : Bool) → holds z (cond k (Of x (sub binary64 y pitch)) Nowhere) ≡ true → Within 30 z
+      go : (k : Bool) → holds z (cond k (Some (x, sub binary64 y pitch)) None) ≡ true → Within 30 z
       go true e =
           let a : T (le x z && le z (sub binary64 y pitch)) = subst T (sym e) tt in
           less_pitch x y pitch z s t (pitch_small b routes good).0 (pitch_not_below b routes good signs) (and_l (le x z) (le z (sub binary64 y pitch)) a) (and_r (le x z) (le z (sub binary64 y pitch)) a)
       go false e = absurd (true≢false (sym e))
   shortened_within Output x y z s t = go (le (add binary64 x pitch) y)
     where
-      go : (k : Bool) → holds z (cond k (Of (add binary64 x pitch) y) Nowhere) ≡ true → Within 30 z
+      go : (k : Bool) → holds z (cond k (Some (add binary64 x pitch, y)) None) ≡ true → Within 30 z
       go true e =
           let a : T (le (add binary64 x pitch) z && le z y) = subst T (sym e) tt in
           plus_pitch x y pitch z s t (pitch_small b routes good).0 (pitch_not_below b routes good signs) (and_l (le (add binary64 x pitch) z) (le z y) a) (and_r (le (add binary64 x pitch) z) (le z y) a)
@@ -91,7 +89,7 @@ module _ (b : Board) (routes : List Route) (good : Numbers b routes) (signs : Si
   stretch_within : (role : Role) (p q : Point) (z : Float) → Within 30 p.x → Within 30 q.x → holds z (stretch role pitch p q) ≡ true → Within 30 z
   stretch_within role p q z s t = go (ne p.y q.y) (le q.x p.x) (shortened role pitch p.x q.x) (shortened_within role p.x q.x z s t)
     where
-      go : (c d : Bool) (k : Stretch) → (holds z k ≡ true → Within 30 z) → holds z (cond c Nowhere (cond d Nowhere k)) ≡ true → Within 30 z
+      go : (c d : Bool) (k : Option (Float × Float)) → (holds z k ≡ true → Within 30 z) → holds z (cond c None (cond d None k)) ≡ true → Within 30 z
       go true d k f e = absurd (true≢false (sym e))
       go false true k f e = absurd (true≢false (sym e))
       go false false k f e = f e

@@ -1,7 +1,6 @@
 -- The looks of a sheet as one list, in the order in which the bundles' checks make them, and the visits that they count. Definitions of theorems.
 -- Assumes nothing.
-use Rattle.std.specs.Prelude.{ℕ, suc, min, List, [], ◌∷◌, ◌++◌, Bool, cond}
-use Rattle.std.proofs.Math.Option.{Option, none, some}
+use Rattle.std.specs.Prelude.{ℕ, suc, min, List, [], ◌∷◌, ◌++◌, Bool, cond, Option, Some, None}
 use Rattle.geometry.specs.Points.{Route}
 use Rattle.board.specs.Board.{Board}
 use Rattle.plan.specs.Depths.{members_in}
@@ -15,8 +14,8 @@ turn_looks b allow t d priors rs = interior_tests b (members_in b t.bundle) rs +
 
 -- the looks of a bundle, then those of the later ones; a rewriting that is refused ends the sheet
 unfoldable pub looks_after : Option (List Route) → (List Route → List Test) → List Test
-looks_after none f = []
-looks_after (some rs) f = f rs
+looks_after None f = []
+looks_after (Some rs) f = f rs
 
 -- all looks of the sheet
 unfoldable pub sheet_looks : Board → Bool → List Turn → List Route → List Drawn → List Test

@@ -7,69 +7,52 @@
 
 #![tactic(auto)]
 
-ghost use Rattle.std.specs.Prelude.{◌≡◌, ◌+◌, ◌*◌, ◌≤◌, length};
+ghost use Rattle.std.specs.Prelude.{◌≡◌, ◌+◌, ◌*◌, ◌≤◌, length, Option};
 ghost use Rattle.geometry.specs.Points.{points_from, runs};
-ghost use Rattle.route.specs.Intersection.{meets, first_met, last_met, first_vertical_line_intersection, last_vertical_line_intersection, first_shared_trunk_intersection, last_shared_trunk_intersection};
+ghost use Rattle.geometry.specs.declared.Point.{Point};
+ghost use Rattle.geometry.specs.declared.Segment.{Segment};
+ghost use Rattle.route.specs.Intersection.{AnswersAs, first_met, last_met, first_vertical_line_intersection, last_vertical_line_intersection, first_shared_trunk_intersection, last_shared_trunk_intersection};
 
-use geometry::{Hit, Point, Role};
-use route::{Crossing, Line};
+use geometry::{Point, Role, Segment};
 
 // ---- intersections
 
-fn line_on_run(line: Line, x: f64, start: Point, end: Point) -> Hit
-    ensures { result ≡ meets line x (record { start = start; end = end }) }
+// The first run that is met, by its place: .enumerate().find_map(..).
+fn first_met<F: Fn(Segment) -> Option<Point>>(
+    on_run: F,
+    points: &[f64],
+    start: usize,
+    count: usize,
+) -> Option<(usize, Point)>
+    requires { F.IsAlwaysCallable on_run × (2 * (start + count) ≤ length points.now) }
+    ensures { (f : Segment → Option Point) → AnswersAs (F.post on_run) f → result ≡ first_met f 0 (runs (points_from points.now start count)) }
 {
-    match line {
-        Line::Trunk(role, minimum_length) => shapes::shared_trunk_horizontal_intersection(
-            start,
-            end,
-            x,
-            role,
-            minimum_length,
-        ),
-        Line::Anywhere(prefer_end) => shapes::segment_vertical_line_intersection(
-            start, end, x, prefer_end,
-        ),
-    }
-}
-
-fn first_crossing(line: Line, x: f64, points: &[f64], start: usize, count: usize) -> Crossing
-    requires { 2 * (start + count) ≤ length points.now }
-    ensures { result ≡ first_met (meets line x) 0 (runs (points_from points.now start count)) }
-{
-    let mut i: usize = 0;
-    while i + 1 < count {
+    for i in 0..count.saturating_sub(1) {
         let run = route_views::route_run(points, start, count, i);
-        let h = line_on_run(line, x, run.start, run.end);
-        match h {
-            Hit::Met(p) => {
-                return Crossing::On(i, p);
-            }
-            Hit::Missed => {}
-        }
-        i += 1;
-    }
-    Crossing::Nowhere
-}
-
-fn last_crossing(line: Line, x: f64, points: &[f64], start: usize, count: usize) -> Crossing
-    requires { 2 * (start + count) ≤ length points.now }
-    ensures { result ≡ last_met (meets line x) 0 (runs (points_from points.now start count)) }
-{
-    let mut left = count;
-    while left > 1 {
-        left -= 1;
-        let i = left - 1;
-        let run = route_views::route_run(points, start, count, i);
-        let h = line_on_run(line, x, run.start, run.end);
-        match h {
-            Hit::Met(p) => {
-                return Crossing::On(i, p);
-            }
-            Hit::Missed => {}
+        if let Some(p) = on_run(run) {
+            return Some((i, p));
         }
     }
-    Crossing::Nowhere
+    None
+}
+
+// The last run that is met, by its place: .enumerate().rev().find_map(..).
+fn last_met<F: Fn(Segment) -> Option<Point>>(
+    on_run: F,
+    points: &[f64],
+    start: usize,
+    count: usize,
+) -> Option<(usize, Point)>
+    requires { F.IsAlwaysCallable on_run × (2 * (start + count) ≤ length points.now) }
+    ensures { (f : Segment → Option Point) → AnswersAs (F.post on_run) f → result ≡ last_met f 0 (runs (points_from points.now start count)) }
+{
+    for end in (1..count).rev() {
+        let run = route_views::route_run(points, start, count, end - 1);
+        if let Some(p) = on_run(run) {
+            return Some((end - 1, p));
+        }
+    }
+    None
 }
 
 pub fn first_vertical_line_intersection(
@@ -77,11 +60,16 @@ pub fn first_vertical_line_intersection(
     start: usize,
     count: usize,
     x: f64,
-) -> Crossing
+) -> Option<(usize, Point)>
     requires { 2 * (start + count) ≤ length points.now }
     ensures { result ≡ first_vertical_line_intersection (points_from points.now start count) x }
 {
-    first_crossing(Line::Anywhere(false), x, points, start, count)
+    first_met(
+        |run| shapes::segment_vertical_line_intersection(run.start, run.end, x, false),
+        points,
+        start,
+        count,
+    )
 }
 
 pub fn last_vertical_line_intersection(
@@ -89,11 +77,16 @@ pub fn last_vertical_line_intersection(
     start: usize,
     count: usize,
     x: f64,
-) -> Crossing
+) -> Option<(usize, Point)>
     requires { 2 * (start + count) ≤ length points.now }
     ensures { result ≡ last_vertical_line_intersection (points_from points.now start count) x }
 {
-    last_crossing(Line::Anywhere(true), x, points, start, count)
+    last_met(
+        |run| shapes::segment_vertical_line_intersection(run.start, run.end, x, true),
+        points,
+        start,
+        count,
+    )
 }
 
 pub fn first_shared_trunk_intersection(
@@ -103,11 +96,24 @@ pub fn first_shared_trunk_intersection(
     x: f64,
     role: Role,
     minimum_length: f64,
-) -> Crossing
+) -> Option<(usize, Point)>
     requires { 2 * (start + count) ≤ length points.now }
     ensures { result ≡ first_shared_trunk_intersection (points_from points.now start count) x role minimum_length }
 {
-    first_crossing(Line::Trunk(role, minimum_length), x, points, start, count)
+    first_met(
+        |run| {
+            shapes::shared_trunk_horizontal_intersection(
+                run.start,
+                run.end,
+                x,
+                role,
+                minimum_length,
+            )
+        },
+        points,
+        start,
+        count,
+    )
 }
 
 pub fn last_shared_trunk_intersection(
@@ -117,9 +123,22 @@ pub fn last_shared_trunk_intersection(
     x: f64,
     role: Role,
     minimum_length: f64,
-) -> Crossing
+) -> Option<(usize, Point)>
     requires { 2 * (start + count) ≤ length points.now }
     ensures { result ≡ last_shared_trunk_intersection (points_from points.now start count) x role minimum_length }
 {
-    last_crossing(Line::Trunk(role, minimum_length), x, points, start, count)
+    last_met(
+        |run| {
+            shapes::shared_trunk_horizontal_intersection(
+                run.start,
+                run.end,
+                x,
+                role,
+                minimum_length,
+            )
+        },
+        points,
+        start,
+        count,
+    )
 }

@@ -13,45 +13,36 @@ ghost use Rattle.checks.specs.Purse.{told};
 ghost use Rattle.checks.specs.CheckRows.{nodes_in};
 
 use board::Edge;
-use drawing::Finding;
+use drawing::GeometryVisits;
+use geometry::RouteView;
+use refusal::Refusal;
 
 // ---- verify_one_bundle_route_node_interiors
 
-// The runs of a route of count points from point start on, each against every node but the edge's
-// own.
+// The runs of the route of edge e, each against every node but the edge's own.
 pub fn route_inside(
     boxes: &[f64],
     e: Edge,
-    points: &[f64],
-    start: usize,
-    count: usize,
-    left: &mut u32,
-) -> Finding
-    requires { 2 * (start + count) ≤ length points.now }
-    ensures { told result left.new ≡ walk 12 (inside_tests (nodes_in boxes.now) e (runs (points_from points.now start count))) left.old }
+    route: RouteView,
+    visits: &mut GeometryVisits,
+) -> Result<(), Refusal>
+    requires { 2 * (route.start + route.count) ≤ length route.points.now }
+    ensures { told result visits.new.0 ≡ walk 12 (inside_tests (nodes_in boxes.now) e (runs (points_from route.entry.points.now route.entry.start route.entry.count))) visits.old.0 }
 {
-    let n = boxes.len() / 4;
-    let mut i: usize = 0;
-    while i + 1 < count {
-        let run = route_views::route_run(points, start, count, i);
+    for i in 0..route.count.saturating_sub(1) {
+        let run = route_views::view_run(route, i);
         if contact_test::is_slanted(run.start, run.end) {
-            return Finding::Refused(12);
+            return Err(Refusal::RouteThroughNode);
         }
-        let mut j: usize = 0;
-        while j < n {
-            let k = j;
-            j += 1;
-            if looks::is_own(e, k) {
+        for j in 0..boxes.len() / 4 {
+            if looks::is_own(e, j) {
                 continue;
             }
-            if !looks::charge(&mut *left) {
-                return Finding::Refused(14);
-            }
-            if shapes::run_passes_inside(run.start, run.end, looks::box_at(boxes, k)) {
-                return Finding::Refused(12);
+            looks::charge(visits)?;
+            if shapes::run_passes_inside(run.start, run.end, looks::box_at(boxes, j)) {
+                return Err(Refusal::RouteThroughNode);
             }
         }
-        i += 1;
     }
-    Finding::Clean
+    Ok(())
 }

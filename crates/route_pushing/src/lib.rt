@@ -71,11 +71,8 @@ pub fn push_points(points: &[f64], start: usize, end: usize, out: &mut [f64], co
     ensures { Pushed out.old count (points_from points.now start (end - start)) out.new result }
 {
     let mut n = count;
-    let mut i = start;
-    while i < end {
-        let p = route_views::route_point(points, i, end - i, 0);
-        n = push_point(&mut out[..], n, p);
-        i += 1;
+    for i in start..end {
+        n = push_point(&mut out[..], n, route_views::point_at(points, i));
     }
     n
 }

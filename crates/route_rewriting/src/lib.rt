@@ -13,7 +13,6 @@ ghost use Rattle.route.specs.Rewrite.{new_points, joined, rewrite_input_shared_t
 ghost use Rattle.route.specs.Contract.{Pushed, Within, Leaves};
 
 use geometry::{Point, Role};
-use route::{Crossing, Rewritten};
 
 // ---- the four rewritings
 
@@ -47,23 +46,23 @@ fn join(
     trunk: bool,
     tap: Point,
     x: f64,
-    found: Crossing,
+    found: Option<(usize, Point)>,
     points: &[f64],
     start: usize,
     count: usize,
     out: &mut [f64],
-) -> Rewritten
+) -> Option<usize>
     requires { Within found count × (2 * (start + count) ≤ length points.now) × (2 * (count + 2) ≤ length out.old) }
     ensures { Leaves result out.old out.new count (joined role trunk tap x found (points_from points.now start count)) }
 {
     match found {
-        Crossing::Nowhere => Rewritten::Refused,
-        Crossing::On(i, p) => {
+        None => None,
+        Some((i, p)) => {
             let at_tap = contact_test::preserved_point_matches(p, tap);
             if trunk & !at_tap {
-                return Rewritten::Refused;
+                return None;
             }
-            let corner = Point { x: x, y: tap.y };
+            let corner = Point { x, y: tap.y };
             let split = start + i + 1;
             match role {
                 Role::Input => {
@@ -75,12 +74,12 @@ fn join(
                         &mut out[..],
                         n,
                     );
-                    Rewritten::Made(made)
+                    Some(made)
                 }
                 Role::Output => {
                     let n = route_pushing::push_points(points, start, split, &mut out[..], 0);
                     let made = push_new(role, trunk, tap, corner, p, &mut out[..], n);
-                    Rewritten::Made(made)
+                    Some(made)
                 }
             }
         }
@@ -94,7 +93,7 @@ pub fn rewrite_input_shared_trunk(
     tap: Point,
     minimum_length: f64,
     out: &mut [f64],
-) -> Rewritten
+) -> Option<usize>
     requires { (2 * (start + count) ≤ length points.now) × (2 * (count + 2) ≤ length out.old) }
     ensures { Leaves result out.old out.new count (rewrite_input_shared_trunk (points_from points.now start count) tap minimum_length) }
 {
@@ -126,7 +125,7 @@ pub fn rewrite_output_shared_trunk(
     tap: Point,
     minimum_length: f64,
     out: &mut [f64],
-) -> Rewritten
+) -> Option<usize>
     requires { (2 * (start + count) ≤ length points.now) × (2 * (count + 2) ≤ length out.old) }
     ensures { Leaves result out.old out.new count (rewrite_output_shared_trunk (points_from points.now start count) tap minimum_length) }
 {
@@ -158,7 +157,7 @@ pub fn rewrite_input_route(
     tap: Point,
     pitch: f64,
     out: &mut [f64],
-) -> Rewritten
+) -> Option<usize>
     requires { (2 * (start + count) ≤ length points.now) × (2 * (count + 2) ≤ length out.old) }
     ensures { Leaves result out.old out.new count (rewrite_input_route (points_from points.now start count) tap pitch) }
 {
@@ -184,7 +183,7 @@ pub fn rewrite_output_route(
     tap: Point,
     pitch: f64,
     out: &mut [f64],
-) -> Rewritten
+) -> Option<usize>
     requires { (2 * (start + count) ≤ length points.now) × (2 * (count + 2) ≤ length out.old) }
     ensures { Leaves result out.old out.new count (rewrite_output_route (points_from points.now start count) tap pitch) }
 {

@@ -22,11 +22,9 @@ fn copy_points(points: &[f64], start: usize, count: usize, out: &mut [f64], at: 
     requires { (2 * (start + count) ≤ length points.now) × (2 * (at + count) ≤ length out.old) }
     ensures { out.new ≡ put_points out.old at (points_from points.now start count) }
 {
-    let mut i: usize = 0;
-    while i < count {
+    for i in 0..count {
         let p = route_views::route_point(points, start, count, i);
         route_views::put_point(&mut out[..], at + i, p);
-        i += 1;
     }
 }
 

@@ -15,6 +15,7 @@ use geometry::{Point, RouteView, Segment};
 // ---- points of a slice
 
 // Point i of a lent slice of coordinates: x at 2 i, y at 2 i + 1.
+#[tactic(auto, unfolding(geometry::specs::Points::point_at))]
 pub fn point_at(points: &[f64], i: usize) -> Point
     requires { 2 * i + 1 < length points.now }
     ensures { result ≡ point_at points.now i }
@@ -25,6 +26,7 @@ pub fn point_at(points: &[f64], i: usize) -> Point
     }
 }
 
+#[tactic(auto, unfolding(geometry::specs::Points::put_point))]
 pub fn put_point(out: &mut [f64], i: usize, p: Point)
     requires { 2 * i + 1 < length out.old }
     ensures { out.new ≡ put_point out.old i p }
@@ -35,27 +37,9 @@ pub fn put_point(out: &mut [f64], i: usize, p: Point)
 
 // ---- a route as a view over points
 //
-// The borrow checker covers no function over a struct that holds a slice. So the functions over a
-// RouteView are thin, each on top of one that takes the slice and the numbers, and callers have
-// route_point, route_run and route_last, which take those too.
-
-// Point i of the points from point start on.
-fn point_from(points: &[f64], start: usize, i: usize) -> Point
-    requires { 2 * (start + i) + 1 < length points.now }
-    ensures { result ≡ point_at points.now (start + i) }
-{
-    point_at(points, start + i)
-}
-
-// The run from point i of the points from point start on to the next.
-fn run_from(points: &[f64], start: usize, i: usize) -> Segment
-    requires { 2 * (start + i) + 3 < length points.now }
-    ensures { result ≡ run_at points.now (start + i) }
-{
-    let a = point_at(points, start + i);
-    let b = point_at(points, start + i + 1);
-    Segment { start: a, end: b }
-}
+// A view says nothing of where its points lie: `view` asks nothing, so what a route needs of its slice
+// is asked where a point or a run of it is looked at. route_point, route_run and route_last are for
+// callers that have the slice and the numbers apart.
 
 // The view of a route, wherever it lies.
 pub fn view<'a>(points: &'a [f64], start: usize, count: usize) -> RouteView<'a>
@@ -80,7 +64,7 @@ pub fn view_point<'a>(v: RouteView<'a>, i: usize) -> Point
     requires { (i < v.count) × (2 * (v.start + v.count) ≤ length v.points.now) }
     ensures { result ≡ point_at v.entry.points.now (v.entry.start + i) }
 {
-    point_from(v.points, v.start, i)
+    point_at(v.points, v.start + i)
 }
 
 // Run i of the route: from its point i to the next.
@@ -88,7 +72,10 @@ pub fn view_run<'a>(v: RouteView<'a>, i: usize) -> Segment
     requires { (i + 1 < v.count) × (2 * (v.start + v.count) ≤ length v.points.now) }
     ensures { result ≡ run_at v.entry.points.now (v.entry.start + i) }
 {
-    run_from(v.points, v.start, i)
+    Segment {
+        start: view_point(v, i),
+        end: view_point(v, i + 1),
+    }
 }
 
 // Point i of the route of count points from point start on.
@@ -112,7 +99,5 @@ pub fn route_last(points: &[f64], start: usize, count: usize) -> Point
     requires { (0 < count) × (2 * (start + count) ≤ length points.now) }
     ensures { result ≡ point_at points.now (start + (count - 1)) }
 {
-    let v = view(points, start, count);
-    let n = view_count(v);
-    view_point(v, n - 1)
+    view_point(view(points, start, count), count - 1)
 }

@@ -1,6 +1,6 @@
 -- The x that the search finds is the best one: of all the numbers, as exact fractions, that lie between the bounds and in a stretch of every member, the largest for Input and the smallest for Output. Where it finds none there is none.
 -- Assumes nothing.
-use Rattle.std.specs.Prelude.{◌≡◌, ◌⊎◌, Bool, ◌&&◌, ℕ, ◌≤◌, T, Float}
+use Rattle.std.specs.Prelude.{◌≡◌, ◌⊎◌, Bool, ◌&&◌, ℕ, ◌≤◌, T, Float, Option, Some, None}
 use Rattle.std.proofs.Math.Path.{refl}
 use Rattle.std.proofs.Common.{sym, ◌∙◌, subst, inl, inr, true≢false}
 use Rattle.std.proofs.Math.Bool.{true, false, cond}
@@ -13,8 +13,6 @@ use Rattle.binary64.proofs.Fraction.{le→AtMostℚ}
 use Rattle.binary64.specs.Rational.{Fraction, AtMostℚ, value}
 use Rattle.geometry.specs.declared.Role.{Role}
 use Rattle.geometry.specs.declared.Role.TheVariants.{Input, Output}
-use Rattle.geometry.specs.declared.Stretch.{Stretch}
-use Rattle.geometry.specs.declared.Stretch.TheVariants.{Nowhere, Of}
 use Rattle.geometry.specs.Stretch.{holds}
 use Rattle.sorting.specs.Sort.{sort_key, sorted}
 use Rattle.sorting.specs.Sorted.{every_in, every_map, in_left, in_last, every_last, every_append, in_sorted, every_sorted, sorted_ordered, every_distinct, distinct_ordered, in_distinct}
@@ -40,9 +38,9 @@ module _ (role : Role) (b : Bounds) (fair : Fair role b) where
   abbrev cut_high : Float → Float
   cut_high high = least high b.maximum
 
-  abbrev of : Stretch → Float
-  of Nowhere = b.desired
-  of (Of low high) = nearest role (cut_low low) (cut_high high) b.desired
+  abbrev of : Option (Float × Float) → Float
+  of None = b.desired
+  of (Some (low, high)) = nearest role (cut_low low) (cut_high high) b.desired
 
   cut_low_real : (low : Float) → Real low → Real (cut_low low)
   cut_low_real low r = either (lt low b.minimum) b.minimum low Real fair.minimum_real r
@@ -54,9 +52,9 @@ module _ (role : Role) (b : Bounds) (fair : Fair role b) where
   nearest_ind Input low high desired P p q d = either (lt desired high) desired high P d q
   nearest_ind Output low high desired P p q d = either (lt low desired) desired low P d p
 
-  of_real : (s : Stretch) → RealStretch s → Real (of s)
-  of_real Nowhere r = fair.desired_real
-  of_real (Of low high) r = nearest_ind role (cut_low low) (cut_high high) b.desired Real (cut_low_real low r.0) (cut_high_real high r.1) fair.desired_real
+  of_real : (s : Option (Float × Float)) → RealStretch s → Real (of s)
+  of_real None r = fair.desired_real
+  of_real (Some (low, high)) r = nearest_ind role (cut_low low) (cut_high high) b.desired Real (cut_low_real low r.0) (cut_high_real high r.1) fair.desired_real
 
   -- it is no better than the stretch's better end
   of_upto : (s low high : Float) → Real low → Real high → UpTo role (nearest role (cut_low low) (cut_high high) b.desired) (far role low high)
@@ -90,30 +88,30 @@ module _ (role : Role) (b : Bounds) (fair : Fair role b) where
       (q, le_trans_finite b.minimum (cut_low low) (cut_high high) m.0 p.0 q.0 a h, c)
       desired_bounded
 
-  onto_bounded : (xs : List Float) (s : Stretch) → Every Bounded xs → RealStretch s → Every Bounded (onto xs (candidate role b s))
-  onto_bounded xs Nowhere e r = e
-  onto_bounded xs (Of low high) e r = go (lt (cut_high high) (cut_low low)) refl
+  onto_bounded : (xs : List Float) (s : Option (Float × Float)) → Every Bounded xs → RealStretch s → Every Bounded (onto xs (candidate role b s))
+  onto_bounded xs None e r = e
+  onto_bounded xs (Some (low, high)) e r = go (lt (cut_high high) (cut_low low)) refl
     where
-      go : (t : Bool) → lt (cut_high high) (cut_low low) ≡ t → Every Bounded (onto xs (cond t Missing (At (of (Of low high)))))
+      go : (t : Bool) → lt (cut_high high) (cut_low low) ≡ t → Every Bounded (onto xs (cond t Missing (At (of (Some (low, high))))))
       go true h = e
       go false h =
-          every_last Bounded (of (Of low high)) xs e
+          every_last Bounded (of (Some (low, high))) xs e
           (of_bounded low high r.0 r.1 (not_above (cut_high high) (cut_low low) (cut_high_real high r.1) (cut_low_real low r.0) h))
 
-  candidates_bounded : (xs : List Float) (ss : List Stretch) → Every Bounded xs → Every RealStretch ss → Every Bounded (candidates_onto role b xs ss)
+  candidates_bounded : (xs : List Float) (ss : List (Option (Float × Float))) → Every Bounded xs → Every RealStretch ss → Every Bounded (candidates_onto role b xs ss)
   unfolding candidates_onto
   candidates_bounded xs [] e r = e
   candidates_bounded xs (s ∷ ss) e r = candidates_bounded (onto xs (candidate role b s)) ss (onto_bounded xs s e r.0) r.1
 
-  in_onto : (x : Float) (xs : List Float) (s : Stretch) → In x xs → In x (onto xs (candidate role b s))
-  in_onto x xs Nowhere i = i
-  in_onto x xs (Of low high) i = go (lt (cut_high high) (cut_low low))
+  in_onto : (x : Float) (xs : List Float) (s : Option (Float × Float)) → In x xs → In x (onto xs (candidate role b s))
+  in_onto x xs None i = i
+  in_onto x xs (Some (low, high)) i = go (lt (cut_high high) (cut_low low))
     where
-      go : (t : Bool) → In x (onto xs (cond t Missing (At (of (Of low high)))))
+      go : (t : Bool) → In x (onto xs (cond t Missing (At (of (Some (low, high))))))
       go true = i
-      go false = in_left x xs (of (Of low high) ∷ []) i
+      go false = in_left x xs (of (Some (low, high)) ∷ []) i
 
-  in_candidates : (x : Float) (xs : List Float) (ss : List Stretch) → In x xs → In x (candidates_onto role b xs ss)
+  in_candidates : (x : Float) (xs : List Float) (ss : List (Option (Float × Float))) → In x xs → In x (candidates_onto role b xs ss)
   unfolding candidates_onto
   in_candidates x xs [] i = i
   in_candidates x xs (s ∷ ss) i = in_candidates x (onto xs (candidate role b s)) ss (in_onto x xs s i)
@@ -134,7 +132,7 @@ module _ (role : Role) (b : Bounds) (fair : Fair role b) where
     high_above high h = either (lt b.maximum high) b.maximum high (λ (z : Float). AtMostℚ q (value z)) below h
 
     -- the candidate of a stretch that holds q is at least as good
-    of_reaches : (low high : Float) → Holds q (Of low high) → UpToℚ role q (nearest role (cut_low low) (cut_high high) b.desired)
+    of_reaches : (low high : Float) → Holds q (Some (low, high)) → UpToℚ role q (nearest role (cut_low low) (cut_high high) b.desired)
     of_reaches low high h = go role desired_upto
       where
         go : (k : Role) → UpToℚ k q b.desired → UpToℚ k q (nearest k (cut_low low) (cut_high high) b.desired)
@@ -142,34 +140,34 @@ module _ (role : Role) (b : Bounds) (fair : Fair role b) where
         go Output d = either (lt (cut_low low) b.desired) b.desired (cut_low low) (λ (z : Float). AtMostℚ (value z) q) d (low_below low h.0)
 
     -- and is among the candidates
-    onto_of : (xs : List Float) (s : Stretch) → RealStretch s → Holds q s → In (of s) (onto xs (candidate role b s))
-    onto_of xs Nowhere r h = absurd h
-    onto_of xs (Of low high) r h = go (lt (cut_high high) (cut_low low)) refl
+    onto_of : (xs : List Float) (s : Option (Float × Float)) → RealStretch s → Holds q s → In (of s) (onto xs (candidate role b s))
+    onto_of xs None r h = absurd h
+    onto_of xs (Some (low, high)) r h = go (lt (cut_high high) (cut_low low)) refl
       where
-        go : (t : Bool) → lt (cut_high high) (cut_low low) ≡ t → In (of (Of low high)) (onto xs (cond t Missing (At (of (Of low high)))))
+        go : (t : Bool) → lt (cut_high high) (cut_low low) ≡ t → In (of (Some (low, high))) (onto xs (cond t Missing (At (of (Some (low, high))))))
         go true e =
             let p = cut_low_real low r.0 in
             let c = cut_high_real high r.1 in
             absurd (lt_not_le (cut_high high) (cut_low low) c.0 p.0 (subst T (sym e) tt) (between (cut_low low) (cut_high high) q p c (low_below low h.0) (high_above high h.1)))
-        go false e = in_last (of (Of low high)) xs
+        go false e = in_last (of (Some (low, high))) xs
 
-    covers : (xs : List Float) (ss : List Stretch) → Every RealStretch ss → Every (λ (s : Stretch). Holds q s → In (of s) (candidates_onto role b xs ss)) ss
+    covers : (xs : List Float) (ss : List (Option (Float × Float))) → Every RealStretch ss → Every (λ (s : Option (Float × Float)). Holds q s → In (of s) (candidates_onto role b xs ss)) ss
     unfolding candidates_onto
     covers xs [] r = tt
     covers xs (s ∷ ss) r = ((λ (h : Holds q s). in_candidates (of s) (onto xs (candidate role b s)) ss (onto_of xs s r.0 h)), covers (onto xs (candidate role b s)) ss r.1)
 
     -- a candidate of a member: whatever is no better than it, and no worse than q, lies in the member's stretch
-    pub record Serves (cs : List Float) (m : List Stretch) : Type 0 where
+    pub record Serves (cs : List Float) (m : List (Option (Float × Float))) : Type 0 where
       pub k : Float
       pub among : In k cs
       pub real : Real k
       pub reaches : UpToℚ role q k
       pub serves : (c : Float) → Real c → UpToℚ role q c → UpTo role c k → hits c m ≡ true
 
-    stretch_serves : (low high c : Float) → Real low → Real high → Holds q (Of low high) → Real c → UpToℚ role q c
+    stretch_serves : (low high c : Float) → Real low → Real high → Holds q (Some (low, high)) → Real c → UpToℚ role q c
         → UpTo role c (nearest role (cut_low low) (cut_high high) b.desired) → (le low c && le c high) ≡ true
     stretch_serves low high c r t h p d u =
-        go role d (upto_trans role c (of (Of low high)) (far role low high) p (of_real (Of low high) (r, t)) (far_real role) u (of_upto c low high r t))
+        go role d (upto_trans role c (of (Some (low, high))) (far role low high) p (of_real (Some (low, high)) (r, t)) (far_real role) u (of_upto c low high r t))
       where
         far_real : (k : Role) → Real (far k low high)
         far_real Input = t
@@ -179,15 +177,15 @@ module _ (role : Role) (b : Bounds) (fair : Fair role b) where
         go Input d w = both (le low c) (le c high) (between low c q r p h.0 d) w
         go Output d w = both (le low c) (le c high) w (between c high q p t d h.1)
 
-    member : (cs : List Float) (m : List Stretch) → Every RealStretch m → Every (λ (s : Stretch). Holds q s → In (of s) cs) m → HoldsSome q m → Serves cs m
+    member : (cs : List Float) (m : List (Option (Float × Float))) → Every RealStretch m → Every (λ (s : Option (Float × Float)). Holds q s → In (of s) cs) m → HoldsSome q m → Serves cs m
     unfolding hits
     member cs [] r e h = absurd h
-    member cs (Nowhere ∷ m) r e (inl h) = absurd h
-    member cs (Of low high ∷ m) r e (inl h) =
+    member cs (None ∷ m) r e (inl h) = absurd h
+    member cs (Some (low, high) ∷ m) r e (inl h) =
         record {
-          k = of (Of low high);
+          k = of (Some (low, high));
           among = e.0 h;
-          real = of_real (Of low high) r.0;
+          real = of_real (Some (low, high)) r.0;
           reaches = of_reaches low high h;
           serves = λ c p d u. rw (stretch_serves low high c r.0.0 r.0.1 h p d u);
         }
@@ -200,7 +198,7 @@ module _ (role : Role) (b : Bounds) (fair : Fair role b) where
         go false h e = e
 
     -- a common candidate that is at least as good as q
-    pub record Reached (cs : List Float) (ms : List (List Stretch)) (start : Float) : Type 0 where
+    pub record Reached (cs : List Float) (ms : List (List (Option (Float × Float)))) (start : Float) : Type 0 where
       pub c : Float
       pub among : In c cs
       pub real : Real c
@@ -208,8 +206,8 @@ module _ (role : Role) (b : Bounds) (fair : Fair role b) where
       pub under : UpTo role c start
       pub shared : common c ms ≡ true
 
-    reached : (cs : List Float) (ms : List (List Stretch)) (start : Float) → In start cs → Real start → UpToℚ role q start
-        → Every (Every RealStretch) ms → Every (Every (λ (s : Stretch). Holds q s → In (of s) cs)) ms → HoldsAll q ms → Reached cs ms start
+    reached : (cs : List Float) (ms : List (List (Option (Float × Float)))) (start : Float) → In start cs → Real start → UpToℚ role q start
+        → Every (Every RealStretch) ms → Every (Every (λ (s : Option (Float × Float)). Holds q s → In (of s) cs)) ms → HoldsAll q ms → Reached cs ms start
     unfolding common
     reached cs [] start i r d e f h = record { c = start; among = i; real = r; reaches = d; under = upto_refl role start r; shared = refl }
     reached cs (m ∷ ms) start i r d e f h =
@@ -234,17 +232,17 @@ every_split : {A : Type 0} (P : A → Type 0) (l m : List A) → Every P (l ++ m
 every_split P [] m e = (tt, e)
 every_split P (x ∷ l) m e = let r = every_split P l m e.1 in ((e.0, r.0), r.1)
 
-every_all_runs : (P : Stretch → Type 0) (ms : List (List Stretch)) → Every P (all_runs ms) → Every (Every P) ms
+every_all_runs : (P : Option (Float × Float) → Type 0) (ms : List (List (Option (Float × Float)))) → Every P (all_runs ms) → Every (Every P) ms
 unfolding all_runs
 every_all_runs P [] e = tt
 every_all_runs P (m ∷ ms) e = let r = every_split P m (all_runs ms) e in (r.0, every_all_runs P ms r.1)
 
-all_runs_every : (P : Stretch → Type 0) (ms : List (List Stretch)) → Every (Every P) ms → Every P (all_runs ms)
+all_runs_every : (P : Option (Float × Float) → Type 0) (ms : List (List (Option (Float × Float)))) → Every (Every P) ms → Every P (all_runs ms)
 unfolding all_runs
 all_runs_every P [] e = tt
 all_runs_every P (m ∷ ms) e = every_append P m (all_runs ms) e.0 (all_runs_every P ms e.1)
 
-module _ (role : Role) (b : Bounds) (ms : List (List Stretch)) (fair : Fair role b) (real : Every (Every RealStretch) ms) where
+module _ (role : Role) (b : Bounds) (ms : List (List (Option (Float × Float)))) (fair : Fair role b) (real : Every (Every RealStretch) ms) where
   abbrev all : List Float
   all = candidates_onto role b (b.desired ∷ []) (all_runs ms)
 
@@ -266,7 +264,7 @@ module _ (role : Role) (b : Bounds) (ms : List (List Stretch)) (fair : Fair role
       let r =
       reached role b fair q g.above g.below all ms b.desired (in_candidates role b fair b.desired (b.desired ∷ []) (all_runs ms) (inl refl)) fair.desired_real
       (desired_upto role b fair q g.above g.below) real
-      (every_all_runs (λ (s : Stretch). Holds q s → In (of role b fair s) all) ms (covers role b fair q g.above g.below (b.desired ∷ []) (all_runs ms) (all_runs_every RealStretch ms real))) g.usable in
+      (every_all_runs (λ (s : Option (Float × Float)). Holds q s → In (of role b fair s) all) ms (covers role b fair q g.above g.below (b.desired ∷ []) (all_runs ms) (all_runs_every RealStretch ms real))) g.usable in
       (r.c, in_distinct key Real (key_once role) r.c (sorted key all) (every_sorted key Real all all_real) (in_sorted key r.c all r.among), r.real, r.reaches, r.shared)
 
   answers : (f : Outcome) → First key ms (candidates role b ms) f → Answers role b ms f

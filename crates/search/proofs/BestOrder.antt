@@ -1,6 +1,6 @@
 -- The order of x by role, the tests of a search as facts, and the first common candidate in the order of the keys.
 -- Assumes nothing.
-use Rattle.std.specs.Prelude.{◌≡◌, Bool, not, cond, ◌&&◌, ℕ, ◌≤◌, T, Float}
+use Rattle.std.specs.Prelude.{◌≡◌, Bool, not, cond, ◌&&◌, ℕ, ◌≤◌, T, Float, Option, Some, None}
 use Rattle.std.proofs.Math.Path.{refl}
 use Rattle.std.proofs.Common.{sym, ◌∙◌, subst, inl, inr, true≢false, le_of_eq, arith}
 use Rattle.std.proofs.Math.Bool.{true, false}
@@ -15,8 +15,6 @@ use Rattle.binary64.specs.Rational.{Fraction, AtMostℚ, value}
 use Rattle.binary64.proofs.Total.{key_order}
 use Rattle.geometry.specs.declared.Role.{Role}
 use Rattle.geometry.specs.declared.Role.TheVariants.{Input, Output}
-use Rattle.geometry.specs.declared.Stretch.{Stretch}
-use Rattle.geometry.specs.declared.Stretch.TheVariants.{Nowhere, Of}
 use Rattle.geometry.specs.Stretch.{holds}
 use Rattle.sorting.specs.Sort.{sort_key}
 use Rattle.sorting.specs.Sorted.{every_map, Ordered}
@@ -108,13 +106,13 @@ both true true s t = refl
 both true false s t = absurd t
 both false b s t = absurd s
 
-pub in_stretch : (x : Float) (s : Stretch) → Real x → RealStretch s → holds x s ≡ true → Holds (value x) s
-in_stretch x Nowhere r s e = absurd (true≢false (sym e))
-in_stretch x (Of l h) r s e =
+pub in_stretch : (x : Float) (s : Option (Float × Float)) → Real x → RealStretch s → holds x s ≡ true → Holds (value x) s
+in_stretch x None r s e = absurd (true≢false (sym e))
+in_stretch x (Some (l, h)) r s e =
     let t : T (le l x && le x h) = subst T (sym e) tt in
     (le→AtMostℚ l x s.0.0 r.0 (and_l (le l x) (le x h) t), le→AtMostℚ x h r.0 s.1.0 (and_r (le l x) (le x h) t))
 
-pub hits_holds : (x : Float) (ss : List Stretch) → Real x → Every RealStretch ss → hits x ss ≡ true → HoldsSome (value x) ss
+pub hits_holds : (x : Float) (ss : List (Option (Float × Float))) → Real x → Every RealStretch ss → hits x ss ≡ true → HoldsSome (value x) ss
 unfolding hits
 hits_holds x [] r e h = absurd (true≢false (sym h))
 hits_holds x (s ∷ ss) r e h = go (holds x s) refl h (hits_holds x ss r e.1)
@@ -123,7 +121,7 @@ hits_holds x (s ∷ ss) r e h = go (holds x s) refl h (hits_holds x ss r e.1)
     go true i k f = inl (in_stretch x s r e.0 i)
     go false i k f = inr (f k)
 
-pub common_holds : (x : Float) (ms : List (List Stretch)) → Real x → Every (Every RealStretch) ms → common x ms ≡ true → HoldsAll (value x) ms
+pub common_holds : (x : Float) (ms : List (List (Option (Float × Float)))) → Real x → Every (Every RealStretch) ms → common x ms ≡ true → HoldsAll (value x) ms
 unfolding common
 common_holds x [] r e h = tt
 common_holds x (m ∷ ms) r e h = go (hits x m) refl h (common_holds x ms r e.1)
@@ -133,12 +131,12 @@ common_holds x (m ∷ ms) r e h = go (hits x m) refl h (common_holds x ms r e.1)
     go false i k f = absurd (true≢false (sym k))
 
 -- ---- the first common candidate, in order of the keys
-abbrev pub First : (Float → ℕ) → List (List Stretch) → List Float → Outcome → Type 0
+abbrev pub First : (Float → ℕ) → List (List (Option (Float × Float))) → List Float → Outcome → Type 0
 First key ms xs (Found x) = In x xs × (common x ms ≡ true) × Every (λ (y : Float). common y ms ≡ true → key x ≤ key y) xs
 First key ms xs Nothing = Every (λ (y : Float). common y ms ≡ false) xs
 First key ms xs Spent = ⊥
 
-module _ (key : Float → ℕ) (ms : List (List Stretch)) where
+module _ (key : Float → ℕ) (ms : List (List (Option (Float × Float)))) where
   pub one_back : (x : Float) (xs : List Float) (f : Outcome) → common x ms ≡ false → First key ms xs f → First key ms (x ∷ xs) f
   one_back x xs (Found y) e h = (inr h.0, h.1, ((λ (c : common x ms ≡ true). absurd (true≢false (sym c ∙ e))), h.2))
   one_back x xs Nothing e h = (e, h)

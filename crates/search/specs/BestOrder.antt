@@ -1,11 +1,10 @@
 -- What the best x of a search is: the order of x by role, what an answer says, and bounds of which the desired x is the better one. Definitions of theorems.
 -- Assumes nothing.
-use Rattle.std.specs.Prelude.{List, T, Float}
+use Rattle.std.specs.Prelude.{List, T, Float, Option}
 use Rattle.std.specs.Float.Ieee.{le, eq}
 use Rattle.binary64.specs.Rational.{Fraction, AtMostℚ, value}
 use Rattle.geometry.specs.declared.Role.{Role}
 use Rattle.geometry.specs.declared.Role.TheVariants.{Input, Output}
-use Rattle.geometry.specs.declared.Stretch.{Stretch}
 use Rattle.search.specs.declared.Outcome.{Outcome}
 use Rattle.search.specs.declared.Outcome.TheVariants.{Found, Nothing, Spent}
 use Rattle.search.specs.declared.Bounds.{Bounds}
@@ -17,7 +16,7 @@ UpToℚ Input q x = AtMostℚ q (value x)
 UpToℚ Output q x = AtMostℚ (value x) q
 
 -- what an answer says
-abbrev pub Answers : Role → Bounds → List (List Stretch) → Outcome → Type 0
+abbrev pub Answers : Role → Bounds → List (List (Option (Float × Float))) → Outcome → Type 0
 Answers role b ms (Found x) = Real x × Good b ms (value x) × ((q : Fraction) → Good b ms q → UpToℚ role q x)
 Answers role b ms Nothing = (q : Fraction) → Good b ms q → ⊥
 Answers role b ms Spent = ⊥

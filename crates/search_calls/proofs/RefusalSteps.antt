@@ -1,6 +1,6 @@
 -- The steps of the refusals' definitions, by place in the lists; what an accepted call may count on; and what is written for a list.
 -- Assumes nothing.
-use Rattle.std.specs.Prelude.{◌≡◌, refl, Bool, true, false, not, ◌&&◌, ◌||◌, cond, List, [], ◌∷◌, ◌++◌, leb, ltb, eqb, get_or, take, drop, Float}
+use Rattle.std.specs.Prelude.{◌≡◌, refl, Bool, true, false, not, ◌&&◌, ◌||◌, cond, List, [], ◌∷◌, ◌++◌, leb, ltb, eqb, get_or, take, drop, Float, Option}
 use Rattle.std.proofs.Common.{sym, ◌∙◌, subst, true≢false, add-one, length-append, length-take, take-take, take_all, length-take-le, leb-true, le-leb, lt-ltb, le-ltb, ltb-true, ltb-false, ne_eqb}
 use Rattle.std.proofs.Math.Path.{ap}
 use Rattle.std.proofs.Math.Bool.{and-false}
@@ -15,7 +15,6 @@ use Rattle.binary64.specs.Bools.{both_true}
 use Rattle.binary64.specs.Accepted.{is_coordinate, zero64}
 use Rattle.geometry.specs.declared.Point.{Point}
 use Rattle.geometry.specs.declared.Role.{Role}
-use Rattle.geometry.specs.declared.Stretch.{Stretch}
 use Rattle.geometry.specs.declared.Segment.{Segment}
 use Rattle.geometry.specs.Points.{runs, point_at, points_from}
 use Rattle.search.specs.declared.TapVisits.{TapVisits}
@@ -248,7 +247,7 @@ pub bounds_either : (present t : Bool) (b : Bounds) → t ≡ bounds_fit b → (
 bounds_either true t b e = e
 bounds_either false t b e = refl
 
-module _ (role : Role) (pitch : Float) (present : Bool) (b : Bounds) (ms : List (List Stretch)) (granted : ℕ) where
+module _ (role : Role) (pitch : Float) (present : Bool) (b : Bounds) (ms : List (List (Option (Float × Float)))) (granted : ℕ) where
   pub absent_replied : (xs : List Float) → present ≡ false → Replied 0 (promoted role pitch (cond present (Between b) Absent) ms granted) (record { number = 0; mark = 3; left = granted; count = 0; x = zero64 }) xs xs
   absent_replied xs e = rw e (record { answer = refl; written = refl })
 

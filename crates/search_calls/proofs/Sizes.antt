@@ -9,7 +9,6 @@ use Rattle.limits.specs.Limits.{max_route_points, max_points, largest_list}
 use Rattle.geometry.specs.declared.Point.{Point}
 use Rattle.geometry.specs.declared.Role.{Role}
 use Rattle.geometry.specs.declared.Segment.{Segment}
-use Rattle.geometry.specs.declared.Stretch.{Stretch}
 use Rattle.geometry.specs.Points.{runs, points_from}
 use Rattle.geometry.specs.View.{points_length, runs_length}
 use Rattle.search.specs.declared.Bounds.{Bounds}

@@ -1,12 +1,11 @@
 -- The two public entries: which calls get a number of document 01, and what the others get. Definitions only.
 -- Assumes nothing.
-use Rattle.std.specs.Prelude.{◌≡◌, Bool, true, false, not, ◌&&◌, cond, List, [], ◌∷◌, ◌++◌, map, ℕ, ◌+◌, ◌-◌, ◌*◌, leb, eqb, length, drop, Float}
+use Rattle.std.specs.Prelude.{◌≡◌, Bool, true, false, not, ◌&&◌, cond, List, [], ◌∷◌, ◌++◌, map, ℕ, ◌+◌, ◌-◌, ◌*◌, leb, eqb, length, drop, Float, Option}
 use Rattle.limits.specs.Limits.{max_bundle_members, max_route_points, max_points, max_tap_visits, largest_list, search_scratch, promotion_scratch, most_kept}
 use Rattle.binary64.specs.Accepted.{plus_zero, is_coordinate, is_option, zero64}
 use Rattle.geometry.specs.declared.Point.{Point}
 use Rattle.geometry.specs.declared.Role.{Role}
 use Rattle.geometry.specs.declared.Role.TheVariants.{Input, Output}
-use Rattle.geometry.specs.declared.Stretch.{Stretch}
 use Rattle.search.specs.declared.Bounds.{Bounds}
 use Rattle.search.specs.declared.CollectorBounds.{CollectorBounds}
 use Rattle.search.specs.declared.CollectorBounds.TheVariants.{Absent, Between}
@@ -129,7 +128,7 @@ promotion_room xs candidates scratch = leb most_kept (length xs) && leb promotio
 abbrev pub promotion_number : List Float → List Float → List Float → List Float → List ℕ → List ℕ → ℕ → Float → CollectorBounds → ℕ → ℕ
 promotion_number xs candidates scratch points starts counts role pitch b granted = refusal (promotion_room xs candidates scratch) points starts counts role pitch (collector_bounds_fit b) granted
 
-abbrev pub promoted : Role → Float → CollectorBounds → List (List Stretch) → ℕ → Said
+abbrev pub promoted : Role → Float → CollectorBounds → List (List (Option (Float × Float))) → ℕ → Said
 promoted role pitch Absent ms granted = absent granted
 promoted role pitch (Between b) ms granted = promotion_said (shortened (promotion_xs role pitch b ms granted))
 

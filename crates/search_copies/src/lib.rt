@@ -14,9 +14,9 @@ use limits::{MAX_BUNDLE_MEMBERS, MAX_ROUTE_POINTS, ROUTE_NUMBERS};
 pub fn windows_fit(points: &[f64], starts: &[usize], counts: &[usize]) -> bool
     ensures { result ≡ windows_fit points.now starts.now counts.now }
 {
-    let placed = search_refusals::places_fit(points, starts, counts);
-    let counted = search_refusals::counts_fit(counts);
-    placed & ((starts.len() <= MAX_BUNDLE_MEMBERS) & counted)
+    search_refusals::places_fit(points, starts, counts)
+        && starts.len() <= MAX_BUNDLE_MEMBERS
+        && search_refusals::counts_fit(counts)
 }
 
 // n numbers of points, from place `from` on, into copy from place `at` on.
@@ -24,11 +24,8 @@ pub fn copy_numbers(points: &[f64], from: usize, n: usize, copy: &mut [f64], at:
     requires { (from + n ≤ length points.now) × (at + n ≤ length copy.old) }
     ensures { Put points.now from n copy.old copy.new at }
 {
-    let mut i = 0;
-    while i < n {
-        let x = binary64::plus_zero(points[from + i]);
-        copy[at + i] = x;
-        i += 1;
+    for i in 0..n {
+        copy[at + i] = binary64::plus_zero(points[from + i]);
     }
 }
 
@@ -44,12 +41,10 @@ pub fn copy_routes(
     requires copy_len { (length copy.old ≡ member_numbers) × (length rows.old ≡ length starts.now) }
     ensures { Copied points.now starts.now counts.now (length starts.now) copy.new rows.new }
 {
-    let mut m = 0;
-    while m < starts.len() {
+    for m in 0..starts.len() {
         let from = 2 * starts[m];
         let n = 2 * counts[m];
         copy_numbers(points, from, n, &mut copy[..], ROUTE_NUMBERS * m);
         rows[m] = MAX_ROUTE_POINTS * m;
-        m += 1;
     }
 }

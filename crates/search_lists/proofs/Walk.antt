@@ -1,7 +1,8 @@
 -- The steps of the search's definitions, by place in the lists: what each loop of `gather` and `try_candidates` takes.
 -- Assumes nothing.
+use Rattle.std.specs.Prelude.{Option}
 use mathlib.Core.Path.{◌≡◌, refl, sym, ◌∙◌, ap}
-use mathlib.Core.Bool.{Bool, true, false}
+use mathlib.Core.Bool.{Bool}
 use mathlib.Core.List.{List, [], ◌∷◌, ◌++◌, map}
 use Prim.Native.Nat.{ℕ, zero, suc, ◌+◌, ◌-◌, ◌≤◌, ◌<◌}
 use native.Mathlib.Omega.{arith}
@@ -10,7 +11,6 @@ use lib.ListN.{length, get_or, take, drop, set, length-append, length-map, drop_
 use lib.Seq.{drop-cons, take-suc-set}
 use lib.Ieee.{Float, nan}
 use Rattle.geometry.specs.declared.Role.{Role}
-use Rattle.geometry.specs.declared.Stretch.{Stretch}
 use Rattle.geometry.specs.Stretch.{stretch, holds}
 use Rattle.geometry.specs.Points.{runs, point_at, points_from}
 use Rattle.geometry.specs.View.{points_length}
@@ -18,15 +18,15 @@ use Rattle.search.specs.declared.Bounds.{Bounds}
 use Rattle.search.specs.declared.Candidate.{Candidate}
 use Rattle.search.specs.declared.Candidate.TheVariants.{At}
 use Rattle.search.specs.Stretches.{stretches, members, routes, all_runs, runs_in}
-use Rattle.search.specs.Kept.{kept, spanned, members_from}
+use Rattle.search.specs.Kept.{spanned, members_from}
 use Rattle.search.specs.Search.{Listing, listing, spent, candidate, onto, gathered_onto, Tried, held, lacked, unpaid, after, or_else, tried_on, tried_on_all, tried}
 
 module _ (points : List Float) (role : Role) (pitch : Float) where
   -- the runs between n points, the first of them point at
-  abbrev pub R : ℕ → ℕ → List Stretch
+  abbrev pub R : ℕ → ℕ → List (Option (Float × Float))
   R at n = stretches role pitch (runs (points_from points at n))
 
-  abbrev pub run : ℕ → Stretch
+  abbrev pub run : ℕ → Option (Float × Float)
   run at = stretch role pitch (point_at points at) (point_at points (at + 1))
 
   two : (at n : ℕ) → R at (suc (suc n)) ≡ run at ∷ R (at + 1) (suc n)
@@ -47,7 +47,7 @@ module _ (points : List Float) (role : Role) (pitch : Float) where
 
   module _ (starts counts : List ℕ) (paired : length starts ≡ length counts) where
     -- the members from m on
-    abbrev pub M : ℕ → List (List Stretch)
+    abbrev pub M : ℕ → List (List (Option (Float × Float)))
     M m = members role pitch (routes points (drop m starts) (drop m counts))
 
     pub members_next : (m : ℕ) → m < length starts → M m ≡ R (get_or starts m 0) (get_or counts m 0) ∷ M (m + 1)
@@ -61,7 +61,7 @@ module _ (points : List Float) (role : Role) (pitch : Float) where
     members_end m h = rw (drop_of_length-le starts h)
 
 -- ---- the first pass
-pub runs_next : (m : List Stretch) (ms : List (List Stretch)) → all_runs (m ∷ ms) ≡ m ++ all_runs ms
+pub runs_next : (m : List (Option (Float × Float))) (ms : List (List (Option (Float × Float)))) → all_runs (m ∷ ms) ≡ m ++ all_runs ms
 unfolding all_runs
 runs_next m ms = refl
 
@@ -70,7 +70,7 @@ unfolding all_runs
 runs_end = refl
 
 module _ (role : Role) (b : Bounds) (xs : List Float) where
-  module _ (s : Stretch) (ss : List Stretch) (v : ℕ) where
+  module _ (s : Option (Float × Float)) (ss : List (Option (Float × Float))) (v : ℕ) where
     pub gather_spent : v ≡ 0 → gathered_onto role b xs (s ∷ ss) v ≡ spent
     unfolding gathered_onto
     gather_spent e = rw e
@@ -89,7 +89,7 @@ stored xs n x h = rw (add-one, take-suc-set xs n x h)
 -- ---- the second pass
 module _ (ks : List Float) where
   -- n kept pairs, from pair at on
-  abbrev pub K : ℕ → ℕ → List Stretch
+  abbrev pub K : ℕ → ℕ → List (Option (Float × Float))
   K at n = map spanned (points_from ks at n)
 
   pub kept_more : (at end : ℕ) → at < end → K at (end - at) ≡ spanned (point_at ks at) ∷ K (at + 1) (end - (at + 1))
@@ -104,7 +104,7 @@ module _ (ks : List Float) where
 
   module _ (counts : List ℕ) where
     -- the members from m on, the first of them from pair at on
-    abbrev pub N : ℕ → ℕ → List (List Stretch)
+    abbrev pub N : ℕ → ℕ → List (List (Option (Float × Float)))
     N at m = members_from ks at (drop m counts)
 
     pub kept_next : (at m : ℕ) → m < length counts → N at m ≡ K at (get_or counts m 0 - 1) ∷ N (at + (get_or counts m 0 - 1)) (m + 1)
@@ -127,7 +127,7 @@ module _ (x : Float) where
   unfolding tried_on
   try_end v = refl
 
-  module _ (s : Stretch) (ss : List Stretch) (v : ℕ) where
+  module _ (s : Option (Float × Float)) (ss : List (Option (Float × Float))) (v : ℕ) where
     pub try_unpaid : v ≡ 0 → tried_on x (s ∷ ss) v ≡ unpaid
     unfolding tried_on
     try_unpaid e = rw e
@@ -136,7 +136,7 @@ module _ (x : Float) where
     unfolding tried_on
     try_look t h e = let p : v ≡ suc (v - 1) = omega arith in ap (tried_on x (s ∷ ss)) p ∙ rw e
 
-  pub try_member : (m : List Stretch) (ms : List (List Stretch)) (v : ℕ) → tried_on_all x (m ∷ ms) v ≡ after (tried_on x m v) (tried_on_all x ms) lacked unpaid
+  pub try_member : (m : List (Option (Float × Float))) (ms : List (List (Option (Float × Float)))) (v : ℕ) → tried_on_all x (m ∷ ms) v ≡ after (tried_on x m v) (tried_on_all x ms) lacked unpaid
   unfolding tried_on_all
   try_member m ms v = refl
 
@@ -144,7 +144,7 @@ module _ (x : Float) where
   unfolding tried_on_all
   try_members_end v = refl
 
-module _ (ms : List (List Stretch)) (found : List Float) (v : ℕ) where
+module _ (ms : List (List (Option (Float × Float)))) (found : List Float) (v : ℕ) where
   -- what follows the outcome of a candidate
   abbrev pub next : List Float → Float → Tried → Listing
   next xs x t = after t (tried ms xs (found ++ (x ∷ []))) (tried ms xs found) spent

@@ -38,22 +38,18 @@ pub fn gather(
     let mut n = 1;
     let mut k = 0;
     let mut left = granted.0;
-    let mut m = 0;
-    while m < starts.len() {
-        let mut at = starts[m];
-        let mut rest = counts[m];
-        m += 1;
-        while 1 < rest {
+    for m in 0..starts.len() {
+        let start = starts[m];
+        let count = counts[m];
+        for i in 0..count.saturating_sub(1) {
             if left == 0 {
                 return Listed::Spent;
             }
             left -= 1;
-            let s = search_runs::run_stretch(points, at, rest, role, pitch);
+            let s = search_runs::run_stretch(points, start + i, count - i, role, pitch);
             route_views::put_point(kept, k, search_runs::kept_of(s));
             k += 1;
             let c = search_runs::candidate_of(role, b, s);
-            at += 1;
-            rest -= 1;
             if let Candidate::At(x) = c {
                 xs[n] = x;
                 n += 1;
@@ -74,6 +70,7 @@ pub fn try_candidates(kept: &[f64], counts: &[usize], granted: TapVisits, xs: &m
     let mut left = granted.0;
     let mut n = 0;
     let mut i = 0;
+    // No `for`: document 01 has the loop left by its label, and a `for` that ends comes there too.
     'candidates: loop {
         if i == xs.len() {
             return Listed::All(n, TapVisits(left));
@@ -81,24 +78,20 @@ pub fn try_candidates(kept: &[f64], counts: &[usize], granted: TapVisits, xs: &m
         let x = xs[i];
         i += 1;
         let mut at = 0;
-        let mut m = 0;
-        'members: while m < counts.len() {
-            let count = counts[m];
-            m += 1;
+        'members: for &count in counts {
             if count == 0 {
                 continue 'candidates;
             }
             let end = at + (count - 1);
-            while at < end {
+            for j in at..end {
                 if left == 0 {
                     break 'candidates;
                 }
                 left -= 1;
-                if search_runs::kept_holds(kept, at, x) {
+                if search_runs::kept_holds(kept, j, x) {
                     at = end;
                     continue 'members;
                 }
-                at += 1;
             }
             continue 'candidates;
         }

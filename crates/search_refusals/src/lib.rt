@@ -2,15 +2,17 @@
 
 #![tactic(auto)]
 
-ghost use Rattle.std.specs.Prelude.{◌≡◌, ◌&&◌, ◌+◌, ◌*◌, ◌≤◌, length};
+ghost use Rattle.std.specs.Prelude.{◌≡◌, ◌&&◌, ◌+◌, ◌*◌, ◌≤◌, MatchResult, length};
 ghost use Rattle.limits.specs.Limits.{max_points};
+ghost use Rattle.refusal.specs.Refusal.{refusal_number};
 ghost use Rattle.binary64.specs.Accepted.{is_coordinate};
 ghost use Rattle.geometry.specs.Points.{points_from};
 ghost use Rattle.search.specs.Stretches.{routes, Windows};
-ghost use Rattle.search_calls.specs.Entry.{places_fit, counts_fit, points_fit, routes_fit, bounds_fit, refusal, role_of, bounds};
+ghost use Rattle.search_calls.specs.Entry.{places_fit, counts_fit, points_fit, routes_fit, bounds_fit, refusal, role_of};
 
 use geometry::{Point, Role};
 use limits::{MAX_BUNDLE_MEMBERS, MAX_POINTS, MAX_ROUTE_POINTS, MAX_TAP_VISITS};
+use refusal::Refusal;
 use search::Bounds;
 
 // ---- what the public entries refuse
@@ -23,15 +25,9 @@ pub fn places_fit(points: &[f64], starts: &[usize], counts: &[usize]) -> bool
         return false;
     }
     let n = points.len() / 2;
-    let mut m = 0;
-    while m < starts.len() {
+    for m in 0..starts.len() {
         let start = starts[m];
-        let count = counts[m];
-        m += 1;
-        if start > n {
-            return false;
-        }
-        if count > n - start {
+        if start > n || counts[m] > n - start {
             return false;
         }
     }
@@ -43,14 +39,8 @@ pub fn counts_fit(counts: &[usize]) -> bool
     ensures { result ≡ counts_fit max_points counts.now }
 {
     let mut left = MAX_POINTS;
-    let mut m = 0;
-    while m < counts.len() {
-        let count = counts[m];
-        m += 1;
-        if count > MAX_ROUTE_POINTS {
-            return false;
-        }
-        if count > left {
+    for &count in counts {
+        if count > MAX_ROUTE_POINTS || count > left {
             return false;
         }
         left -= count;
@@ -61,25 +51,17 @@ pub fn counts_fit(counts: &[usize]) -> bool
 pub fn is_point(p: Point) -> bool
     ensures { result ≡ is_coordinate p.x && is_coordinate p.y }
 {
-    let x = binary64::is_coordinate(p.x);
-    let y = binary64::is_coordinate(p.y);
-    x & y
+    binary64::is_coordinate(p.x) & binary64::is_coordinate(p.y)
 }
 
 pub fn points_fit(points: &[f64], start: usize, count: usize) -> bool
     requires { 2 * (start + count) ≤ length points.now }
     ensures { result ≡ points_fit (points_from points.now start count) }
 {
-    let mut at = start;
-    let mut rest = count;
-    while 0 < rest {
-        let p = route_views::route_point(points, at, rest, 0);
-        at += 1;
-        rest -= 1;
-        if is_point(p) {
-            continue;
+    for k in 0..count {
+        if !is_point(route_views::route_point(points, start, count, k)) {
+            return false;
         }
-        return false;
     }
     true
 }
@@ -88,15 +70,10 @@ pub fn routes_fit(points: &[f64], starts: &[usize], counts: &[usize]) -> bool
     requires { Windows points.now starts.now counts.now }
     ensures { result ≡ routes_fit (routes points.now starts.now counts.now) }
 {
-    let mut m = 0;
-    while m < starts.len() {
-        let start = starts[m];
-        let count = counts[m];
-        m += 1;
-        if points_fit(points, start, count) {
-            continue;
+    for m in 0..starts.len() {
+        if !points_fit(points, starts[m], counts[m]) {
+            return false;
         }
-        return false;
     }
     true
 }
@@ -104,14 +81,13 @@ pub fn routes_fit(points: &[f64], starts: &[usize], counts: &[usize]) -> bool
 pub fn is_bounds(b: Bounds) -> bool
     ensures { result ≡ bounds_fit b }
 {
-    let minimum = binary64::is_coordinate(b.minimum);
-    let desired = binary64::is_coordinate(b.desired);
-    let maximum = binary64::is_coordinate(b.maximum);
-    minimum & desired & maximum
+    binary64::is_coordinate(b.minimum)
+        & binary64::is_coordinate(b.desired)
+        & binary64::is_coordinate(b.maximum)
 }
 
-// Document 01's number of a refusal, or 0, in the order of the numbers. `room` says that every lent
-// output and scratch is long enough, `bounds` that the bounds are accepted.
+// The refusal of a call, in the order of document 01's numbers. `room` says that every lent output
+// and scratch is long enough, `bounds` that the bounds are accepted.
 pub fn refusal_of(
     room: bool,
     points: &[f64],
@@ -121,37 +97,27 @@ pub fn refusal_of(
     pitch: f64,
     bounds: bool,
     granted: u32,
-) -> u8
-    ensures { result ≡ refusal room points.now starts.now counts.now role pitch bounds granted }
+) -> Result<(), Refusal>
+    ensures { MatchResult result
+        (λ _. refusal room points.now starts.now counts.now role pitch bounds granted ≡ 0)
+        (λ r. refusal room points.now starts.now counts.now role pitch bounds granted ≡ refusal_number r) }
 {
     if !room {
-        return 2;
+        return Err(Refusal::BufferTooShort);
     }
     if !places_fit(points, starts, counts) {
-        return 4;
+        return Err(Refusal::FieldsMismatch);
     }
-    if starts.len() > MAX_BUNDLE_MEMBERS {
-        return 5;
-    }
-    if !counts_fit(counts) {
-        return 5;
-    }
-    if granted > MAX_TAP_VISITS {
-        return 5;
+    if starts.len() > MAX_BUNDLE_MEMBERS || !counts_fit(counts) || granted > MAX_TAP_VISITS {
+        return Err(Refusal::LimitExceeded);
     }
     if role > 1 {
-        return 6;
+        return Err(Refusal::ValueNotListed);
     }
-    if !routes_fit(points, starts, counts) {
-        return 7;
+    if !routes_fit(points, starts, counts) || !binary64::is_option(pitch) || !bounds {
+        return Err(Refusal::NumberOutOfRange);
     }
-    if !binary64::is_option(pitch) {
-        return 7;
-    }
-    if !bounds {
-        return 7;
-    }
-    0
+    Ok(())
 }
 
 // ---- the public entries

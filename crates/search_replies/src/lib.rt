@@ -18,7 +18,7 @@ pub fn refuse(number: u8, granted: u32) -> SearchAnswer
     ensures { result ≡ answer_of number (refused granted) }
 {
     SearchAnswer {
-        number: number,
+        number,
         mark: 0,
         left: granted,
         count: 0,
@@ -34,8 +34,8 @@ pub fn reply(mark: u8, left: u32, n: usize, list: &[f64], xs: &mut [f64]) -> Sea
     if n == 0 {
         return SearchAnswer {
             number: 0,
-            mark: mark,
-            left: left,
+            mark,
+            left,
             count: 0,
             x: 0.0,
         };
@@ -43,8 +43,8 @@ pub fn reply(mark: u8, left: u32, n: usize, list: &[f64], xs: &mut [f64]) -> Sea
     sorting::copy(&mut xs[..n], list);
     SearchAnswer {
         number: 0,
-        mark: mark,
-        left: left,
+        mark,
+        left,
         count: n,
         x: list[0],
     }

@@ -14,11 +14,17 @@ ghost use Rattle.search.specs.Promotion.{adjacent, between};
 ghost use Rattle.search.specs.Search.{candidate, falls};
 ghost use Rattle.search.specs.Kept.{kept, spanned};
 
-use geometry::{Point, Role, Stretch};
+use geometry::{Point, Role};
 use search::{Bounds, Candidate};
 
 // The stretch of a route's first run.
-pub fn run_stretch(points: &[f64], start: usize, count: usize, role: Role, pitch: f64) -> Stretch
+pub fn run_stretch(
+    points: &[f64],
+    start: usize,
+    count: usize,
+    role: Role,
+    pitch: f64,
+) -> Option<(f64, f64)>
     requires { (1 < count) × (2 * (start + count) ≤ length points.now) }
     ensures { result ≡ stretch role pitch (point_at points.now start) (point_at points.now (start + 1)) }
 {
@@ -27,12 +33,12 @@ pub fn run_stretch(points: &[f64], start: usize, count: usize, role: Role, pitch
 }
 
 // What is kept of a run: the ends of its stretch, or, where it has none, a low end above its high end.
-pub fn kept_of(s: Stretch) -> Point
+pub fn kept_of(s: Option<(f64, f64)>) -> Point
     ensures { result ≡ kept s }
 {
     match s {
-        Stretch::Nowhere => Point { x: 1.0, y: 0.0 },
-        Stretch::Of(low, high) => Point { x: low, y: high },
+        None => Point { x: 1.0, y: 0.0 },
+        Some((low, high)) => Point { x: low, y: high },
     }
 }
 
@@ -45,12 +51,12 @@ pub fn kept_holds(pairs: &[f64], i: usize, x: f64) -> bool
     (x >= pairs[2 * i]) & (x <= pairs[2 * i + 1])
 }
 
-pub fn candidate_of(role: Role, b: Bounds, s: Stretch) -> Candidate
+pub fn candidate_of(role: Role, b: Bounds, s: Option<(f64, f64)>) -> Candidate
     ensures { result ≡ candidate role b s }
 {
     match s {
-        Stretch::Nowhere => Candidate::Missing,
-        Stretch::Of(segment_low, segment_high) => {
+        None => Candidate::Missing,
+        Some((segment_low, segment_high)) => {
             let low = binary64::max(segment_low, b.minimum);
             let high = binary64::min(segment_high, b.maximum);
             if low > high {

@@ -42,11 +42,8 @@ pub fn collector_has_lane_separation(pitch: f64, x: f64, used: &[f64], count: us
     ensures { result ≡ clear pitch x (take count used.now) }
 {
     let least = pitch - 0.0000001;
-    let mut i: usize = 0;
-    while i < count {
-        let y = used[i];
-        i += 1;
-        if !(binary64::abs(y - x) >= least) {
+    for i in 0..count {
+        if !(binary64::abs(used[i] - x) >= least) {
             return false;
         }
     }
@@ -58,9 +55,10 @@ fn extreme(larger: bool, x: f64, y: f64) -> f64
     ensures { result ≡ cond larger (greatest x y) (least x y) }
 {
     if larger {
-        return binary64::max(x, y);
+        binary64::max(x, y)
+    } else {
+        binary64::min(x, y)
     }
-    binary64::min(x, y)
 }
 
 // The largest or the smallest of x and those taken.
@@ -69,10 +67,8 @@ fn extreme_of(larger: bool, x: f64, used: &[f64], count: usize) -> f64
     ensures { result ≡ cond larger (largest_of x (take count used.now)) (smallest_of x (take count used.now)) }
 {
     let mut most = x;
-    let mut i: usize = 0;
-    while i < count {
+    for i in 0..count {
         most = extreme(larger, most, used[i]);
-        i += 1;
     }
     most
 }
@@ -101,14 +97,14 @@ fn cut_to(role: Role, r: Bounds, d: f64) -> Bounds
 {
     match role {
         Role::Input => Bounds {
-            minimum: r.minimum,
             desired: d,
             maximum: d,
+            ..r
         },
         Role::Output => Bounds {
             minimum: d,
             desired: d,
-            maximum: r.maximum,
+            ..r
         },
     }
 }
@@ -159,20 +155,9 @@ fn beside(
             left: granted,
         };
     }
-    let u = s.bundle;
-    let role = u.role;
-    let b = s.bounds;
-    let cut = cut_beside(pitch, role, b, x, used, count);
+    let cut = cut_beside(pitch, s.bundle.role, s.bounds, x, used, count);
     plan_searches::search_between(
-        points,
-        starts,
-        counts,
-        pitch,
-        u,
-        cut,
-        granted,
-        &mut xs[..],
-        &mut scratch[..],
+        points, starts, counts, pitch, s.bundle, cut, granted, xs, scratch,
     )
 }
 
@@ -201,17 +186,7 @@ fn beside_planned(
             left: granted,
         },
         Bound::At(x) => beside(
-            points,
-            starts,
-            counts,
-            pitch,
-            s,
-            x,
-            used,
-            count,
-            granted,
-            &mut xs[..],
-            &mut scratch[..],
+            points, starts, counts, pitch, s, x, used, count, granted, xs, scratch,
         ),
     }
 }
@@ -224,9 +199,10 @@ fn if_clear(pitch: f64, x: Bound, used: &[f64], count: usize) -> Bound
         Bound::None => Bound::None,
         Bound::At(y) => {
             if collector_has_lane_separation(pitch, y, used, count) {
-                return Bound::At(y);
+                Bound::At(y)
+            } else {
+                Bound::None
             }
-            Bound::None
         }
     }
 }
@@ -243,18 +219,14 @@ fn lanes_of(role: Role, l: Lanes) -> Taken
 }
 
 // An x more among those taken.
-fn taken_with(t: Taken, x: f64) -> Taken
+fn taken_with(mut t: Taken, x: f64) -> Taken
     requires { t.count < max_bundles }
     ensures told { taken result ≡ taken t ++ (x ∷ []) }
     ensures one { result.count ≡ t.count + 1 }
 {
-    let mut xs = t.xs;
-    let n = t.count;
-    xs[n] = x;
-    Taken {
-        xs: xs,
-        count: n + 1,
-    }
+    t.xs[t.count] = x;
+    t.count += 1;
+    t
 }
 
 fn add_lane(role: Role, x: Bound, l: Lanes) -> Lanes
@@ -265,22 +237,14 @@ fn add_lane(role: Role, x: Bound, l: Lanes) -> Lanes
     match x {
         Bound::None => l,
         Bound::At(y) => match role {
-            Role::Input => {
-                let i = taken_with(l.input, y);
-                let o = l.output;
-                Lanes {
-                    input: i,
-                    output: o,
-                }
-            }
-            Role::Output => {
-                let o = taken_with(l.output, y);
-                let i = l.input;
-                Lanes {
-                    input: i,
-                    output: o,
-                }
-            }
+            Role::Input => Lanes {
+                input: taken_with(l.input, y),
+                ..l
+            },
+            Role::Output => Lanes {
+                output: taken_with(l.output, y),
+                ..l
+            },
         },
     }
 }
@@ -311,38 +275,28 @@ pub fn separate(
     };
     let mut rows = p.rows;
     let mut left = p.left;
-    let mut i: usize = 0;
-    while i < n {
+    for i in 0..n {
         let s = t.rows[i];
-        let u = s.bundle;
-        let role = u.role;
-        let old = rows[i];
-        let known = old.x;
+        let role = s.bundle.role;
         let taken = lanes_of(role, lanes);
-        let used = taken.xs;
         let r = beside_planned(
             points,
             starts,
             counts,
             pitch,
             s,
-            known,
-            &used[..],
+            rows[i].x,
+            &taken.xs,
             taken.count,
             left,
-            &mut xs[..],
-            &mut scratch[..],
+            xs,
+            scratch,
         );
-        let o = r.outcome;
-        let found = plan_numbers::found_x(o);
-        let x = if_clear(pitch, found, &used[..], taken.count);
-        rows[i] = Planned { x: x };
+        let found = plan_numbers::found_x(r.outcome);
+        let x = if_clear(pitch, found, &taken.xs, taken.count);
+        rows[i] = Planned { x };
         lanes = add_lane(role, x, lanes);
         left = r.left;
-        i += 1;
     }
-    Planning {
-        rows: rows,
-        left: left,
-    }
+    Planning { rows, left }
 }

@@ -13,7 +13,7 @@ ghost use Rattle.geometry.specs.Stretch.{stretch, holds, on_trunk};
 ghost use Rattle.geometry.specs.Line.{on_level, on_upright, on_line};
 ghost use Rattle.geometry.specs.Port.{port_point};
 
-use geometry::{Hit, Node, Point, Role, Side, Span, Stretch};
+use geometry::{Node, Point, Role, Side, Span};
 
 // ---- the interior test of verify_member_route_node_interiors
 
@@ -26,6 +26,7 @@ fn goes_inside(s: Span, corner: f64, far: f64, side: f64, reach: f64) -> bool
 }
 
 // The test for a run that is level or upright.
+#[tactic(auto, unfolding(geometry::specs::Enters::passes_inside))]
 pub fn run_passes_inside(a: Point, b: Point, n: Node) -> bool
     ensures { result ≡ passes_inside a b n }
 {
@@ -57,41 +58,41 @@ pub fn shared_trunk_horizontal_range(
     end: Point,
     role: Role,
     minimum_length: f64,
-) -> Stretch
+) -> Option<(f64, f64)>
     ensures { result ≡ stretch role minimum_length start end }
 {
     if start.y != end.y {
-        return Stretch::Nowhere;
+        return None;
     }
     if start.x >= end.x {
-        return Stretch::Nowhere;
+        return None;
     }
     match role {
         Role::Input => {
             let high = end.x - minimum_length;
             if start.x <= high {
-                Stretch::Of(start.x, high)
+                Some((start.x, high))
             } else {
-                Stretch::Nowhere
+                None
             }
         }
         Role::Output => {
             let low = start.x + minimum_length;
             if low <= end.x {
-                Stretch::Of(low, end.x)
+                Some((low, end.x))
             } else {
-                Stretch::Nowhere
+                None
             }
         }
     }
 }
 
-pub fn stretch_holds(s: Stretch, x: f64) -> bool
+pub fn stretch_holds(s: Option<(f64, f64)>, x: f64) -> bool
     ensures { result ≡ holds x s }
 {
     match s {
-        Stretch::Nowhere => false,
-        Stretch::Of(low, high) => (x >= low) & (x <= high),
+        None => false,
+        Some((low, high)) => (x >= low) & (x <= high),
     }
 }
 
@@ -101,15 +102,15 @@ pub fn shared_trunk_horizontal_intersection(
     x: f64,
     role: Role,
     minimum_length: f64,
-) -> Hit
+) -> Option<Point>
     ensures { result ≡ on_trunk role minimum_length x start end }
 {
     let s = shared_trunk_horizontal_range(start, end, role, minimum_length);
     if stretch_holds(s, x) {
         let p = Point { x: x, y: start.y };
-        return Hit::Met(p);
+        return Some(p);
     }
-    Hit::Missed
+    None
 }
 
 // The line meets a level run.
@@ -128,20 +129,25 @@ fn is_on_upright(start: Point, end: Point, x: f64) -> bool
     (start.x == x) & (end.x == x)
 }
 
-pub fn segment_vertical_line_intersection(start: Point, end: Point, x: f64, prefer_end: bool) -> Hit
+pub fn segment_vertical_line_intersection(
+    start: Point,
+    end: Point,
+    x: f64,
+    prefer_end: bool,
+) -> Option<Point>
     ensures { result ≡ on_line prefer_end x start end }
 {
     if is_on_level(start, end, x) {
         let p = Point { x: x, y: start.y };
-        return Hit::Met(p);
+        return Some(p);
     }
     if is_on_upright(start, end, x) {
         if prefer_end {
-            return Hit::Met(end);
+            return Some(end);
         }
-        return Hit::Met(start);
+        return Some(start);
     }
-    Hit::Missed
+    None
 }
 
 // ---- ports

@@ -13,14 +13,13 @@ ghost use Rattle.draw_job.specs.JobTables.{MembersOn, OnSheet, Lent};
 
 use answer::Frame;
 use board::{DrawnBundles, Edges, Members, Nodes};
-use drawing::{GeometryVisits, Verdict};
+use drawing::GeometryVisits;
 use job::Job;
 use limits::{
     ALL_SLOT_NUMBERS, ANY_ANSWER_ROOM, JOB_ROOM, MAX_BUNDLES, MAX_EDGES, MAX_MEMBERS,
     POINT_NUMBERS, SLOT_NUMBERS, TAP_NUMBERS,
 };
 use plan::{Bound, Planned, Planning};
-use records::Record;
 use search::TapVisits;
 
 // ---- the plan of a record
@@ -35,17 +34,13 @@ fn bound_at(record: &[u8], at: usize) -> Bound {
 fn plan_at(record: &[u8], from: usize, left: TapVisits) -> Planning {
     let mut rows = [Planned { x: Bound::None }; MAX_BUNDLES];
     let mut at = from;
-    let mut i: usize = 0;
-    while i < MAX_BUNDLES {
-        let x = bound_at(record, at);
-        rows[i] = Planned { x: x };
+    for row in &mut rows {
+        *row = Planned {
+            x: bound_at(record, at),
+        };
         at = records::plus(at, 9);
-        i += 1;
     }
-    Planning {
-        rows: rows,
-        left: left,
-    }
+    Planning { rows, left }
 }
 
 // ---- the result
@@ -54,20 +49,18 @@ fn plan_at(record: &[u8], from: usize, left: TapVisits) -> Planning {
 fn put_verdict(out: &mut [u8], number: u64, bundle: usize, left: GeometryVisits) -> usize
     ensures { result ≡ 7 }
 {
-    records::put_u8(&mut out[..], 0, number);
-    records::put_u16(&mut out[..], 1, bundle as u64);
-    records::put_u32(&mut out[..], 3, left.0 as u64);
+    records::put_u8(out, 0, number);
+    records::put_u16(out, 1, bundle as u64);
+    records::put_u32(out, 3, left.0 as u64);
     7
 }
 
 // The first n bytes of a slice, from a place of another on; answers the place after them.
 fn put_bytes(from: &[u8], n: usize, out: &mut [u8], start: usize) -> usize {
     let mut at = start;
-    let mut i: usize = 0;
-    while i < n {
-        records::put_u8(&mut out[..], at, records::u8_at(from, i));
+    for i in 0..n {
+        records::put_u8(out, at, records::u8_at(from, i));
         at = records::plus(at, 1);
-        i += 1;
     }
     at
 }
@@ -92,8 +85,8 @@ fn put_page(
     requires members_on { MembersOn table members × (any_answer_room ≤ length page.old) }
 {
     let t = draw_job::tap_rows(table, members, taps);
-    let n = answer::write_answer(&mut page[..], f, nodes, table, points, counts, drawn, t);
-    put_bytes(&page[..], n, &mut out[..], at)
+    let n = answer::write_answer(page, f, nodes, table, points, counts, drawn, t);
+    put_bytes(page, n, out, at)
 }
 
 // The sheet before the last shift, its width and height 0, and after it.
@@ -112,11 +105,9 @@ fn put_pages(
     requires on_sheet { OnSheet j edges.now drawn points.old counts.now taps.old }
     requires any_answer_room_in_bounds { any_answer_room ≤ length page.old }
 {
-    let members = j.members;
-    let n = members.count;
-    let start = put_verdict(&mut out[..], 0, drawn.count, rest);
+    let start = put_verdict(out, 0, drawn.count, rest);
     let next = put_page(
-        &mut page[..],
+        page,
         Frame {
             tap_visits: left.0,
             geometry_visits: rest.0,
@@ -125,17 +116,17 @@ fn put_pages(
         },
         j.nodes,
         j.edges,
-        &points[..],
+        points,
         counts,
         drawn,
-        members,
-        &taps[..],
-        &mut out[..],
+        j.members,
+        taps,
+        out,
         start,
     );
-    let l = normalize::normalize_layout(j.nodes, drawn, &mut points[..], counts, &mut taps[..], n);
+    let l = normalize::normalize_layout(j.nodes, drawn, points, counts, taps, j.members.count);
     put_page(
-        &mut page[..],
+        page,
         Frame {
             tap_visits: left.0,
             geometry_visits: rest.0,
@@ -144,12 +135,12 @@ fn put_pages(
         },
         l.nodes,
         j.edges,
-        &points[..],
+        points,
         counts,
         l.drawn,
-        members,
-        &taps[..],
-        &mut out[..],
+        j.members,
+        taps,
+        out,
         next,
     )
 }
@@ -172,47 +163,34 @@ fn draw_in(
     requires came { Came j given.now × (any_answer_room ≤ length page.old) }
     requires lent { Lent j edges.old lanes.old taps.old points.old counts.old mask.old scratch.old }
 {
-    let flags = j.flags;
-    let grants = j.grants;
-    let planned = p.rows;
     let offsets = plan_depths::corridor_depth_offsets(
         j.options, j.nodes, j.ports, j.bundles, j.members,
     );
+    let mut visits = GeometryVisits(j.grants.geometry_visits);
     let d = turns::draw_sheet(
         j.options,
-        flags.permits_crossings,
+        j.flags.permits_crossings,
         j.nodes,
         j.ports,
         j.edges,
         j.bundles,
         j.members,
-        planned,
+        p.rows,
         offsets,
         given,
-        &mut edges[..],
-        &mut lanes[..],
-        &mut taps[..],
-        &mut points[..],
-        &mut counts[..],
-        &mut mask[..],
-        &mut scratch[..],
-        GeometryVisits(grants.geometry_visits),
+        edges,
+        lanes,
+        taps,
+        points,
+        counts,
+        mask,
+        scratch,
+        &mut visits,
     );
-    let v = d.verdict;
-    let drawn = d.drawn;
-    match v {
-        Verdict::Refused(r, q) => put_verdict(&mut out[..], r as u64, drawn.count, q),
-        Verdict::Clean(q) => put_pages(
-            j,
-            &edges[..],
-            drawn,
-            p.left,
-            q,
-            &mut points[..],
-            &counts[..],
-            &mut taps[..],
-            &mut page[..],
-            &mut out[..],
+    match d.ended {
+        Err(r) => put_verdict(out, u8::from(r) as u64, d.drawn.count, visits),
+        Ok(()) => put_pages(
+            j, edges, d.drawn, p.left, visits, points, counts, taps, page, out,
         ),
     }
 }
@@ -228,23 +206,21 @@ fn draw(j: Job, given: &[f64], p: Planning, page: &mut [u8], out: &mut [u8]) -> 
     let mut counts = [0; MAX_EDGES];
     let mut mask = [false; MAX_EDGES];
     let mut scratch = [0.0; SLOT_NUMBERS];
-    let members = j.members;
-    let table = j.edges;
-    let m = members.count;
-    let n = table.count;
+    let m = j.members.count;
+    let n = j.edges.count;
     draw_in(
         j,
         given,
         p,
         &mut edges[..m],
         &mut lanes[..m],
-        &mut taps[..],
-        &mut points[..],
+        &mut taps,
+        &mut points,
         &mut counts[..n],
-        &mut mask[..],
-        &mut scratch[..],
-        &mut page[..],
-        &mut out[..],
+        &mut mask,
+        &mut scratch,
+        page,
+        out,
     )
 }
 
@@ -273,32 +249,27 @@ fn answer(record: &[u8], given: &mut [f64], page: &mut [u8], out: &mut [u8]) -> 
     }
     let size = size_of(record, record.len() - 1);
     let end = 1 + size;
-    let r = job_reader::read_job(&record[1..end], &mut given[..]);
-    if !r.ok {
-        records::put_u8(&mut out[..], 0, r.refusal as u64);
-        return 1;
+    match job_reader::read_job(&record[1..end], given) {
+        Ok(j) => {
+            let p = plan_at(record, end, TapVisits(j.grants.tap_visits));
+            draw(j, given, p, page, out)
+        }
+        Err(r) => {
+            records::put_u8(out, 0, u64::from(u8::from(r)));
+            1
+        }
     }
-    let j = r.job;
-    let grants = j.grants;
-    let p = plan_at(record, end, TapVisits(grants.tap_visits));
-    draw(j, &given[..], p, &mut page[..], &mut out[..])
 }
 
 // One record; answers whether there was one.
 fn replay_one(space: &mut [u8], given: &mut [f64], page: &mut [u8], out: &mut [u8]) -> bool
     requires { (length given.old ≡ point_numbers) × (any_answer_room ≤ length page.old) }
 {
-    let r = records::next(&mut space[..]);
-    match r {
-        Record::End => false,
-        Record::Got(n) => {
-            if n > space.len() {
-                return false;
-            }
-            let m = answer(&space[..n], &mut given[..], &mut page[..], &mut out[..]);
-            records::write(&out[..], m)
-        }
-    }
+    let Some(n) = records::next(space) else {
+        return false;
+    };
+    let m = answer(&space[..n], given, page, out);
+    records::write(out, m)
 }
 
 fn main() {
@@ -306,11 +277,9 @@ fn main() {
     let mut given = [0.0; POINT_NUMBERS];
     let mut page = [0u8; ANY_ANSWER_ROOM];
     let mut out = [0u8; 131072];
-    let mut turn: u32 = 0;
-    while turn < 4000000000 {
+    for _ in 0..4000000000u32 {
         if !replay_one(&mut space, &mut given, &mut page, &mut out) {
             return;
         }
-        turn += 1;
     }
 }

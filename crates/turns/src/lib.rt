@@ -9,36 +9,31 @@
 
 #![tactic(auto)]
 
-ghost use Rattle.std.specs.Prelude.{◌≡◌, [], ◌∷◌, ◌++◌, map, ◌+◌, ◌*◌, ◌-◌, ◌<◌, ◌≤◌, length, get_or, take};
+ghost use Rattle.std.specs.Prelude.{◌≡◌, ◌++◌, map, ◌+◌, ◌*◌, ◌<◌, ◌≤◌, length, take, IfOk};
 ghost use Rattle.limits.specs.Limits.{max_nodes, max_bundles, max_members, slot_numbers};
 ghost use Rattle.route.specs.Slots.{routes_of, Held};
 ghost use Rattle.board.specs.Board.{Board};
 ghost use Rattle.plan.specs.BoardTables.{board_of, given_routes, Sound, RoutesIn};
-ghost use Rattle.plan.specs.Prepared.{no_planned, x_of};
+ghost use Rattle.plan.specs.Prepared.{x_of};
 ghost use Rattle.drawing.specs.Sheet.{turn, turns_from, sheet_of, blank};
-ghost use Rattle.checks.specs.CheckRows.{drawn_of};
+ghost use Rattle.checks.specs.Purse.{told};
 ghost use Rattle.checks.specs.MemberSlices.{members_from, Row};
-ghost use Rattle.turns.specs.TurnTables.{turn_of, standing, ends_as, drawn_in, spot_of, Faced, Ready, Longer, Shows, Named, Lists, Room, Short, Rows, Full, members_all, GivenIn, Listed, Boxed, Ended, Spotted, Follow, Once};
+ghost use Rattle.turns.specs.TurnTables.{turn_of, standing, ends_as, drawn_in, row_drawn, spot_of, Faced, Ready, Longer, Shows, Named, Lists, Room, Short, Rows, Full, members_all, GivenIn, Listed, Boxed, Ended, Spotted, Follow, Once};
 
 use board::{
     Bundle, Bundles, DrawnBundle, DrawnBundles, Edges, Members, Nodes, Options, Port, Ports,
 };
-use drawing::{GeometryVisits, Verdict};
+use checks::{MemberTaps, PresentRoutes};
+use drawing::GeometryVisits;
 use geometry::{Point, Segment};
 use limits::{MAX_BUNDLES, MAX_EDGES, MAX_NODES};
 use plan::{Bound, Offsets, Planned};
-
-// A bundle after its turn: its row counts if the verdict is clean.
-#[derive(Clone, Copy)]
-pub struct Turned {
-    pub verdict: Verdict,
-    pub row: DrawnBundle,
-}
+use refusal::Refusal;
 
 // The bundles drawn, and how the last turn ended.
 #[derive(Clone, Copy)]
 pub struct Drawing {
-    pub verdict: Verdict,
+    pub ended: Result<(), Refusal>,
     pub drawn: DrawnBundles,
 }
 
@@ -63,61 +58,37 @@ fn draw_bundle(
     counts: &mut [usize],
     mask: &mut [bool],
     scratch: &mut [f64],
-    visits: GeometryVisits,
-) -> Turned
+    visits: &mut GeometryVisits,
+) -> Result<DrawnBundle, Refusal>
     requires { (2 * length counts.old ≤ length ends.now) × Ready u priors edges.now lanes.now taps.old points.old counts.old mask.old × (slot_numbers ≤ length scratch.old) }
-    ensures told { (b : Board) → Faced b o boxes.now ends.now u end (members_from edges.now lanes.now u.first u.count) → ends_as result.verdict (routes_of points.new counts.new) (drawn_in edges.now taps.new priors ++ (drawn_of edges.now taps.new result.row ∷ [])) ≡ turn b allow (turn_of u planned offset) (standing (routes_of points.old counts.old) (drawn_in edges.now taps.old priors) visits.0) }
-    ensures row { Row u result.row }
+    ensures told { (b : Board) → Faced b o boxes.now ends.now u end (members_from edges.now lanes.now u.first u.count) → ends_as (told result visits.new.0) (routes_of points.new counts.new) (drawn_in edges.now taps.new priors ++ row_drawn edges.now taps.new result) ≡ turn b allow (turn_of u planned offset) (standing (routes_of points.old counts.old) (drawn_in edges.now taps.old priors) visits.old.0) }
+    ensures row { IfOk result (λ d. Row u d) }
     ensures hold { Held counts.new }
-    ensures longer { Longer result.verdict counts.old counts.new (members_from edges.now lanes.now u.first u.count) }
+    ensures longer { Longer (told result visits.new.0) counts.old counts.new (members_from edges.now lanes.now u.first u.count) }
 {
-    let d = bundle_geometry::build_geometry(
-        o,
-        end,
-        u,
-        planned,
-        edges,
-        lanes,
-        &points[..],
-        &counts[..],
-        &mut taps[..],
-    );
-    let role = u.role;
-    let pitch = board::pitch_of_bundle(o, u);
+    let d = bundle_geometry::build_geometry(o, end, u, planned, edges, lanes, points, counts, taps);
     if !member_rewriting::rewrite_member_routes(
         d.interior,
-        role,
-        pitch,
+        u.role,
+        board::pitch_of_bundle(o, u),
         offset,
         edges,
         lanes,
-        &taps[..],
+        taps,
         u.first,
         u.count,
-        &mut points[..],
-        &mut counts[..],
-        &mut scratch[..],
+        points,
+        counts,
+        scratch,
     ) {
-        return Turned {
-            verdict: Verdict::Refused(10, visits),
-            row: d,
-        };
+        return Err(Refusal::TapUnreachable);
     }
-    let v = bundle_checks::verify_bundle(
-        o,
-        allow,
-        boxes,
-        ends,
-        d,
-        priors,
-        edges,
-        &taps[..],
-        &points[..],
-        &counts[..],
-        &mut mask[..],
-        visits,
-    );
-    Turned { verdict: v, row: d }
+    let table = MemberTaps { edges, taps };
+    let present = PresentRoutes { points, counts };
+    bundle_checks::verify_bundle(
+        o, allow, boxes, ends, d, priors, table, present, mask, visits,
+    )?;
+    Ok(d)
 }
 
 // ---- what is filled before the first turn
@@ -127,18 +98,14 @@ fn node_boxes(nodes: Nodes, boxes: &mut [f64])
     requires { (nodes.count ≤ max_nodes) × (4 * nodes.count ≤ length boxes.old) }
     ensures { Boxed boxes.new nodes.rows nodes.count }
 {
-    let n = nodes.count;
-    let mut i: usize = 0;
-    while i < n {
-        let row = nodes.rows[i];
-        let body = row.body;
+    for i in 0..nodes.count {
+        let body = nodes.rows[i].body;
         let size = Point {
             x: body.width,
             y: body.height,
         };
-        route_views::put_point(&mut boxes[..], 2 * i, body.corner);
-        route_views::put_point(&mut boxes[..], 2 * i + 1, size);
-        i += 1;
+        route_views::put_point(boxes, 2 * i, body.corner);
+        route_views::put_point(boxes, 2 * i + 1, size);
     }
 }
 
@@ -147,8 +114,7 @@ fn spot(boxes: &[f64], p: Port) -> Point
     requires { 4 * p.node + 3 < length boxes.now }
     ensures { result ≡ spot_of boxes.now p }
 {
-    let side = p.side;
-    shapes::port_point(looks::box_at(boxes, p.node), side, p.offset)
+    shapes::port_point(looks::box_at(boxes, p.node), p.side, p.offset)
 }
 
 // Where each bundle's port stands.
@@ -156,14 +122,9 @@ fn port_spots(boxes: &[f64], ports: Ports, bundles: Bundles, spots: &mut [f64])
     requires { Named boxes.now ports bundles × (2 * bundles.count ≤ length spots.old) }
     ensures { Spotted spots.new boxes.now ports bundles bundles.count }
 {
-    let n = bundles.count;
-    let mut i: usize = 0;
-    while i < n {
-        let u = bundles.rows[i];
-        let at = u.port;
-        let end = spot(boxes, ports.rows[at]);
-        route_views::put_point(&mut spots[..], i, end);
-        i += 1;
+    for i in 0..bundles.count {
+        let end = spot(boxes, ports.rows[bundles.rows[i].port]);
+        route_views::put_point(spots, i, end);
     }
 }
 
@@ -180,14 +141,11 @@ fn store_edges(
     ensures routes { routes_of points.new counts.new ≡ given_routes given.now table }
     ensures short { Short counts.new }
 {
-    let n = table.count;
-    let mut i: usize = 0;
-    while i < n {
+    for i in 0..table.count {
         let e = table.rows[i];
-        route_slots::store_route(given, e.first, e.count, &mut points[..], &mut counts[..], i);
+        route_slots::store_route(given, e.first, e.count, points, counts, i);
         ends[2 * i] = e.source;
         ends[2 * i + 1] = e.target;
-        i += 1;
     }
 }
 
@@ -196,13 +154,10 @@ fn member_rows(members: Members, edges: &mut [usize], lanes: &mut [u32])
     requires { (members.count ≤ max_members) × (length edges.old ≡ members.count) × (length lanes.old ≡ members.count) }
     ensures { Listed edges.new lanes.new members.rows members.count }
 {
-    let n = members.count;
-    let mut i: usize = 0;
-    while i < n {
+    for i in 0..members.count {
         let m = members.rows[i];
         edges[i] = m.edge;
         lanes[i] = m.tap_lane;
-        i += 1;
     }
 }
 
@@ -227,15 +182,6 @@ fn none_drawn() -> DrawnBundles
     }
 }
 
-// What the plan says of bundle i.
-fn planned_of(plan: [Planned; MAX_BUNDLES], i: usize) -> Bound
-    requires { i < max_bundles }
-    ensures { result ≡ (get_or plan i no_planned).x }
-{
-    let p = plan[i];
-    p.x
-}
-
 // Every bundle in job order; after a refusal, those drawn before it.
 fn draw_bundles(
     o: Options,
@@ -253,65 +199,53 @@ fn draw_bundles(
     counts: &mut [usize],
     mask: &mut [bool],
     scratch: &mut [f64],
-    granted: GeometryVisits,
+    visits: &mut GeometryVisits,
 ) -> Drawing
     requires tables { (bundles.count ≤ max_bundles) × (2 * bundles.count ≤ length spots.now) × (2 * length counts.old ≤ length ends.now) }
     requires lists { Lists (take bundles.count bundles.rows) edges.now lanes.now (length counts.old) }
     requires room { Room (length edges.now) taps.old points.old counts.old mask.old scratch.old × Short counts.old }
-    ensures told { (b : Board) → Shows b o boxes.now ends.now spots.now bundles (members_all edges.now lanes.now) → ends_as result.verdict (routes_of points.new counts.new) (drawn_in edges.now taps.new result.drawn) ≡ sheet_of b allow (turns_from (take bundles.count bundles.rows) (map x_of (take bundles.count plan)) (take bundles.count offsets.rows)) (blank (routes_of points.old counts.old) granted.0) }
+    ensures told { (b : Board) → Shows b o boxes.now ends.now spots.now bundles (members_all edges.now lanes.now) → ends_as (told result.ended visits.new.0) (routes_of points.new counts.new) (drawn_in edges.now taps.new result.drawn) ≡ sheet_of b allow (turns_from (take bundles.count bundles.rows) (map x_of (take bundles.count plan)) (take bundles.count offsets.rows)) (blank (routes_of points.old counts.old) visits.old.0) }
     ensures rows { Rows (take result.drawn.count bundles.rows) (take result.drawn.count result.drawn.rows) }
-    ensures full { Full result.verdict result.drawn.count bundles.count }
+    ensures full { Full (told result.ended visits.new.0) result.drawn.count bundles.count }
     ensures hold { Held counts.new }
 {
     let mut drawn = none_drawn();
-    let mut left = granted;
-    let n = bundles.count;
-    let mut i: usize = 0;
-    while i < n {
-        let u = bundles.rows[i];
+    for i in 0..bundles.count {
         let end = route_views::point_at(spots, i);
-        let x = planned_of(plan, i);
-        let offset = offsets.rows[i];
-        let k = i;
-        i += 1;
-        let t = draw_bundle(
+        match draw_bundle(
             o,
             allow,
             boxes,
             ends,
             end,
-            u,
-            x,
-            offset,
+            bundles.rows[i],
+            plan[i].x,
+            offsets.rows[i],
             drawn,
             edges,
             lanes,
-            &mut taps[..],
-            &mut points[..],
-            &mut counts[..],
-            &mut mask[..],
-            &mut scratch[..],
-            left,
-        );
-        let v = t.verdict;
-        match v {
-            Verdict::Refused(r, q) => {
-                return Drawing {
-                    verdict: Verdict::Refused(r, q),
-                    drawn: drawn,
-                };
+            taps,
+            points,
+            counts,
+            mask,
+            scratch,
+            visits,
+        ) {
+            Ok(row) => {
+                drawn.rows[i] = row;
+                drawn.count = i + 1;
             }
-            Verdict::Clean(q) => {
-                left = q;
-                let row = t.row;
-                drawn.rows[k] = row;
-                drawn.count = i;
+            Err(r) => {
+                return Drawing {
+                    ended: Err(r),
+                    drawn,
+                };
             }
         }
     }
     Drawing {
-        verdict: Verdict::Clean(left),
-        drawn: drawn,
+        ended: Ok(()),
+        drawn,
     }
 }
 
@@ -337,49 +271,41 @@ pub fn draw_sheet(
     counts: &mut [usize],
     mask: &mut [bool],
     scratch: &mut [f64],
-    granted: GeometryVisits,
+    visits: &mut GeometryVisits,
 ) -> Drawing
     requires tables { Sound nodes ports bundles members × RoutesIn given.now table members }
     requires once { Follow 0 members.count (take bundles.count bundles.rows) × Once (take members.count members.rows) (take bundles.count bundles.rows) }
     requires exact { (length edges.old ≡ members.count) × (length lanes.old ≡ members.count) × (length counts.old ≡ table.count) }
     requires room { Room members.count taps.old points.old counts.old mask.old scratch.old }
-    ensures told { ends_as result.verdict (routes_of points.new counts.new) (drawn_in edges.new taps.new result.drawn) ≡ sheet_of (board_of o nodes ports (take table.count table.rows) bundles members) allow (turns_from (take bundles.count bundles.rows) (map x_of (take bundles.count plan)) (take bundles.count offsets.rows)) (blank (given_routes given.now table) granted.0) }
+    ensures told { ends_as (told result.ended visits.new.0) (routes_of points.new counts.new) (drawn_in edges.new taps.new result.drawn) ≡ sheet_of (board_of o nodes ports (take table.count table.rows) bundles members) allow (turns_from (take bundles.count bundles.rows) (map x_of (take bundles.count plan)) (take bundles.count offsets.rows)) (blank (given_routes given.now table) visits.old.0) }
     ensures members { Listed edges.new lanes.new members.rows members.count }
     ensures rows { Rows (take result.drawn.count bundles.rows) (take result.drawn.count result.drawn.rows) }
-    ensures full { Full result.verdict result.drawn.count bundles.count }
+    ensures full { Full (told result.ended visits.new.0) result.drawn.count bundles.count }
     ensures hold { Held counts.new }
 {
     let mut boxes = [0.0; 4 * MAX_NODES];
     let mut ends = [0; 2 * MAX_EDGES];
     let mut spots = [0.0; 2 * MAX_BUNDLES];
-    let n = 4 * nodes.count;
-    let m = 2 * table.count;
-    member_rows(members, &mut edges[..], &mut lanes[..]);
-    store_edges(
-        table,
-        given,
-        &mut ends[..],
-        &mut points[..],
-        &mut counts[..],
-    );
-    node_boxes(nodes, &mut boxes[..]);
-    port_spots(&boxes[..], ports, bundles, &mut spots[..]);
+    member_rows(members, edges, lanes);
+    store_edges(table, given, &mut ends, points, counts);
+    node_boxes(nodes, &mut boxes);
+    port_spots(&boxes, ports, bundles, &mut spots);
     draw_bundles(
         o,
         allow,
-        &boxes[..n],
-        &ends[..m],
-        &spots[..],
+        &boxes[..4 * nodes.count],
+        &ends[..2 * table.count],
+        &spots,
         bundles,
         plan,
         offsets,
-        &edges[..],
-        &lanes[..],
-        &mut taps[..],
-        &mut points[..],
-        &mut counts[..],
-        &mut mask[..],
-        &mut scratch[..],
-        granted,
+        edges,
+        lanes,
+        taps,
+        points,
+        counts,
+        mask,
+        scratch,
+        visits,
     )
 }

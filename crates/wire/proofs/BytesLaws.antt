@@ -1,6 +1,10 @@
 -- Numbers as big-endian bytes, there and back: the laws. Assumes nothing.
-use Rattle.std.specs.Prelude.{ℕ, zero, suc, ◌+◌, ◌*◌, ◌/◌, ◌%◌, ◌^◌, ◌≤◌, ◌<◌, ◌≡◌, refl, List, [], ◌∷◌, ◌++◌, length, take, drop, get_or}
-use Rattle.std.proofs.Common.{sym, ap, ◌∙◌, div-add-mod', div-lt_iff_lt-mul, mul_assoc, mul_comm, add-mul, pow-suc, zero-add, arith, lit<, length-append, length-drop, drop-cons, take-add, drop-drop, length-take-le}
+use Rattle.std.specs.Prelude.{ℕ, zero, suc, ◌+◌, ◌*◌, ◌-◌, ◌/◌, ◌%◌, ◌^◌, ◌≤◌, ◌<◌, ◌≡◌, refl, List, [], ◌∷◌, ◌++◌, length, take, drop, get_or}
+use Rattle.std.proofs.Common.{sym, ap, ◌∙◌, div-add-mod', div-lt_iff_lt-mul, mul_assoc, mul_comm, add-mul, pow-suc, zero-add, arith, lit<, length-append, length-drop, drop-cons, take-add, drop-drop, length-take-le, take_all}
+use Rattle.std.proofs.Math.Nat.{div-div-eq-div-mul}
+use Rattle.std.proofs.lemmas.Slice.{put_mid-paste}
+use Rattle.std.proofs.lemmas.List.Edits.{sets, sets-eq}
+use borrow.Rule.Slice.PartMut.{put_mid}
 use Rattle.wire.specs.Bytes.{bytes, number, number_on}
 
 pub number_behind : (a : ℕ) (l m : List ℕ) → number_on a (l ++ m) ≡ number_on (number_on a l) m
@@ -41,6 +45,22 @@ number_two s at h =
     ∙ ap (λ (z : ℕ). z * 256 + number (take 1 (drop (at + 1) s))) (number_one s at (omega arith))
     ∙ ap (λ (z : ℕ). get_or s at 0 * 256 + z) (number_one s (at + 1) (omega arith))
 
+pub number_four : (s : List ℕ) (at : ℕ) → at + 4 ≤ length s
+    → number (take 4 (drop at s)) ≡ get_or s at 0 * 16777216 + get_or s (at + 1) 0 * 65536 + get_or s (at + 2) 0 * 256 + get_or s (at + 3) 0
+number_four s at h =
+    let e : at + 2 + 1 ≡ at + 3 = omega arith in
+    omega (arith, number_parts 2 2 s at (omega arith), number_two s at (omega arith), rw e at (number_two s (at + 2) (omega arith)))
+
+pub number_eight : (s : List ℕ) (at : ℕ) → at + 8 ≤ length s
+    → number (take 8 (drop at s))
+    ≡ (get_or s at 0 * 16777216 + get_or s (at + 1) 0 * 65536 + get_or s (at + 2) 0 * 256 + get_or s (at + 3) 0) * 4294967296
+    + (get_or s (at + 4) 0 * 16777216 + get_or s (at + 5) 0 * 65536 + get_or s (at + 6) 0 * 256 + get_or s (at + 7) 0)
+number_eight s at h =
+    let e : at + 4 + 1 ≡ at + 5 = omega arith in
+    let f : at + 4 + 2 ≡ at + 6 = omega arith in
+    let g : at + 4 + 3 ≡ at + 7 = omega arith in
+    omega (arith, number_parts 4 4 s at (omega arith), number_four s at (omega arith), rw (e, f, g) at (number_four s (at + 4) (omega arith)))
+
 pub bytes_length : (w v : ℕ) → length (bytes w v) ≡ w
 unfolding bytes
 bytes_length zero v = refl
@@ -56,3 +76,25 @@ number_back (suc w) v h =
     let k : v / 256 < 256 ^ w = (div-lt_iff_lt-mul (lit< tt)).1 (rw (pow-suc 256 w) at h) in
     number_behind 0 (bytes w (v / 256)) (v % 256 ∷ [])
     ∙ ap (λ (z : ℕ). z * 256 + v % 256) (number_back w (v / 256) k) ∙ div-add-mod' v 256
+
+-- a part of a slice, written over with a number's bytes
+pub placed : (l ys : List ℕ) (at w v : ℕ) → at + w ≤ length l → ys ≡ bytes w v → put_mid at (at + w - at) l ys ≡ sets l at (bytes w v)
+placed l ys at w v h e =
+    let n : length (bytes w v) ≡ w = bytes_length w v in
+    let q : take w (bytes w v) ≡ bytes w v = take_all w (bytes w v) (omega arith) in
+    put_mid-paste at (at + w - at) l ys (bytes w v) w e (omega arith) (sym n) ∙ rw (q, sets-eq (bytes w v) l at (omega arith), n)
+
+pub bytes_two : (v : ℕ) → (v % 65536 / 256 % 256 ∷ v % 65536 % 256 ∷ []) ≡ bytes 2 v
+unfolding bytes
+bytes_two v =
+    let a : v % 65536 / 256 % 256 ≡ v / 256 % 256 = omega arith in
+    let b : v % 65536 % 256 ≡ v % 256 = omega arith in
+    rw (a, b)
+
+pub bytes_four : (v : ℕ) → (v / 16777216 % 256 ∷ v / 65536 % 256 ∷ v / 256 % 256 ∷ v % 256 ∷ []) ≡ bytes 4 v
+unfolding bytes
+bytes_four v = simp div-div-eq-div-mul
+
+pub bytes_eight : (v : ℕ) → (v / 256 ^ 7 % 256 ∷ v / 256 ^ 6 % 256 ∷ v / 256 ^ 5 % 256 ∷ v / 256 ^ 4 % 256 ∷ v / 16777216 % 256 ∷ v / 65536 % 256 ∷ v / 256 % 256 ∷ v % 256 ∷ []) ≡ bytes 8 v
+unfolding bytes
+bytes_eight v = simp div-div-eq-div-mul

@@ -1,19 +1,11 @@
 use native.Mathlib.Omega.{arith}
-use Prim.Native.Nat.{◌-◌}
-use mathlib.Core.Path.{◌≡◌, ap}
-use lib.ListN.{length}
-use Rattle.board.specs.Lengths.{length_mapped}
-use Rattle.limits.specs.Limits.{max_members}
+use Prim.Native.Nat.{◌+◌, ◌-◌}
+use mathlib.Core.Path.{◌≡◌}
 use Rattle.answer.proofs.Stores.{trunk_joined}
-use borrow.Author.Rules.{rules}
 use Rattle.answer.proofs.put_bundle.Goals as goal
-use Rattle.answer.proofs.put_bundle.Goals.{Start}
 
-rows : (s : Start) → length s.args.t.rows ≡ max_members
-rows s = search (rules, length_mapped)
-
-pub returns : goal.returns
-returns c =
+pub returns-clause-bytes : goal.returns-clause-bytes
+returns-clause-bytes c =
     let a = c.args in
-    let r = rows (goal.at.returns c).Start in
-    record { bytes = trunk_joined a.t.rows a.t.count a.b (omega arith) c.requires.0 _ _ _ _ c.put_trunk_head.ensures c.put_taps.ensures.bytes; place = omega (arith, c.put_taps.ensures.place) }
+    let k : a.b.first + a.b.count - a.b.first ≡ a.b.count = omega arith in
+    trunk_joined a.taps.now a.b c.requires.0 _ _ _ _ c.put_trunk_head.ensures (rw k at c.put_records.ensures.bytes)

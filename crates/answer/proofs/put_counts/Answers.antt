@@ -1,7 +1,4 @@
-use Prim.Native.Nat.{◌-◌}
-use lib.ListN.{length}
 use Rattle.answer.proofs.Stores.{counts_joined}
-use borrow.Author.Rules.{rules}
 use Rattle.answer.proofs.put_counts.Goals as goal
 
 pub returns : goal.returns

@@ -1,23 +1,5 @@
-use native.Mathlib.Omega.{arith}
-use Prim.Native.Nat.{◌-◌}
-use lib.ListN.{length, length-set}
-use native.Mathlib.Numerals.{add-one, add-two, add-three}
-use Rattle.wire.specs.Bytes.{bytes}
-use borrow.Author.Rules.{rules}
+use Rattle.answer.proofs.Stores.{low_four}
 use Rattle.answer.proofs.put_id.Goals as goal
 
-pub bounds-out-at-2 : goal.bounds-out-at-2
-bounds-out-at-2 c = simp length-set (omega arith)
-
-pub bounds-out-at-3 : goal.bounds-out-at-3
-bounds-out-at-3 c = simp length-set (omega arith)
-
-pub bounds-out-at-4 : goal.bounds-out-at-4
-bounds-out-at-4 c = simp length-set (omega arith)
-
-pub shape_of-out : goal.shape_of-out
-shape_of-out c = simp length-set
-
 pub returns : goal.returns
-unfolding bytes
-returns c = simp (add-one, add-two, add-three)
+returns c = rw (c.put32.ensures, low_four)

@@ -1,10 +1,8 @@
 use native.Mathlib.Omega.{arith}
 use Prim.Native.Nat.{◌+◌, ◌-◌}
 use mathlib.Core.Path.{◌≡◌}
-use lib.ListN.{length}
 use Rattle.route.specs.Window.{points_length}
 use Rattle.answer.proofs.Stores.{line_joined}
-use borrow.Author.Rules.{rules}
 use Rattle.answer.proofs.put_line.Goals as goal
 
 pub returns : goal.returns

@@ -1,7 +1,4 @@
-use Prim.Native.Nat.{◌-◌}
-use lib.ListN.{length}
 use Rattle.answer.proofs.Stores.{point_joined}
-use borrow.Author.Rules.{rules}
 use Rattle.answer.proofs.put_point.Goals as goal
 
 pub returns : goal.returns

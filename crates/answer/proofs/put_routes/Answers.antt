@@ -1,14 +1,10 @@
 use native.Mathlib.Omega.{arith}
-use Prim.Native.Nat.{◌≤◌, ◌+◌, ◌-◌}
 use mathlib.Core.Path.{◌≡◌, sym, ap, ◌∙◌}
-use lib.ListN.{length, take, drop}
+use lib.ListN.{length}
 use lib.Seq.{sets}
 use Rattle.board.specs.Lengths.{length_mapped}
 use Rattle.limits.specs.Limits.{max_edges}
-use Rattle.wire.specs.Bytes.{bytes}
-use Rattle.answer.specs.Answer.{all_bytes, lines_of, line_bytes}
 use Rattle.answer.proofs.Stores.{some_edge, line_turn, line_room, lines_done}
-use Rattle.route.specs.Slots.{routes_from, routes_of}
 use borrow.Author.Rules.{rules}
 use Rattle.answer.proofs.put_routes.Goals as goal
 use Rattle.answer.proofs.put_routes.Goals.{Start}
@@ -30,15 +26,12 @@ loop-i-preserved c =
     let a = c.args in
     let l = c.loop-i in
     let f = c.put_line-at in
-    let k = f.auto.out in
     let r = rows (goal.at.loop-i-preserved c).Start in
     let e = f.ensures.place in
-    let w = line_room a.t.rows a.slots.now a.counts.now a.t.count l.i some_edge (omega arith) c.requires.1 (omega arith) in (
-      omega arith,
-      omega arith,
-      omega arith,
-      line_turn a.t.rows a.slots.now a.counts.now a.t.count l.i _ (omega arith) c.requires.1 l.out f.new.out l.at _ e (omega arith) f.ensures.bytes ∙ l.invariant.3,
-    )
+    let w = line_room a.t.rows a.slots.now a.counts.now a.t.count l.i some_edge (omega arith) c.requires.1 (omega arith) in record {
+      place = omega arith;
+      bytes = line_turn a.t.rows a.slots.now a.counts.now a.t.count l.i _ (omega arith) c.requires.1 l.out f.new.out l.at _ e (omega arith) f.ensures.bytes ∙ l.invariant.bytes;
+    }
 
 pub returns : goal.returns
 returns c =
@@ -47,4 +40,4 @@ returns c =
     let r = rows (goal.at.returns c).Start in
     let z = lines_done a.t.rows a.slots.now a.counts.now a.t.count l.i (omega arith) (omega arith) in
     let y = ap length z in
-    record { bytes = ap (λ x. sets l.out l.at x) (sym z) ∙ l.invariant.3; place = omega arith }
+    record { bytes = ap (λ x. sets l.out l.at x) (sym z) ∙ l.invariant.bytes; place = omega arith }

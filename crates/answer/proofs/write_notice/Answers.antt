@@ -1,8 +1,5 @@
-use Prim.Native.Nat.{◌-◌}
 use mathlib.Core.Path.{refl}
-use lib.ListN.{length}
 use Rattle.answer.proofs.Stores.{notice_joined}
-use borrow.Author.Rules.{rules}
 use Rattle.answer.proofs.write_notice.Goals as goal
 
 pub returns : goal.returns

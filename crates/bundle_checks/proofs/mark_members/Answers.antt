@@ -1,40 +1,34 @@
-use borrow.Author.Rules.{rules}
-use native.Mathlib.Omega.{arith}
-use mathlib.Core.Path.{◌≡◌, refl, sym, ap, ◌∙◌}
-use Prim.Native.Nat.{ℕ, suc, ◌≤◌, ◌<◌, ◌+◌, ◌-◌, ◌*◌}
-use lib.ListN.{length, get_or, take}
-use mathlib.Core.Bool.{true, false}
-use mathlib.Core.List.{[]}
-use lib.ListN.{length-set}
-use Rattle.checks.specs.MemberSlices.{members_from, Known}
-use Rattle.bundle_checks.proofs.Marked.{MarkedTo, marked_start, marked_next, marked_end}
+use Rattle.std.proofs.Common.{arith, ℕ, ◌+◌, ◌-◌, ◌<◌, ◌≤◌, ◌≡◌, ◌∙◌, List, get_or, take, drop, length, get_or-take, get_or-drop}
+use Rattle.std.proofs.Common.{length-drop}
+use Rattle.std.proofs.Math.Seq.{length-take-le}
+use Rattle.bundle_checks.proofs.Marked.{marked_next, marked_end}
 use Rattle.bundle_checks.proofs.mark_members.Goals as goal
 
-pub loop-i-init : goal.loop-i-init
-loop-i-init c =
-    let a = c.args in
-    let k = c.clear_mask.auto.mask in
-    (omega arith, refl, c.requires.0, (λ j m. let z = c.requires.1 j m in omega (arith, z, k)), marked_start a.edges.now a.first a.count c.clear_mask.new.mask c.clear_mask.ensures)
+-- a member's edge, in the window of the bundle's members
+in_window : (edges : List ℕ) (first count i : ℕ) → i < count → get_or (take (first + count - first) (drop first edges)) i 0 ≡ get_or edges (first + i) 0
+in_window edges first count i h =
+    let w : i < first + count - first = omega arith in
+    get_or-take (first + count - first) (drop first edges) i 0 w ∙ get_or-drop first edges i 0
 
-pub bounds-mask-edges : goal.bounds-mask-edges
-bounds-mask-edges c =
-    let a = c.args in
-    let l = c.loop-i in
-    let k = l.invariant.3 l.i c.loop-i-test.true in
-    let q : get_or a.edges.now (a.first + l.i) 0 < length l.mask = omega (arith, k) in
-    q
+window_long : (edges : List ℕ) (first count : ℕ) → first + count ≤ length edges → length (take (first + count - first) (drop first edges)) ≡ count
+window_long edges first count h =
+    let e = length-drop first edges in
+    let w : first + count - first ≡ count = omega arith in
+    length-take-le (first + count - first) (drop first edges) (omega (arith, e)) ∙ w
 
-pub loop-i-preserved : goal.loop-i-preserved
-loop-i-preserved c =
+pub loop-e-preserved : goal.loop-e-preserved
+loop-e-preserved c =
     let a = c.args in
-    let l = c.loop-i in
-    let h = c.loop-i-test.true in
-    let k = l.invariant.3 l.i h in
-    let z = length-set l.mask (get_or a.edges.now (a.first + l.i) 0) true in
-    (omega arith, omega arith, l.invariant.2, l.invariant.3, marked_next a.edges.now a.first a.count l.mask l.i h (omega (arith, k)) l.invariant.4)
+    let l = c.loop-e in
+    let n = window_long a.edges.now a.first a.count c.requires.0 in
+    let h : l.e-index < a.count = omega (arith, n) in
+    let k = c.requires.1 l.e-index h in
+    rw (in_window a.edges.now a.first a.count l.e-index h)
+    (marked_next a.edges.now a.first a.count l.mask l.e-index h (omega (arith, k)) l.invariant)
 
 pub returns : goal.returns
 returns c =
     let a = c.args in
-    let l = c.loop-i in
-    marked_end a.edges.now a.first a.count l.mask l.i c.loop-i-test.false l.invariant.4
+    let l = c.loop-e in
+    let n = window_long a.edges.now a.first a.count c.requires.0 in
+    marked_end a.edges.now a.first a.count l.mask l.e-index (omega (arith, n)) l.invariant

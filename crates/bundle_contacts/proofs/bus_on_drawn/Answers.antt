@@ -1,10 +1,12 @@
-use mathlib.Core.Path.{◌∙◌}
+use Rattle.std.proofs.Common.{◌∙◌}
+use Rattle.std.proofs.lemmas.Result.{err_from_is_err_and}
 use Rattle.checks.proofs.TestSteps.{then_on, then_off}
-use borrow.Author.Rules.{rules}
 use Rattle.bundle_contacts.proofs.bus_on_drawn.Goals as goal
 
-pub returns-in-Refused : goal.returns-in-Refused
-returns-in-Refused c = then_off 11 _ _ _ _ _ c.bus_on_run-f.ensures _ c.in-Refused.is
+pub returns-in_err-bus_on_run : goal.returns-in_err-bus_on_run
+returns-in_err-bus_on_run c =
+    let p = err_from_is_err_and c.from_residual.result c.from_residual.ensures.1 in
+    rw (p.1, p.2) (then_off 11 _ _ _ _ _ c.in_err-bus_on_run.ensures)
 
-pub returns-in-Clean : goal.returns-in-Clean
-returns-in-Clean c = c.bus_on_run.ensures ∙ then_on 11 _ _ _ _ _ c.bus_on_run-f.ensures c.in-Clean.is
+pub returns : goal.returns
+returns c = c.bus_on_run-2.ensures ∙ then_on 11 _ _ _ _ c.in_ok-bus_on_run.ensures

@@ -1,13 +1,15 @@
-use mathlib.Core.Path.{◌∙◌}
+use Rattle.std.proofs.Common.{◌∙◌}
+use Rattle.std.proofs.lemmas.Result.{err_from_is_err_and}
 use Rattle.drawing.specs.Check.{pair_tests}
 use Rattle.checks.proofs.TestSteps.{then_on, then_off}
-use borrow.Author.Rules.{rules}
 use Rattle.bundle_contacts.proofs.drawn_on_drawn.Goals as goal
 
-pub returns-in-Refused : goal.returns-in-Refused
+pub returns-in_err-bus_on_drawn : goal.returns-in_err-bus_on_drawn
 unfolding pair_tests
-returns-in-Refused c = then_off 11 _ _ _ _ _ c.bus_on_drawn-f.ensures _ c.in-Refused.is
+returns-in_err-bus_on_drawn c =
+    let p = err_from_is_err_and c.from_residual.result c.from_residual.ensures.1 in
+    rw (p.1, p.2) (then_off 11 _ _ _ _ _ c.in_err-bus_on_drawn.ensures)
 
-pub returns-in-Clean : goal.returns-in-Clean
+pub returns : goal.returns
 unfolding pair_tests
-returns-in-Clean c = c.bus_on_drawn.ensures ∙ then_on 11 _ _ _ _ _ c.bus_on_drawn-f.ensures c.in-Clean.is
+returns c = c.bus_on_drawn-2.ensures ∙ then_on 11 _ _ _ _ c.in_ok-bus_on_drawn.ensures

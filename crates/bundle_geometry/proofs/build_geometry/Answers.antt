@@ -1,8 +1,3 @@
-use borrow.Author.Rules.{rules}
-use native.Mathlib.Omega.{arith}
-use mathlib.Core.Path.{◌≡◌, refl, sym, ap, ◌∙◌}
-use Prim.Native.Nat.{ℕ, suc, ◌≤◌, ◌<◌, ◌+◌, ◌-◌, ◌*◌}
-use lib.ListN.{length, get_or, take}
 use Rattle.route.specs.Slots.{routes_of}
 use Rattle.checks.specs.MemberSlices.{drawn_row, inside_with, railed_with}
 use Rattle.bundle_geometry.proofs.Taps.{untouched_both}

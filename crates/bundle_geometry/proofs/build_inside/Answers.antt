@@ -1,8 +1,3 @@
-use borrow.Author.Rules.{rules}
-use native.Mathlib.Omega.{arith}
-use mathlib.Core.Path.{◌≡◌, refl, sym, ap, ◌∙◌}
-use Prim.Native.Nat.{ℕ, suc, ◌≤◌, ◌<◌, ◌+◌, ◌-◌, ◌*◌}
-use lib.ListN.{length, get_or, take}
 use Rattle.checks.specs.MemberSlices.{inside_with}
 use Rattle.bundle_geometry.proofs.build_inside.Goals as goal
 

@@ -1,8 +1,4 @@
-use borrow.Author.Rules.{rules}
-use native.Mathlib.Omega.{arith}
-use mathlib.Core.Path.{◌≡◌, refl, sym, ap, ◌∙◌}
-use Prim.Native.Nat.{ℕ, suc, ◌≤◌, ◌<◌, ◌+◌, ◌-◌, ◌*◌}
-use lib.ListN.{length, get_or, take}
+use mathlib.Core.Path.{ap}
 use mathlib.Core.Bool.{Bool}
 use Rattle.geometry.specs.declared.Segment.{Segment}
 use Rattle.board.specs.declared.Bundle.{Bundle}

@@ -1,8 +1,3 @@
-use borrow.Author.Rules.{rules}
-use native.Mathlib.Omega.{arith}
-use mathlib.Core.Path.{◌≡◌, refl, sym, ap, ◌∙◌}
-use Prim.Native.Nat.{ℕ, suc, ◌≤◌, ◌<◌, ◌+◌, ◌-◌, ◌*◌}
-use lib.ListN.{length, get_or, take}
 use mathlib.Core.List.{[]}
 use Rattle.bundle_geometry.proofs.Taps.{rail_none, rail_first, rail_last}
 use Rattle.bundle_geometry.proofs.rail_reach.Goals as goal

@@ -1,8 +1,3 @@
-use borrow.Author.Rules.{rules}
-use native.Mathlib.Omega.{arith}
-use mathlib.Core.Path.{◌≡◌, refl, sym, ap, ◌∙◌}
-use Prim.Native.Nat.{ℕ, suc, ◌≤◌, ◌<◌, ◌+◌, ◌-◌, ◌*◌}
-use lib.ListN.{length, get_or, take}
 use Rattle.drawing.specs.Build.{trunk_met}
 use Rattle.bundle_geometry.proofs.trunk_tap.Goals as goal
 

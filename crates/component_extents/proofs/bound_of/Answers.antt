@@ -5,7 +5,6 @@ use Rattle.binary64.specs.Accepted.{zero64}
 use Rattle.geometry.specs.declared.Role.{Role}
 use Rattle.geometry.specs.declared.Role.TheVariants.{Input, Output}
 use Rattle.search.specs.declared.CollectorBounds.TheVariants.{Absent}
-use borrow.Author.Rules.{rules}
 use Rattle.components.specs.Settled.{bound_in}
 use Rattle.component_extents.proofs.bound_of.Goals as goal
 

@@ -1,6 +1,5 @@
 -- `component_extents::desired_of` meets its contract. Assumes nothing.
 use lib.Ieee.{of_bits}
-use borrow.Author.Rules.{rules}
 use Rattle.component_extents.proofs.desired_of.Goals as goal
 
 pub returns-in-Absent : goal.returns-in-Absent

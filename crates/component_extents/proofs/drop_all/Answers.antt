@@ -1,44 +1,41 @@
 -- `component_extents::drop_all` meets its contract. Assumes nothing.
-use mathlib.Core.Path.{◌≡◌, refl, ◌∙◌, ap}
+use mathlib.Core.Path.{refl, ◌∙◌, ap}
 use mathlib.Core.List.{List, map}
-use Prim.Native.Nat.{ℕ, ◌-◌, ◌≤◌}
+use Prim.Native.Nat.{ℕ}
 use native.Mathlib.Omega.{arith}
 use borrow.Author.Rules.{rules}
-use lib.ListN.{length, get_or, take, drop, length-set}
-use Rattle.limits.specs.Limits.{max_bundles}
+use lib.ListN.{get_or, take, length-set}
 use Rattle.plan.specs.declared.Bound.{Bound}
 use Rattle.plan.specs.declared.Bound.TheVariants.{None}
-use Rattle.plan.specs.Plan.{drop_all}
-use Rattle.plan.specs.Prepared.{Listing, x_of}
+use Rattle.plan.specs.Prepared.{x_of}
 use Rattle.plan.proofs.TableReads as rows
 use Rattle.plan.proofs.Agains as agains
 use Rattle.components.proofs.Turns as laws
 use Rattle.component_extents.proofs.drop_all.Goals as goal
 
 pub loop-k-init : goal.loop-k-init
-loop-k-init c = (omega arith, search (rules, rows.length_mapped), λ m h. refl)
+loop-k-init c = record { rows_length = search (rules, rows.length_mapped); xs_are = λ m h. refl }
 
 pub bounds-which-k : goal.bounds-which-k
 bounds-which-k c = omega (arith, c.requires.count_in, c.loop-k-test.true)
 
-pub offset_bounds-rows-i : goal.offset_bounds-rows-i
-offset_bounds-rows-i c = let h = c.requires.each c.loop-k.k c.loop-k-test.true in search rules
+pub offset_bounds-rows-which : goal.offset_bounds-rows-which
+offset_bounds-rows-which c = let h = c.requires.each c.loop-k.k c.loop-k-test.true in search rules
 
-pub bounds-rows-i : goal.bounds-rows-i
-bounds-rows-i c = let h = c.requires.each c.loop-k.k c.loop-k-test.true in omega (arith, c.loop-k.invariant.1)
+pub bounds-rows-which : goal.bounds-rows-which
+bounds-rows-which c = let h = c.requires.each c.loop-k.k c.loop-k-test.true in omega (arith, c.loop-k.invariant.rows_length)
 
 pub loop-k-preserved : goal.loop-k-preserved
 loop-k-preserved c =
     let a = c.args in
     let l = c.loop-k in
     let h = c.loop-k-test.true in
-    let i : ℕ = get_or a.which.now l.k 0 in (
-      omega (arith, h),
-      length-set l.rows i (record { x = None }) ∙ l.invariant.1,
-      λ m e.
+    let i : ℕ = get_or a.which.now l.k 0 in record {
+      rows_length = length-set l.rows i (record { x = None }) ∙ l.invariant.rows_length;
+      xs_are = λ m e.
           laws.drop_turn i _ _ (map x_of (take m l.rows)) _ (rows.part_cons a.which.now a.count l.k 0 h c.requires.count_in) (agains.x_set l.rows m i None (e.each l.k h))
-          ∙ l.invariant.2 m e,
-    )
+          ∙ l.invariant.xs_are m e;
+    }
 
 pub returns : goal.returns
 returns c =
@@ -47,4 +44,4 @@ returns c =
     λ m e.
     ap (λ (z : List Bound). record { xs = z; left = a.p.left.0 })
     (laws.drop_end _ (map x_of (take m l.rows)) (rows.part_none a.which.now a.count l.k c.loop-k-test.false c.requires.count_in)
-    ∙ l.invariant.2 m e)
+    ∙ l.invariant.xs_are m e)

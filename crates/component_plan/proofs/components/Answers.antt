@@ -20,7 +20,8 @@ use Rattle.components.proofs.Settles as settles
 use Rattle.component_plan.proofs.Joins as laws
 use Rattle.std.proofs.Common.{not}
 use Rattle.component_plan.proofs.components.Goals as goal
-use Rattle.component_plan.proofs.components.Goals.{After-component-w, Start}
+use Rattle.component_plan.proofs.components.Goals.{Start, then-not-seen-i+then-is_found+in_ok-p, else-not-seen-i, else-not-seen-i-via-then-not-seen-i+else-is_found, else-not-seen-i-via-else-not-seen-i}
+use Rattle.std.proofs.lemmas.Result.{err_from_is_err_and}
 
 long : (s : Start) → length (ranges_in s.args.t.count s.args.ranges) ≡ s.args.t.count
 long s =
@@ -42,80 +43,44 @@ none_seen s b given =
 found-read : (s : Start) (i : ℕ) (f : Bool) → i < s.args.t.count → f ≡ found? (range_at s.args.ranges i).bounds → f ≡ found? (ranged_at (ranges_in s.args.t.count s.args.ranges) i).bounds
 found-read s i f h e = e ∙ ap (λ (z : Ranged). found? z.bounds) (turns.range_read s.args.ranges.rows s.args.t.count i h)
 
-seen-length : (c : After-component-w) → length c.component-w.result.seen ≡ max_bundles
-seen-length c = search (rules, rows.length_mapped)
-
 pub loop-i-init : goal.loop-i-init
-loop-i-init c = (omega arith, refl, refl, refl, λ b given k e. refl)
+loop-i-init c = record { seen_length = refl; plan_is = λ b given k e. refl }
 
 pub component-w-requires : goal.component-w-requires
 component-w-requires c = (c.requires.all_among.bundles_few, c.loop-i-test.true)
 
-pub treat-step-requires : goal.treat-step-requires
-treat-step-requires c =
+pub treat-requires : goal.treat-requires
+treat-requires c =
     let a = c.args in
     let n = a.t.count in
     let l = c.loop-i in
     let w = c.component-w in
     let p = c.requires.searchable in
     let k : length w.result.order ≡ max_bundles = search (rules, rows.length_mapped) in
-    let few : w.result.count ≤ max_bundles = omega (arith, w.ensures.0, c.requires.all_among.bundles_few) in record { searchable = record { paired = p.paired; windows = p.windows; room = omega (arith, p.room, l.invariant.2); scratch_room = omega (arith, p.scratch_room, l.invariant.2, l.invariant.3) }; all_among = c.requires.all_among; count_le_max_bundles = (few, laws.component_listed a.adjacent.now n l.i w.result.count w.result.order (take n (set l.seen l.i true)) (take n w.result.seen) c.loop-i-test.true (omega (arith, few, k)) w.ensures.1) }
+    let few : w.result.count ≤ max_bundles = omega (arith, w.ensures.0, c.requires.all_among.bundles_few) in
+    record {
+      searchable = record { paired = p.paired; windows = p.windows; room = omega (arith, p.room); scratch_room = omega (arith, p.scratch_room) };
+      all_among = c.requires.all_among;
+      count_le_max_bundles = (few, laws.component_listed a.adjacent.now n l.i w.result.count w.result.order (take n (set l.seen l.i true)) (take n w.result.seen) c.loop-i-test.true (omega (arith, few, k)) w.ensures.1);
+    }
 
-pub returns-then-step : goal.returns-then-step
-returns-then-step c =
+pub returns-in_err-p : goal.returns-in_err-p
+returns-in_err-p c =
     let a = c.args in
     let n = a.t.count in
     let l = c.loop-i in
     let h = c.loop-i-test.true in
-    let m : l.i < length l.seen = omega (arith, h, l.invariant.1, c.requires.all_among.bundles_few) in
+    let m : l.i < length l.seen = omega (arith, h, l.invariant.seen_length, c.requires.all_among.bundles_few) in
     let w = c.component-w in
-    let f = c.treat-step in
-    λ b given k e.
-    laws.turn_refused b given (ranges_in n a.ranges) n l.seen l.i _ _ (plan_in n l.p) (next (goal.at.returns-then-step c).Start l.i h) h m (ap not c.if-not-seen-at.true) c.is_found.result (found-read (goal.at.returns-then-step c).Start l.i c.is_found.result h c.is_found.ensures)
-    (component_from n w.result) (step_in n f.result) c.if-is_found.true
-    (laws.component_is a.adjacent.now n b given (ranges_in n a.ranges) l.i l.seen (component_from n w.result) (long (goal.at.returns-then-step c).Start) h e w.ensures.1)
-    (f.ensures b given k)
-    f.result.plan.left.0 (settles.step_refused n f.result c.if-step.true)
-    ∙ l.invariant.4 b given k e
-    ∙ none_seen (goal.at.returns-then-step c).Start b given
-
-pub loop-i-preserved-then-is_found : goal.loop-i-preserved-then-is_found
-loop-i-preserved-then-is_found c =
-    let a = c.args in
-    let n = a.t.count in
-    let l = c.loop-i in
-    let h = c.loop-i-test.true in
-    let m : l.i < length l.seen = omega (arith, h, l.invariant.1, c.requires.all_among.bundles_few) in
-    let w = c.component-w in
-    let f = c.treat-step in (
-      omega (arith, h),
-      seen-length (goal.at.loop-i-preserved-then-is_found c).After-component-w,
-      omega (arith, l.invariant.2, f.auto.xs),
-      omega (arith, l.invariant.3, f.auto.scratch),
-      λ b given k e.
-          laws.turn_going b given (ranges_in n a.ranges) n l.seen l.i _ _ (plan_in n l.p) (next (goal.at.loop-i-preserved-then-is_found c).Start l.i h) h m (ap not c.if-not-seen-at.true) c.is_found.result (found-read (goal.at.loop-i-preserved-then-is_found c).Start l.i c.is_found.result h c.is_found.ensures)
-          (component_from n w.result) (step_in n f.result) c.if-is_found.true
-          (laws.component_is a.adjacent.now n b given (ranges_in n a.ranges) l.i l.seen (component_from n w.result) (long (goal.at.loop-i-preserved-then-is_found c).Start) h e w.ensures.1)
-          (f.ensures b given k)
-          (plan_in n f.result.plan) (settles.step_going n f.result c.if-step.false)
-          ∙ l.invariant.4 b given k e,
-    )
-
-pub loop-i-preserved-else-is_found : goal.loop-i-preserved-else-is_found
-loop-i-preserved-else-is_found c =
-    let a = c.args in
-    let n = a.t.count in
-    let l = c.loop-i in
-    let h = c.loop-i-test.true in
-    let m : l.i < length l.seen = omega (arith, h, l.invariant.1, c.requires.all_among.bundles_few) in (
-      omega (arith, h),
-      l.invariant.1,
-      l.invariant.2,
-      l.invariant.3,
-      λ b given k e.
-          laws.turn_absent b given (ranges_in n a.ranges) n l.seen l.i _ _ (plan_in n l.p) (next (goal.at.loop-i-preserved-else-is_found c).Start l.i h) h m (ap not c.if-not-seen-at.true) c.is_found.result (found-read (goal.at.loop-i-preserved-else-is_found c).Start l.i c.is_found.result h c.is_found.ensures) c.if-is_found.false
-          ∙ l.invariant.4 b given k e,
-    )
+    let r = err_from_is_err_and c.from_residual.result c.from_residual.ensures.1 in
+    rw (r.1, r.2) (λ b given k e.
+    laws.turn_refused b given (ranges_in n a.ranges) n l.seen l.i _ _ (plan_in n l.p) (next (goal.at.returns-in_err-p c).Start l.i h) h m c.if-not-seen-i.true c.is_found.result (found-read (goal.at.returns-in_err-p c).Start l.i c.is_found.result h c.is_found.ensures)
+    (component_from n w.result) _ c.if-is_found.true
+    (laws.component_is a.adjacent.now n b given (ranges_in n a.ranges) l.i l.seen (component_from n w.result) (long (goal.at.returns-in_err-p c).Start) h e w.ensures.1)
+    (c.in_err-p.ensures b given k)
+    _ refl
+    ∙ l.invariant.plan_is b given k e
+    ∙ none_seen (goal.at.returns-in_err-p c).Start b given)
 
 pub loop-i-preserved : goal.loop-i-preserved
 loop-i-preserved c =
@@ -123,8 +88,33 @@ loop-i-preserved c =
     let n = a.t.count in
     let l = c.loop-i in
     let h = c.loop-i-test.true in
-    let m : l.i < length l.seen = omega (arith, h, l.invariant.1, c.requires.all_among.bundles_few) in
-    (omega (arith, h), l.invariant.1, l.invariant.2, l.invariant.3, λ b given k e. laws.turn_seen b given (ranges_in n a.ranges) n l.seen l.i _ _ (plan_in n l.p) (next (goal.at.loop-i-preserved c).Start l.i h) h m (ap not c.if-not-seen-at.false) ∙ l.invariant.4 b given k e)
+    let m : l.i < length l.seen = omega (arith, h, l.invariant.seen_length, c.requires.all_among.bundles_few) in
+    let s = (goal.at.loop-i-preserved c).Start in
+    elim c.if-not-seen-i.branch [
+      | then-not-seen-i+then-is_found+in_ok-p v ↦
+          let w = v.component-w in
+          rw (v.seen-is, v.p-is) (record {
+            seen_length = search (rules, rows.length_mapped);
+            plan_is = λ b given k e.
+                laws.turn_going b given (ranges_in n a.ranges) n l.seen l.i _ _ (plan_in n l.p) (next s l.i h) h m v.if-not-seen-i.true v.is_found.result (found-read s l.i v.is_found.result h v.is_found.ensures)
+                (component_from n w.result) _ v.if-is_found.true
+                (laws.component_is a.adjacent.now n b given (ranges_in n a.ranges) l.i l.seen (component_from n w.result) (long s) h e w.ensures.1)
+                (v.in_ok-p.ensures b given k)
+                _ refl
+                ∙ l.invariant.plan_is b given k e;
+          })
+      | else-not-seen-i v ↦ rw (v.seen-is, v.p-is) (record {
+        seen_length = l.invariant.seen_length;
+        plan_is = λ b given k e.
+            (elim v.else-not-seen-i.branch [
+              | else-not-seen-i-via-then-not-seen-i+else-is_found u ↦
+                  laws.turn_absent b given (ranges_in n a.ranges) n l.seen l.i _ _ (plan_in n l.p) (next s l.i h) h m u.if-not-seen-i.true u.is_found.result (found-read s l.i u.is_found.result h u.is_found.ensures) u.if-is_found.false
+              | else-not-seen-i-via-else-not-seen-i u ↦
+                  laws.turn_seen b given (ranges_in n a.ranges) n l.seen l.i _ _ (plan_in n l.p) (next s l.i h) h m u.if-not-seen-i.false
+            ])
+            ∙ l.invariant.plan_is b given k e;
+      })
+    ]
 
 pub returns : goal.returns
 returns c =
@@ -134,5 +124,5 @@ returns c =
     let h : length (ranges_in n a.ranges) ≤ l.i = omega (arith, c.loop-i-test.false, long (goal.at.returns c).Start) in
     λ b given k e.
     laws.turns_end b given (ranges_in n a.ranges) (take n l.seen) _ (plan_in n l.p) (laws.indices_none (ranges_in n a.ranges) l.i h)
-    ∙ l.invariant.4 b given k e
+    ∙ l.invariant.plan_is b given k e
     ∙ none_seen (goal.at.returns c).Start b given

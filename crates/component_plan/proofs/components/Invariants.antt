@@ -20,11 +20,9 @@ use Rattle.component_plan.proofs.Joins as laws
 use Rattle.component_plan.proofs.components.Given as goal
 
 abbrev pub invariant-loop-i : goal.invariant-loop-i
-invariant-loop-i l =
-    (l.i ≤ l.n) × (length l.seen ≡ max_bundles) × (length l.xs ≡ length l.initial.xs) × (length l.scratch ≡ length l.initial.scratch)
-    × ((b : Board) (given : List Route) → Known b given l.points l.starts l.counts l.rail l.pitch l.t (ranges_in l.n l.ranges) → Neighboured b given (ranges_in l.n l.ranges) l.n l.adjacent
-    → components search_of b given (ranges_in l.n l.ranges) (drop l.i (indices_from 0 (ranges_in l.n l.ranges))) (take l.n l.seen) (plan_in l.n l.p)
-    ≡ components search_of b given (ranges_in l.n l.ranges) (indices_from 0 (ranges_in l.n l.ranges)) (take l.n l.initial.seen) (plan_in l.n l.initial.p))
-
-abbrev pub decreases-loop-i : goal.decreases-loop-i
-decreases-loop-i l = l.n - l.i
+invariant-loop-i l = record {
+  seen_length : length l.seen ≡ max_bundles;
+  plan_is : (b : Board) (given : List Route) → Known b given l.points l.starts l.counts l.rail l.pitch l.t (ranges_in l.n l.ranges) → Neighboured b given (ranges_in l.n l.ranges) l.n l.adjacent
+      → components search_of b given (ranges_in l.n l.ranges) (drop l.i (indices_from 0 (ranges_in l.n l.ranges))) (take l.n l.seen) (plan_in l.n l.p)
+      ≡ components search_of b given (ranges_in l.n l.ranges) (indices_from 0 (ranges_in l.n l.ranges)) (take l.n l.initial.seen) (plan_in l.n l.initial.p);
+}

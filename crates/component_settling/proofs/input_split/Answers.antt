@@ -1,6 +1,5 @@
 -- `component_settling::input_split` meets its contract. Assumes nothing.
 use lib.Ieee.{of_bits, of_int}
-use borrow.Author.Rules.{rules}
 use Rattle.component_settling.proofs.input_split.Goals as goal
 
 pub returns : goal.returns

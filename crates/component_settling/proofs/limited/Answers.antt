@@ -1,5 +1,4 @@
 -- `component_settling::limited` meets its contract. Assumes nothing.
-use borrow.Author.Rules.{rules}
 use lib.ListN.{take}
 use Rattle.plan.specs.Prepared.{plan_in}
 use Rattle.components.proofs.Settles as laws

@@ -1,7 +1,6 @@
 -- `component_settling::treat` meets its contract. Assumes nothing.
 use Prim.Native.Nat.{◌<◌}
 use native.Mathlib.Omega.{arith}
-use borrow.Author.Rules.{rules}
 use lib.ListN.{get_or, take, drop}
 use Rattle.limits.specs.Limits.{max_bundles}
 use Rattle.plan.specs.Prepared.{plan_in}

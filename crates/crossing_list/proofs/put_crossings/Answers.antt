@@ -1,9 +1,8 @@
 -- `crossing_list::put_crossings` meets its contract. Assumes nothing.
-use mathlib.Core.Path.{◌≡◌, sym}
+use mathlib.Core.Path.{sym}
 use native.Mathlib.Omega.{arith}
 use lib.Seq.{length-take-le}
 use Rattle.crossing_bytes.proofs.Laws.{front_fits, front_written}
-use borrow.Author.Rules.{rules}
 use Rattle.crossing_list.proofs.put_crossings.Goals as goal
 
 pub slice_bounds-put_sorted-end : goal.slice_bounds-put_sorted-end

@@ -1,6 +1,5 @@
 -- `crossing_list::put_entry` meets its contract. Assumes nothing.
 use Rattle.crossing_bytes.proofs.Laws.{entry_joined}
-use borrow.Author.Rules.{rules}
 use Rattle.crossing_list.proofs.put_entry.Goals as goal
 
 pub returns : goal.returns

@@ -1,9 +1,8 @@
 -- `crossing_list::put_list` meets its contract. Assumes nothing.
-use mathlib.Core.Path.{◌≡◌, sym}
+use mathlib.Core.Path.{sym}
 use lib.ListN.{length-map}
 use Rattle.crossing_rows.specs.Rows.{row_at}
 use Rattle.crossing_bytes.proofs.Laws.{list_joined}
-use borrow.Author.Rules.{rules}
 use Rattle.crossing_list.proofs.put_list.Goals as goal
 
 pub returns : goal.returns

@@ -1,6 +1,5 @@
 -- `crossing_list::put_row` meets its contract. Assumes nothing.
 use Rattle.crossing_rows.specs.Rows.{row_at}
-use borrow.Author.Rules.{rules}
 use Rattle.crossing_list.proofs.put_row.Goals as goal
 
 pub returns : goal.returns

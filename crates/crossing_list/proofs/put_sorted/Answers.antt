@@ -2,9 +2,8 @@
 use Rattle.crossing_bytes.proofs.Laws.{order_below, order_written, order_length}
 use lib.Seq.{sets}
 use lib.ListN.{length}
-use mathlib.Core.Path.{◌≡◌, refl, sym, ap, ◌∙◌}
+use mathlib.Core.Path.{ap, ◌∙◌}
 use native.Mathlib.Omega.{arith}
-use borrow.Author.Rules.{rules}
 use Rattle.crossing_list.proofs.put_sorted.Goals as goal
 
 pub put_list-requires : goal.put_list-requires

@@ -1,8 +1,7 @@
 -- `crossing_walk::is_crossing` meets its contract. Assumes nothing.
 use Rattle.geometry.specs.Crossing.{is_strict}
 use Rattle.crossing_rows.specs.Walk.{apart_crosses}
-use mathlib.Core.Path.{◌≡◌, sym, ap, ◌∙◌}
-use borrow.Author.Rules.{rules}
+use mathlib.Core.Path.{ap, ◌∙◌}
 use Rattle.crossing_walk.proofs.is_crossing.Goals as goal
 
 pub returns-then-is_apart : goal.returns-then-is_apart

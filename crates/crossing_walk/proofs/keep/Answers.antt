@@ -1,9 +1,7 @@
 -- `crossing_walk::keep` meets its contract. Assumes nothing.
-use mathlib.Core.Path.{◌≡◌, sym, subst}
 use Rattle.crossing_rows.specs.Keep.{keep_more, keep_none}
 use lib.ListN.{length-set}
 use native.Mathlib.Omega.{arith}
-use borrow.Author.Rules.{rules}
 use Rattle.crossing_walk.proofs.keep.Goals as goal
 
 pub returns-then-n-ge-MAX_CROSSINGS : goal.returns-then-n-ge-MAX_CROSSINGS

@@ -1,12 +1,8 @@
 -- `crossing_walk::sheet_crossings` meets its contract. Assumes nothing.
-use mathlib.Core.Path.{◌≡◌, sym}
-use Prim.Native.Nat.{◌≤◌}
+use mathlib.Core.Path.{sym}
 use native.Mathlib.Omega.{arith}
-use lib.ListN.{length, take}
 use lib.Seq.{length-take-le}
-use Rattle.limits.specs.Limits.{max_edges}
 use Rattle.crossing_rows.specs.Walk.{none_kept, permitted_kept}
-use borrow.Author.Rules.{rules}
 use Rattle.std.proofs.Common.{ap, not}
 use Rattle.crossing_walk.proofs.sheet_crossings.Goals as goal
 

@@ -1,7 +1,6 @@
 -- `crossing_walk::walk_route` meets its contract. Assumes nothing.
 use Rattle.crossing_rows.specs.Walk.{route_grown}
 use Rattle.geometry.specs.Points.{points_from}
-use borrow.Author.Rules.{rules}
 use Rattle.crossing_walk.proofs.walk_route.Goals as goal
 
 pub returns : goal.returns

@@ -1,7 +1,6 @@
 -- `crossing_walk::walk_run` meets its contract. Assumes nothing.
 use Rattle.crossing_rows.specs.Keep.{grown_none}
 use Rattle.crossing_rows.specs.Walk.{grown_as, row_hit, row_miss}
-use borrow.Author.Rules.{rules}
 use Rattle.crossing_walk.proofs.walk_run.Goals as goal
 
 pub returns-then-is_crossing : goal.returns-then-is_crossing

@@ -9,8 +9,11 @@ use lib.Seq.{sets, length-take-le, length_front}
 use lib.Ieee.{Float}
 use Rattle.limits.specs.Limits.{max_bundles, id_columns, search_work}
 use Rattle.board.specs.declared.DrawnBundles.{DrawnBundles}
+use Rattle.checks.specs.Purse.{told}
 use Rattle.job_tables.specs.Came.{Sizes, job_in}
-use Rattle.plan_reader.specs.declared.PlanRead.{PlanRead}
+use Rattle.std.specs.Prelude.{Result}
+use Rattle.plan.specs.declared.Planning.{Planning}
+use Rattle.refusal.specs.declared.Refusal.{Refusal}
 use Rattle.plan_reader.specs.Reading.{told_plan}
 use Rattle.plan_stage.specs.Entries.{plan_phase}
 use Rattle.job_tables.proofs.Ready.{bundles_in, tables_sound, routes_in}
@@ -27,7 +30,7 @@ use Rattle.draw_job.proofs.Ready as ready
 use Rattle.draw_job.proofs.Phases as laws
 use borrow.Author.Rules.{rules}
 use Rattle.draw_job.proofs.draw_in.Goals as goal
-use Rattle.draw_job.proofs.draw_in.Goals.{After-normalize_layout-l, In-Clean, Joined-wants, Joined-wants-2, Start, then-wants, else-wants, then-wants-2+else-too_many, else-wants-2, then-wants-3, else-wants-3}
+use Rattle.draw_job.proofs.draw_in.Goals.{After-normalize_layout-l, In-Ok-ended, Joined-wants, Joined-wants-2, Start, then-wants, else-wants, then-wants-2+else-too_many, else-wants-2, then-wants-3, else-wants-3}
 
 sizes : (s : Start) → Sizes s.args.j
 sizes s = record {
@@ -47,7 +50,7 @@ chosen c =
     let s = chosen-start c in
     let a = s.args in
     let n = a.j.bundles.count in
-    let same : PlanRead → Type 0 = λ r. told_plan n r ≡ plan_phase a.wants.plan (job_in a.j a.given.now) a.plan.now in
+    let same : Result Planning Refusal → Type 0 = λ r. told_plan n r ≡ plan_phase a.wants.plan (job_in a.j a.given.now) a.plan.now in
     elim c.if-wants.branch [
       | then-wants x ↦ subst same (sym x.p-is) (laws.given_phase a.j a.given.now a.wants.plan x.if-wants.true (bundles_in a.j a.given.now s.requires.came.0 (sizes s)) a.plan.now x.read_plan-p.result x.read_plan-p.ensures)
       | else-wants x ↦ subst same (sym x.p-is) (laws.own_phase a.j a.given.now s.requires.came.0 (sizes s) x.plan_interior_collectors.result x.plan_interior_collectors.ensures a.wants.plan x.if-wants.false a.plan.now x.own_plan-p.result x.own_plan-p.ensures)
@@ -65,33 +68,33 @@ sorted-kept : (c : Joined-wants) → length c.if-wants.sorted ≡ length (chosen
 sorted-kept c = elim c.if-wants.branch [ then-wants x ↦ ap length x.sorted-is | else-wants x ↦ ap length x.sorted-is ∙ x.plan_interior_collectors.auto.xs ]
 
 -- where every turn was clean: the slices after the last one
-abbrev start : In-Clean → Start
-start c = (goal.at.In-Clean c).Start
+abbrev start : In-Ok-ended → Start
+start c = (goal.at.In-Ok-ended c).Start
 
-abbrev drawn_by : In-Clean → DrawnBundles
+abbrev drawn_by : In-Ok-ended → DrawnBundles
 drawn_by c = c.draw_sheet-d.result.drawn
 
-abbrev edges_by : In-Clean → List ℕ
+abbrev edges_by : In-Ok-ended → List ℕ
 edges_by c = c.draw_sheet-d.new.edges
 
-abbrev taps_by : In-Clean → List Float
+abbrev taps_by : In-Ok-ended → List Float
 taps_by c = c.draw_sheet-d.new.taps
 
-abbrev points-by : In-Clean → List Float
+abbrev points-by : In-Ok-ended → List Float
 points-by c = c.draw_sheet-d.new.points
 
-abbrev counts-by : In-Clean → List ℕ
+abbrev counts-by : In-Ok-ended → List ℕ
 counts-by c = c.draw_sheet-d.new.counts
 
-on_sheet : (c : In-Clean) → OnSheet (start c).args.j (edges_by c) (drawn_by c) (points-by c) (counts-by c) (taps_by c)
+on_sheet : (c : In-Ok-ended) → OnSheet (start c).args.j (edges_by c) (drawn_by c) (points-by c) (counts-by c) (taps_by c)
 on_sheet c =
     let s = start c in
     let a = s.args in
     let d = c.draw_sheet-d in
-    let lent = laws.lent_as a.j _ _ _ _ c.if-wants.points _ _ _ (points_kept (goal.at.In-Clean c).Joined-wants) s.requires.lent in
-    laws.on_sheet a.j a.given.now s.requires.came.0 (sizes s) _ _ _ _ _ _ _ lent d.result.verdict (drawn_by c) (edges_by c) d.new.lanes (taps_by c) (points-by c) (counts-by c) d.auto.taps d.auto.points d.auto.counts _ c.in-Clean.is d.ensures.members d.ensures.rows d.ensures.full d.ensures.hold
+    let lent = laws.lent_as a.j _ _ _ _ c.if-wants.points _ _ _ (points_kept (goal.at.In-Ok-ended c).Joined-wants) s.requires.lent in
+    laws.on_sheet a.j a.given.now s.requires.came.0 (sizes s) _ _ _ _ _ _ _ lent (told d.result.ended d.new.visits.0) (drawn_by c) (edges_by c) d.new.lanes (taps_by c) (points-by c) (counts-by c) d.auto.taps d.auto.points d.auto.counts _ (laws.ended_clean d.result.ended d.new.visits.0 _ c.in-Ok-ended.is) d.ensures.members d.ensures.rows d.ensures.full d.ensures.hold
 
-windows : (c : In-Clean) → Windows (drawn_by c).count (drawn_by c).rows (start c).args.j.members.count
+windows : (c : In-Ok-ended) → Windows (drawn_by c).count (drawn_by c).rows (start c).args.j.members.count
 windows c = answers.windows (start c).args.j (edges_by c) (drawn_by c) (points-by c) (counts-by c) (taps_by c) (on_sheet c) (sizes (start c))
 
 -- the rows of the bundles drawn
@@ -99,11 +102,11 @@ long-drawn : (c : After-normalize_layout-l) → length c.normalize_layout-l.resu
 long-drawn c = search (rules, rows.length_mapped)
 
 -- the list past 19; which visits are left is no matter
-listed_by : (c : Joined-wants-2) (rest : ℕ) → Listed c.args.wants (finished c.args.j c.args.given.now c.if-wants.p.plan (edges_by (goal.at.Joined-wants-2 c).In-Clean) (drawn_by (goal.at.Joined-wants-2 c).In-Clean) (points-by (goal.at.Joined-wants-2 c).In-Clean) (counts-by (goal.at.Joined-wants-2 c).In-Clean) (taps_by (goal.at.Joined-wants-2 c).In-Clean) rest) (c.args.wants.page && not c.args.j.flags.on_grid) c.args.crossings.now c.if-wants-2.crossings
+listed_by : (c : Joined-wants-2) (rest : ℕ) → Listed c.args.wants (finished c.args.j c.args.given.now c.in-Ok.made (edges_by (goal.at.Joined-wants-2 c).In-Ok-ended) (drawn_by (goal.at.Joined-wants-2 c).In-Ok-ended) (points-by (goal.at.Joined-wants-2 c).In-Ok-ended) (counts-by (goal.at.Joined-wants-2 c).In-Ok-ended) (taps_by (goal.at.Joined-wants-2 c).In-Ok-ended) rest) (c.args.wants.page && not c.args.j.flags.on_grid) c.args.crossings.now c.if-wants-2.crossings
 listed_by c rest =
     let a = c.args in
     elim c.if-wants-2.branch [
-      | then-wants-2+else-too_many x ↦ listing.wanted_listed a.j a.given.now c.if-wants.p.plan (edges_by (goal.at.Joined-wants-2 c).In-Clean) (drawn_by (goal.at.Joined-wants-2 c).In-Clean) (points-by (goal.at.Joined-wants-2 c).In-Clean) (counts-by (goal.at.Joined-wants-2 c).In-Clean) (taps_by (goal.at.Joined-wants-2 c).In-Clean) rest (on_sheet (goal.at.Joined-wants-2 c).In-Clean) a.wants _ x.list_crossings-too_many.result _ _ x.if-wants-2.true x.list_crossings-too_many.ensures.too_many (x.crossings-is ∙ x.list_crossings-too_many.ensures.bytes) x.if-too_many.false
+      | then-wants-2+else-too_many x ↦ listing.wanted_listed a.j a.given.now c.in-Ok.made (edges_by (goal.at.Joined-wants-2 c).In-Ok-ended) (drawn_by (goal.at.Joined-wants-2 c).In-Ok-ended) (points-by (goal.at.Joined-wants-2 c).In-Ok-ended) (counts-by (goal.at.Joined-wants-2 c).In-Ok-ended) (taps_by (goal.at.Joined-wants-2 c).In-Ok-ended) rest (on_sheet (goal.at.Joined-wants-2 c).In-Ok-ended) a.wants _ x.list_crossings-too_many.result _ _ x.if-wants-2.true x.list_crossings-too_many.ensures.too_many (x.crossings-is ∙ x.list_crossings-too_many.ensures.bytes) x.if-too_many.false
       | else-wants-2 x ↦ listing.unwanted_listed a.wants _ _ _ _ x.if-wants-2.false x.crossings-is
     ]
 
@@ -129,17 +132,11 @@ plan_interior_collectors-requires c =
 pub write_notice-requires : goal.write_notice-requires
 write_notice-requires c = c.requires.came.1
 
-pub shape_of-sorted-then-p-ne0 : goal.shape_of-sorted-then-p-ne0
-shape_of-sorted-then-p-ne0 c = let k = sorted-kept (goal.at.shape_of-sorted-then-p-ne0 c).Joined-wants in omega (arith, k)
-
-pub shape_of-points-then-p-ne0 : goal.shape_of-points-then-p-ne0
-shape_of-points-then-p-ne0 c = let k = points_kept (goal.at.shape_of-points-then-p-ne0 c).Joined-wants in omega (arith, k)
-
-pub returns-then-p-ne0 : goal.returns-then-p-ne0
-returns-then-p-ne0 c =
+pub returns-in-Err : goal.returns-in-Err
+returns-in-Err c =
     let a = c.args in
     let w = c.write_notice.ensures in
-    laws.notice_writes _ _ _ _ _ (laws.refused_outputs a.wants _ _ (laws.phase_refused a.j a.given.now a.wants.plan a.plan.now c.if-wants.p (chosen (goal.at.returns-then-p-ne0 c).Joined-wants) c.if-p-ne0.true)) w.bytes refl refl w.place
+    laws.notice_writes _ _ _ _ _ (laws.refused_outputs a.wants _ _ (laws.phase_refused a.j a.given.now a.wants.plan a.plan.now c.if-wants.p (chosen (goal.at.returns-in-Err c).Joined-wants) c.in-Err.r c.from.result c.from.ensures c.in-Err.is)) w.bytes refl refl w.place
 
 pub draw_sheet-d-requires : goal.draw_sheet-d-requires
 draw_sheet-d-requires c =
@@ -147,30 +144,16 @@ draw_sheet-d-requires c =
     let lent = laws.lent_as a.j _ _ _ _ _ _ _ _ (points_kept (goal.at.draw_sheet-d-requires c).Joined-wants) c.requires.lent in
     record { tables = (tables_sound a.j a.given.now c.requires.came.0 (sizes (goal.at.draw_sheet-d-requires c).Start), routes_in a.j a.given.now c.requires.came.0 (sizes (goal.at.draw_sheet-d-requires c).Start)); once = (ready.follow a.j a.given.now c.requires.came.0 (sizes (goal.at.draw_sheet-d-requires c).Start), ready.once_a_role a.j a.given.now c.requires.came.0 (sizes (goal.at.draw_sheet-d-requires c).Start)); exact = (lent.edges_long, lent.lanes_long, lent.counts_long); room = lent.room }
 
-pub write_notice-requires-in-Refused : goal.write_notice-requires-in-Refused
-write_notice-requires-in-Refused c = c.requires.came.1
+pub write_notice-requires-in-Err-ended : goal.write_notice-requires-in-Err-ended
+write_notice-requires-in-Err-ended c = c.requires.came.1
 
 pub list_crossings-too_many-requires : goal.list_crossings-too_many-requires
 list_crossings-too_many-requires c =
-    let on = on_sheet (goal.at.list_crossings-too_many-requires c).In-Clean in
+    let on = on_sheet (goal.at.list_crossings-too_many-requires c).In-Ok-ended in
     record { count_le_max_edges = (on.fits.edges, omega (arith, on.all_drawn, on.fits.bundles), wanted_room c.args.wants.crossings _ _ c.if-wants-2.true c.requires.came.3); counts_len = (on.counted, on.slots, on.hold) }
 
 pub write_notice-requires-then-too_many : goal.write_notice-requires-then-too_many
 write_notice-requires-then-too_many c = c.requires.came.1
-
-pub shape_of-sorted-then-too_many : goal.shape_of-sorted-then-too_many
-shape_of-sorted-then-too_many c = let k = sorted-kept (goal.at.shape_of-sorted-then-too_many c).Joined-wants in omega (arith, k)
-
-pub shape_of-edges-then-too_many : goal.shape_of-edges-then-too_many
-shape_of-edges-then-too_many c = omega (arith, c.draw_sheet-d.auto.edges)
-
-pub shape_of-lanes-then-too_many : goal.shape_of-lanes-then-too_many
-shape_of-lanes-then-too_many c = omega (arith, c.draw_sheet-d.auto.lanes)
-
-pub shape_of-points-then-too_many : goal.shape_of-points-then-too_many
-shape_of-points-then-too_many c =
-    let kept = points_kept (goal.at.shape_of-points-then-too_many c).Joined-wants in
-    omega (arith, kept, c.draw_sheet-d.auto.points)
 
 pub returns-then-too_many : goal.returns-then-too_many
 returns-then-too_many c =
@@ -179,22 +162,11 @@ returns-then-too_many c =
     let d = c.draw_sheet-d in
     let w = c.write_notice-then-too_many.ensures in
     let l = c.list_crossings-too_many in
-    let many = listing.many a.j a.given.now c.if-wants.p.plan (edges_by (goal.at.returns-then-too_many c).In-Clean) (drawn_by (goal.at.returns-then-too_many c).In-Clean) (points-by (goal.at.returns-then-too_many c).In-Clean) (counts-by (goal.at.returns-then-too_many c).In-Clean) (taps_by (goal.at.returns-then-too_many c).In-Clean) _ (on_sheet (goal.at.returns-then-too_many c).In-Clean) a.wants _ l.result _ _ c.if-wants-2.true l.ensures.too_many l.ensures.bytes c.if-too_many.true in
-    laws.notice_writes _ _ _ 19 _ (laws.many_outputs a.wants _ _ (laws.all_drawn a.j a.given.now c.requires.came.0 (sizes (goal.at.returns-then-too_many c).Start) a.wants.plan a.plan.now c.if-wants.p (chosen (goal.at.returns-then-too_many c).Joined-wants) c.if-p-ne0.false (take a.j.bundles.count o.result.rows) d.result.verdict (edges_by (goal.at.returns-then-too_many c).In-Clean) (drawn_by (goal.at.returns-then-too_many c).In-Clean) (points-by (goal.at.returns-then-too_many c).In-Clean) (counts-by (goal.at.returns-then-too_many c).In-Clean) (taps_by (goal.at.returns-then-too_many c).In-Clean) (o.ensures (take a.j.edges.count a.j.edges.rows)) d.ensures.told _ c.in-Clean.is) many.0) w.bytes refl many.1 w.place
+    let many = listing.many a.j a.given.now c.in-Ok.made (edges_by (goal.at.returns-then-too_many c).In-Ok-ended) (drawn_by (goal.at.returns-then-too_many c).In-Ok-ended) (points-by (goal.at.returns-then-too_many c).In-Ok-ended) (counts-by (goal.at.returns-then-too_many c).In-Ok-ended) (taps_by (goal.at.returns-then-too_many c).In-Ok-ended) _ (on_sheet (goal.at.returns-then-too_many c).In-Ok-ended) a.wants _ l.result _ _ c.if-wants-2.true l.ensures.too_many l.ensures.bytes c.if-too_many.true in
+    laws.notice_writes _ _ _ c.from-then-too_many.result _ (laws.named _ _ _ c.from-then-too_many.ensures (laws.many_outputs a.wants _ _ (laws.all_drawn a.j a.given.now c.requires.came.0 (sizes (goal.at.returns-then-too_many c).Start) a.wants.plan a.plan.now c.if-wants.p (chosen (goal.at.returns-then-too_many c).Joined-wants) c.in-Ok.made c.in-Ok.is (take a.j.bundles.count o.result.rows) (told d.result.ended d.new.visits.0) (edges_by (goal.at.returns-then-too_many c).In-Ok-ended) (drawn_by (goal.at.returns-then-too_many c).In-Ok-ended) (points-by (goal.at.returns-then-too_many c).In-Ok-ended) (counts-by (goal.at.returns-then-too_many c).In-Ok-ended) (taps_by (goal.at.returns-then-too_many c).In-Ok-ended) (o.ensures (take a.j.edges.count a.j.edges.rows)) d.ensures.told _ (laws.ended_clean d.result.ended d.new.visits.0 _ c.in-Ok-ended.is)) many.0)) w.bytes refl many.1 w.place
 
 pub write_notice-requires-then-off_grid : goal.write_notice-requires-then-off_grid
 write_notice-requires-then-off_grid c = c.requires.came.1
-
-pub shape_of-sorted-then-off_grid : goal.shape_of-sorted-then-off_grid
-shape_of-sorted-then-off_grid c = let k = sorted-kept (goal.at.shape_of-sorted-then-off_grid c).Joined-wants in omega (arith, k)
-
-pub shape_of-points-then-off_grid : goal.shape_of-points-then-off_grid
-shape_of-points-then-off_grid c =
-    let kept = points_kept (goal.at.shape_of-points-then-off_grid c).Joined-wants in
-    omega (arith, kept, c.draw_sheet-d.auto.points)
-
-pub shape_of-crossings-then-off_grid : goal.shape_of-crossings-then-off_grid
-shape_of-crossings-then-off_grid c = elim c.if-wants-2.branch [ then-wants-2+else-too_many x ↦ ap length x.crossings-is ∙ x.list_crossings-too_many.auto.out | else-wants-2 x ↦ ap length x.crossings-is ]
 
 pub returns-then-off_grid : goal.returns-then-off_grid
 returns-then-off_grid c =
@@ -203,16 +175,16 @@ returns-then-off_grid c =
     let d = c.draw_sheet-d in
     let w = c.write_notice-then-off_grid.ensures in
     let l = listed_by (goal.at.returns-then-off_grid c).Joined-wants-2 in
-    laws.notice_writes _ _ _ 16 _ (laws.off_grid_outputs a.wants _ _ (laws.all_drawn a.j a.given.now c.requires.came.0 (sizes (goal.at.returns-then-off_grid c).Start) a.wants.plan a.plan.now c.if-wants.p (chosen (goal.at.returns-then-off_grid c).Joined-wants) c.if-p-ne0.false (take a.j.bundles.count o.result.rows) d.result.verdict (edges_by (goal.at.returns-then-off_grid c).In-Clean) (drawn_by (goal.at.returns-then-off_grid c).In-Clean) (points-by (goal.at.returns-then-off_grid c).In-Clean) (counts-by (goal.at.returns-then-off_grid c).In-Clean) (taps_by (goal.at.returns-then-off_grid c).In-Clean) (o.ensures (take a.j.edges.count a.j.edges.rows)) d.ensures.told _ c.in-Clean.is) (l _).few c.if-off_grid.true) w.bytes refl (listing.left_alone _ _ _ _ _ (l 0) c.if-off_grid.true) w.place
+    laws.notice_writes _ _ _ c.from-then-off_grid.result _ (laws.named _ _ _ c.from-then-off_grid.ensures (laws.off_grid_outputs a.wants _ _ (laws.all_drawn a.j a.given.now c.requires.came.0 (sizes (goal.at.returns-then-off_grid c).Start) a.wants.plan a.plan.now c.if-wants.p (chosen (goal.at.returns-then-off_grid c).Joined-wants) c.in-Ok.made c.in-Ok.is (take a.j.bundles.count o.result.rows) (told d.result.ended d.new.visits.0) (edges_by (goal.at.returns-then-off_grid c).In-Ok-ended) (drawn_by (goal.at.returns-then-off_grid c).In-Ok-ended) (points-by (goal.at.returns-then-off_grid c).In-Ok-ended) (counts-by (goal.at.returns-then-off_grid c).In-Ok-ended) (taps_by (goal.at.returns-then-off_grid c).In-Ok-ended) (o.ensures (take a.j.edges.count a.j.edges.rows)) d.ensures.told _ (laws.ended_clean d.result.ended d.new.visits.0 _ c.in-Ok-ended.is)) (l _).few c.if-off_grid.true)) w.bytes refl (listing.left_alone _ _ _ _ _ (l 0) c.if-off_grid.true) w.place
 
 pub normalize_layout-l-requires : goal.normalize_layout-l-requires
 normalize_layout-l-requires c =
-    let on = on_sheet (goal.at.normalize_layout-l-requires c).In-Clean in
-    record { tables = (on.fits.nodes, omega (arith, on.all_drawn, on.fits.bundles)); slots = (on.slots, on.hold); taps = (on.places, windows (goal.at.normalize_layout-l-requires c).In-Clean) }
+    let on = on_sheet (goal.at.normalize_layout-l-requires c).In-Ok-ended in
+    record { tables = (on.fits.nodes, omega (arith, on.all_drawn, on.fits.bundles)); slots = (on.slots, on.hold); taps = (on.places, windows (goal.at.normalize_layout-l-requires c).In-Ok-ended) }
 
 pub tap_rows-t-requires : goal.tap_rows-t-requires
 tap_rows-t-requires c =
-    let on = on_sheet (goal.at.tap_rows-t-requires c).In-Clean in
+    let on = on_sheet (goal.at.tap_rows-t-requires c).In-Ok-ended in
     let n = c.normalize_layout-l in
     record { count_le_max_members = (on.fits.members, on.fits.edges, omega (arith, on.places, n.auto.taps)); members_on = on.members_on }
 
@@ -223,11 +195,11 @@ put_page-requires c =
     let d = c.draw_sheet-d in
     let n = c.normalize_layout-l in
     let t = c.tap_rows-t in
-    let on = on_sheet (goal.at.put_page-requires c).In-Clean in
+    let on = on_sheet (goal.at.put_page-requires c).In-Ok-ended in
     let l = n.result.drawn in
     let long = long-drawn (goal.at.put_page-requires c).After-normalize_layout-l in
     let many : l.count ≤ max_bundles = omega (arith, on.all_drawn, on.fits.bundles, n.ensures.drawn) in
-    (many, laws.all_printable a.j a.given.now c.requires.came.0 (sizes (goal.at.put_page-requires c).Start) a.wants.plan a.plan.now c.if-wants.p (chosen (goal.at.put_page-requires c).Joined-wants) c.if-p-ne0.false (take a.j.bundles.count o.result.rows) d.result.verdict (edges_by (goal.at.put_page-requires c).In-Clean) (drawn_by (goal.at.put_page-requires c).In-Clean) (points-by (goal.at.put_page-requires c).In-Clean) (counts-by (goal.at.put_page-requires c).In-Clean) (taps_by (goal.at.put_page-requires c).In-Clean) (o.ensures (take a.j.edges.count a.j.edges.rows)) d.ensures.told (on_the_grid a.wants.page _ c.if-wants-3.true c.if-off_grid.false) _ c.in-Clean.is _ n.result.nodes n.new.points l t.result (laws.all_told a.j a.given.now c.requires.came.0 (sizes (goal.at.put_page-requires c).Start) a.wants.plan a.plan.now c.if-wants.p (chosen (goal.at.put_page-requires c).Joined-wants) c.if-p-ne0.false (take a.j.bundles.count o.result.rows) d.result.verdict (edges_by (goal.at.put_page-requires c).In-Clean) (drawn_by (goal.at.put_page-requires c).In-Clean) (points-by (goal.at.put_page-requires c).In-Clean) (counts-by (goal.at.put_page-requires c).In-Clean) (taps_by (goal.at.put_page-requires c).In-Clean) (o.ensures (take a.j.edges.count a.j.edges.rows)) d.ensures.told _ on n.result n.new.points n.new.taps t.result t.ensures (n.ensures.page (edges_by (goal.at.put_page-requires c).In-Clean)) n.ensures.drawn n.ensures.rows) (omega (arith, many, long)), wanted_room a.wants.page _ _ c.if-wants-3.true c.requires.came.2)
+    (many, laws.all_printable a.j a.given.now c.requires.came.0 (sizes (goal.at.put_page-requires c).Start) a.wants.plan a.plan.now c.if-wants.p (chosen (goal.at.put_page-requires c).Joined-wants) c.in-Ok.made c.in-Ok.is (take a.j.bundles.count o.result.rows) (told d.result.ended d.new.visits.0) (edges_by (goal.at.put_page-requires c).In-Ok-ended) (drawn_by (goal.at.put_page-requires c).In-Ok-ended) (points-by (goal.at.put_page-requires c).In-Ok-ended) (counts-by (goal.at.put_page-requires c).In-Ok-ended) (taps_by (goal.at.put_page-requires c).In-Ok-ended) (o.ensures (take a.j.edges.count a.j.edges.rows)) d.ensures.told (on_the_grid a.wants.page _ c.if-wants-3.true c.if-off_grid.false) _ (laws.ended_clean d.result.ended d.new.visits.0 _ c.in-Ok-ended.is) _ n.result.nodes n.new.points l t.result (laws.all_told a.j a.given.now c.requires.came.0 (sizes (goal.at.put_page-requires c).Start) a.wants.plan a.plan.now c.if-wants.p (chosen (goal.at.put_page-requires c).Joined-wants) c.in-Ok.made c.in-Ok.is (take a.j.bundles.count o.result.rows) (told d.result.ended d.new.visits.0) (edges_by (goal.at.put_page-requires c).In-Ok-ended) (drawn_by (goal.at.put_page-requires c).In-Ok-ended) (points-by (goal.at.put_page-requires c).In-Ok-ended) (counts-by (goal.at.put_page-requires c).In-Ok-ended) (taps_by (goal.at.put_page-requires c).In-Ok-ended) (o.ensures (take a.j.edges.count a.j.edges.rows)) d.ensures.told _ on n.result n.new.points n.new.taps t.result t.ensures (n.ensures.page (edges_by (goal.at.put_page-requires c).In-Ok-ended)) n.ensures.drawn n.ensures.rows) (omega (arith, many, long)), wanted_room a.wants.page _ _ c.if-wants-3.true c.requires.came.2)
 
 pub write_answer-requires : goal.write_answer-requires
 write_answer-requires c =
@@ -236,7 +208,7 @@ write_answer-requires c =
     let d = c.draw_sheet-d in
     let n = c.normalize_layout-l in
     let t = c.tap_rows-t in
-    let on = on_sheet (goal.at.write_answer-requires c).In-Clean in
+    let on = on_sheet (goal.at.write_answer-requires c).In-Ok-ended in
     record {
       nodes = omega (arith, on.fits.nodes, n.ensures.nodes);
       edges = on.fits.edges;
@@ -245,57 +217,17 @@ write_answer-requires c =
       held = on.hold;
       bundles = omega (arith, on.all_drawn, on.fits.bundles, n.ensures.drawn);
       taps = omega (arith, t.ensures.count_is, on.fits.members);
-      windows = subst (Windows n.result.drawn.count n.result.drawn.rows) (sym t.ensures.count_is) (windows_kept a.j.members.count (drawn_by (goal.at.write_answer-requires c).In-Clean) n.result.drawn n.ensures.rows n.ensures.drawn (windows (goal.at.write_answer-requires c).In-Clean));
-      room_for_it = laws.sheet_room _ _ _ _ (laws.all_drawn a.j a.given.now c.requires.came.0 (sizes (goal.at.write_answer-requires c).Start) a.wants.plan a.plan.now c.if-wants.p (chosen (goal.at.write_answer-requires c).Joined-wants) c.if-p-ne0.false (take a.j.bundles.count o.result.rows) d.result.verdict (edges_by (goal.at.write_answer-requires c).In-Clean) (drawn_by (goal.at.write_answer-requires c).In-Clean) (points-by (goal.at.write_answer-requires c).In-Clean) (counts-by (goal.at.write_answer-requires c).In-Clean) (taps_by (goal.at.write_answer-requires c).In-Clean) (o.ensures (take a.j.edges.count a.j.edges.rows)) d.ensures.told _ c.in-Clean.is) (laws.all_told a.j a.given.now c.requires.came.0 (sizes (goal.at.write_answer-requires c).Start) a.wants.plan a.plan.now c.if-wants.p (chosen (goal.at.write_answer-requires c).Joined-wants) c.if-p-ne0.false (take a.j.bundles.count o.result.rows) d.result.verdict (edges_by (goal.at.write_answer-requires c).In-Clean) (drawn_by (goal.at.write_answer-requires c).In-Clean) (points-by (goal.at.write_answer-requires c).In-Clean) (counts-by (goal.at.write_answer-requires c).In-Clean) (taps_by (goal.at.write_answer-requires c).In-Clean) (o.ensures (take a.j.edges.count a.j.edges.rows)) d.ensures.told _ on n.result n.new.points n.new.taps t.result t.ensures (n.ensures.page (edges_by (goal.at.write_answer-requires c).In-Clean)) n.ensures.drawn n.ensures.rows) c.requires.plan_in_bounds;
+      windows = subst (Windows n.result.drawn.count n.result.drawn.rows) (sym t.ensures.count_is) (windows_kept a.j.members.count (drawn_by (goal.at.write_answer-requires c).In-Ok-ended) n.result.drawn n.ensures.rows n.ensures.drawn (windows (goal.at.write_answer-requires c).In-Ok-ended));
+      room_for_it = laws.sheet_room _ _ _ _ (laws.all_drawn a.j a.given.now c.requires.came.0 (sizes (goal.at.write_answer-requires c).Start) a.wants.plan a.plan.now c.if-wants.p (chosen (goal.at.write_answer-requires c).Joined-wants) c.in-Ok.made c.in-Ok.is (take a.j.bundles.count o.result.rows) (told d.result.ended d.new.visits.0) (edges_by (goal.at.write_answer-requires c).In-Ok-ended) (drawn_by (goal.at.write_answer-requires c).In-Ok-ended) (points-by (goal.at.write_answer-requires c).In-Ok-ended) (counts-by (goal.at.write_answer-requires c).In-Ok-ended) (taps_by (goal.at.write_answer-requires c).In-Ok-ended) (o.ensures (take a.j.edges.count a.j.edges.rows)) d.ensures.told _ (laws.ended_clean d.result.ended d.new.visits.0 _ c.in-Ok-ended.is)) (laws.all_told a.j a.given.now c.requires.came.0 (sizes (goal.at.write_answer-requires c).Start) a.wants.plan a.plan.now c.if-wants.p (chosen (goal.at.write_answer-requires c).Joined-wants) c.in-Ok.made c.in-Ok.is (take a.j.bundles.count o.result.rows) (told d.result.ended d.new.visits.0) (edges_by (goal.at.write_answer-requires c).In-Ok-ended) (drawn_by (goal.at.write_answer-requires c).In-Ok-ended) (points-by (goal.at.write_answer-requires c).In-Ok-ended) (counts-by (goal.at.write_answer-requires c).In-Ok-ended) (taps_by (goal.at.write_answer-requires c).In-Ok-ended) (o.ensures (take a.j.edges.count a.j.edges.rows)) d.ensures.told _ on n.result n.new.points n.new.taps t.result t.ensures (n.ensures.page (edges_by (goal.at.write_answer-requires c).In-Ok-ended)) n.ensures.drawn n.ensures.rows) c.requires.plan_in_bounds;
     }
 
-pub shape_of-sorted-in-Refused : goal.shape_of-sorted-in-Refused
-shape_of-sorted-in-Refused c = let k = sorted-kept (goal.at.shape_of-sorted-in-Refused c).Joined-wants in omega (arith, k)
-
-pub shape_of-points-in-Refused : goal.shape_of-points-in-Refused
-shape_of-points-in-Refused c =
-    let kept = points_kept (goal.at.shape_of-points-in-Refused c).Joined-wants in
-    omega (arith, kept, c.draw_sheet-d.auto.points)
-
-pub returns-in-Refused : goal.returns-in-Refused
-returns-in-Refused c =
+pub returns-in-Err-ended : goal.returns-in-Err-ended
+returns-in-Err-ended c =
     let a = c.args in
     let o = c.corridor_depth_offsets-offsets in
     let d = c.draw_sheet-d in
-    let w = c.write_notice-in-Refused.ensures in
-    laws.notice_writes _ _ _ _ _ (laws.refused_outputs a.wants _ _ (laws.all_refused a.j a.given.now c.requires.came.0 (sizes (goal.at.returns-in-Refused c).Start) a.wants.plan a.plan.now c.if-wants.p (chosen (goal.at.returns-in-Refused c).Joined-wants) c.if-p-ne0.false (take a.j.bundles.count o.result.rows) d.result.verdict d.new.edges d.result.drawn d.new.points d.new.counts d.new.taps (o.ensures (take a.j.edges.count a.j.edges.rows)) d.ensures.told _ _ c.in-Refused.is)) w.bytes refl refl w.place
-
-pub shape_of-sorted-after-wants-3 : goal.shape_of-sorted-after-wants-3
-shape_of-sorted-after-wants-3 c = let k = sorted-kept (goal.at.shape_of-sorted-after-wants-3 c).Joined-wants in omega (arith, k)
-
-pub shape_of-edges-after-wants-3 : goal.shape_of-edges-after-wants-3
-shape_of-edges-after-wants-3 c = omega (arith, c.draw_sheet-d.auto.edges)
-
-pub shape_of-lanes-after-wants-3 : goal.shape_of-lanes-after-wants-3
-shape_of-lanes-after-wants-3 c = omega (arith, c.draw_sheet-d.auto.lanes)
-
-pub shape_of-taps-after-wants-3 : goal.shape_of-taps-after-wants-3
-shape_of-taps-after-wants-3 c = omega (arith, c.draw_sheet-d.auto.taps, c.normalize_layout-l.auto.taps)
-
-pub shape_of-points-after-wants-3 : goal.shape_of-points-after-wants-3
-shape_of-points-after-wants-3 c =
-    let kept = points_kept (goal.at.shape_of-points-after-wants-3 c).Joined-wants in
-    omega (arith, kept, c.draw_sheet-d.auto.points, c.normalize_layout-l.auto.points)
-
-pub shape_of-counts-after-wants-3 : goal.shape_of-counts-after-wants-3
-shape_of-counts-after-wants-3 c = omega (arith, c.draw_sheet-d.auto.counts)
-
-pub shape_of-mask-after-wants-3 : goal.shape_of-mask-after-wants-3
-shape_of-mask-after-wants-3 c = omega (arith, c.draw_sheet-d.auto.mask)
-
-pub shape_of-scratch-after-wants-3 : goal.shape_of-scratch-after-wants-3
-shape_of-scratch-after-wants-3 c = omega (arith, c.draw_sheet-d.auto.scratch)
-
-pub shape_of-page : goal.shape_of-page
-shape_of-page c = elim c.if-wants-3.branch [ then-wants-3 x ↦ ap length x.page-is ∙ x.put_page.auto.out | else-wants-3 x ↦ ap length x.page-is ]
-
-pub shape_of-crossings : goal.shape_of-crossings
-shape_of-crossings c = elim c.if-wants-2.branch [ then-wants-2+else-too_many x ↦ ap length x.crossings-is ∙ x.list_crossings-too_many.auto.out | else-wants-2 x ↦ ap length x.crossings-is ]
+    let w = c.write_notice-in-Err-ended.ensures in
+    laws.notice_writes _ _ _ _ _ (laws.refused_outputs a.wants _ _ (laws.all_refused a.j a.given.now c.requires.came.0 (sizes (goal.at.returns-in-Err-ended c).Start) a.wants.plan a.plan.now c.if-wants.p (chosen (goal.at.returns-in-Err-ended c).Joined-wants) c.in-Ok.made c.in-Ok.is (take a.j.bundles.count o.result.rows) (told d.result.ended d.new.visits.0) d.new.edges d.result.drawn d.new.points d.new.counts d.new.taps (o.ensures (take a.j.edges.count a.j.edges.rows)) d.ensures.told _ _ (laws.ended_refused d.result.ended d.new.visits.0 _ _ c.from-in-Err-ended.ensures c.in-Err-ended.is))) w.bytes refl refl w.place
 
 pub returns-after-wants-3 : goal.returns-after-wants-3
 returns-after-wants-3 c =
@@ -304,12 +236,12 @@ returns-after-wants-3 c =
     let d = c.draw_sheet-d in
     let n = c.normalize_layout-l in
     let t = c.tap_rows-t in
-    let on = on_sheet (goal.at.returns-after-wants-3 c).In-Clean in
+    let on = on_sheet (goal.at.returns-after-wants-3 c).In-Ok-ended in
     let w = c.write_answer.ensures in
     let r = n.result.drawn in
-    let same = page_of_tables id_columns (record { tap_visits = 0; geometry_visits = 0; width = n.result.width; height = n.result.height }) n.result.nodes a.j.edges n.new.points (counts-by (goal.at.returns-after-wants-3 c).In-Clean) r t.result in
+    let same = page_of_tables id_columns (record { tap_visits = 0; geometry_visits = 0; width = n.result.width; height = n.result.height }) n.result.nodes a.j.edges n.new.points (counts-by (goal.at.returns-after-wants-3 c).In-Ok-ended) r t.result in
     let l = listed_by (goal.at.returns-after-wants-3 c).Joined-wants-2 in
-    laws.drawn_writes a.wants _ _ (laws.all_drawn a.j a.given.now c.requires.came.0 (sizes (goal.at.returns-after-wants-3 c).Start) a.wants.plan a.plan.now c.if-wants.p (chosen (goal.at.returns-after-wants-3 c).Joined-wants) c.if-p-ne0.false (take a.j.bundles.count o.result.rows) d.result.verdict (edges_by (goal.at.returns-after-wants-3 c).In-Clean) (drawn_by (goal.at.returns-after-wants-3 c).In-Clean) (points-by (goal.at.returns-after-wants-3 c).In-Clean) (counts-by (goal.at.returns-after-wants-3 c).In-Clean) (taps_by (goal.at.returns-after-wants-3 c).In-Clean) (o.ensures (take a.j.edges.count a.j.edges.rows)) d.ensures.told _ c.in-Clean.is) (l _).few c.if-off_grid.false _ _ _ _ (laws.all_told a.j a.given.now c.requires.came.0 (sizes (goal.at.returns-after-wants-3 c).Start) a.wants.plan a.plan.now c.if-wants.p (chosen (goal.at.returns-after-wants-3 c).Joined-wants) c.if-p-ne0.false (take a.j.bundles.count o.result.rows) d.result.verdict (edges_by (goal.at.returns-after-wants-3 c).In-Clean) (drawn_by (goal.at.returns-after-wants-3 c).In-Clean) (points-by (goal.at.returns-after-wants-3 c).In-Clean) (counts-by (goal.at.returns-after-wants-3 c).In-Clean) (taps_by (goal.at.returns-after-wants-3 c).In-Clean) (o.ensures (take a.j.edges.count a.j.edges.rows)) d.ensures.told _ on n.result n.new.points n.new.taps t.result t.ensures (n.ensures.page (edges_by (goal.at.returns-after-wants-3 c).In-Clean)) n.ensures.drawn n.ensures.rows) w.bytes
+    laws.drawn_writes a.wants _ _ (laws.all_drawn a.j a.given.now c.requires.came.0 (sizes (goal.at.returns-after-wants-3 c).Start) a.wants.plan a.plan.now c.if-wants.p (chosen (goal.at.returns-after-wants-3 c).Joined-wants) c.in-Ok.made c.in-Ok.is (take a.j.bundles.count o.result.rows) (told d.result.ended d.new.visits.0) (edges_by (goal.at.returns-after-wants-3 c).In-Ok-ended) (drawn_by (goal.at.returns-after-wants-3 c).In-Ok-ended) (points-by (goal.at.returns-after-wants-3 c).In-Ok-ended) (counts-by (goal.at.returns-after-wants-3 c).In-Ok-ended) (taps_by (goal.at.returns-after-wants-3 c).In-Ok-ended) (o.ensures (take a.j.edges.count a.j.edges.rows)) d.ensures.told _ (laws.ended_clean d.result.ended d.new.visits.0 _ c.in-Ok-ended.is)) (l _).few c.if-off_grid.false _ _ _ _ (laws.all_told a.j a.given.now c.requires.came.0 (sizes (goal.at.returns-after-wants-3 c).Start) a.wants.plan a.plan.now c.if-wants.p (chosen (goal.at.returns-after-wants-3 c).Joined-wants) c.in-Ok.made c.in-Ok.is (take a.j.bundles.count o.result.rows) (told d.result.ended d.new.visits.0) (edges_by (goal.at.returns-after-wants-3 c).In-Ok-ended) (drawn_by (goal.at.returns-after-wants-3 c).In-Ok-ended) (points-by (goal.at.returns-after-wants-3 c).In-Ok-ended) (counts-by (goal.at.returns-after-wants-3 c).In-Ok-ended) (taps_by (goal.at.returns-after-wants-3 c).In-Ok-ended) (o.ensures (take a.j.edges.count a.j.edges.rows)) d.ensures.told _ on n.result n.new.points n.new.taps t.result t.ensures (n.ensures.page (edges_by (goal.at.returns-after-wants-3 c).In-Ok-ended)) n.ensures.drawn n.ensures.rows) w.bytes
     (elim c.if-wants-3.branch [
       | then-wants-3 x ↦ laws.page_put _ _ _ _ x.if-wants-3.true (x.page-is ∙ x.put_page.ensures.bytes ∙ ap (sets a.page.now 0) same)
       | else-wants-3 x ↦ laws.page_left _ _ _ _ x.if-wants-3.false x.page-is

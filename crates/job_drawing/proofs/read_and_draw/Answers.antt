@@ -11,71 +11,62 @@ use Rattle.draw_job.proofs.Phases as laws
 use borrow.Author.Rules.{rules}
 use Rattle.job_drawing.proofs.read_and_draw.Goals as goal
 
-pub read_job-r-requires : goal.read_job-r-requires
-read_job-r-requires c = c.requires.given_len.0
+pub read_job-requires : goal.read_job-requires
+read_job-requires c = c.requires.given_len.0
 
 pub write_notice-requires : goal.write_notice-requires
 write_notice-requires c = omega (arith, c.requires.given_len.1)
 
-pub returns-then-not-r : goal.returns-then-not-r
-returns-then-not-r c =
+pub returns-in-Err : goal.returns-in-Err
+returns-in-Err c =
     let a = c.args in
-    let r = c.read_job-r in
     let w = c.write_notice.ensures in
-    laws.notice_writes _ _ _ r.result.refusal _ (laws.refused_outputs a.wants _ _ (laws.read_refused r.result _ a.job.now r.ensures a.wants.plan a.plan.now (not-true r.result.ok c.if-not-r.true))) w.bytes refl refl w.place
+    laws.notice_writes _ _ _ c.from.result _ (laws.refused_outputs a.wants _ _ (laws.read_refused c.in-Err.r _ _ a.job.now c.from.ensures c.in-Err.ensures a.wants.plan a.plan.now)) w.bytes refl refl w.place
 
 pub slice_bounds-draw_in-end : goal.slice_bounds-draw_in-end
 slice_bounds-draw_in-end c =
     let a = c.args in
-    let r = c.read_job-r in
-    omega (arith, r.ensures.fits.members, c.requires.edges_len.0)
+    omega (arith, c.in-Ok.ensures.fits.members, c.requires.edges_len.0)
 
 pub slice_bounds-draw_in-end-then-n-le-FEW_ROUTES : goal.slice_bounds-draw_in-end-then-n-le-FEW_ROUTES
 slice_bounds-draw_in-end-then-n-le-FEW_ROUTES c =
     let a = c.args in
-    let r = c.read_job-r in
-    let e : r.result.job.members.count ≤ length a.edges.now = omega (arith, r.ensures.fits.members, c.requires.edges_len.0) in
+    let e : c.in-Ok.j.members.count ≤ length a.edges.now = omega (arith, c.in-Ok.ensures.fits.members, c.requires.edges_len.0) in
     sym (length-take-le _ _ e)
 
 pub slice_bounds-draw_in-end-then-n-le-FEW_ROUTES-2 : goal.slice_bounds-draw_in-end-then-n-le-FEW_ROUTES-2
 slice_bounds-draw_in-end-then-n-le-FEW_ROUTES-2 c =
     let a = c.args in
-    let r = c.read_job-r in
-    omega (arith, r.ensures.fits.members, c.requires.edges_len.1)
+    omega (arith, c.in-Ok.ensures.fits.members, c.requires.edges_len.1)
 
 pub slice_bounds-draw_in-end-then-n-le-FEW_ROUTES-3 : goal.slice_bounds-draw_in-end-then-n-le-FEW_ROUTES-3
 slice_bounds-draw_in-end-then-n-le-FEW_ROUTES-3 c =
     let a = c.args in
-    let r = c.read_job-r in
-    let e : r.result.job.members.count ≤ length a.lanes.now = omega (arith, r.ensures.fits.members, c.requires.edges_len.1) in
+    let e : c.in-Ok.j.members.count ≤ length a.lanes.now = omega (arith, c.in-Ok.ensures.fits.members, c.requires.edges_len.1) in
     sym (length-take-le _ _ e)
 
 pub slice_bounds-draw_in-end-then-n-le-FEW_ROUTES-5 : goal.slice_bounds-draw_in-end-then-n-le-FEW_ROUTES-5
 slice_bounds-draw_in-end-then-n-le-FEW_ROUTES-5 c =
     let a = c.args in
-    let r = c.read_job-r in
-    omega (arith, r.ensures.fits.edges, c.requires.edges_len.3)
+    omega (arith, c.in-Ok.ensures.fits.edges, c.requires.edges_len.3)
 
 pub slice_bounds-draw_in-end-then-n-le-FEW_ROUTES-6 : goal.slice_bounds-draw_in-end-then-n-le-FEW_ROUTES-6
 slice_bounds-draw_in-end-then-n-le-FEW_ROUTES-6 c =
     let a = c.args in
-    let r = c.read_job-r in
-    let e : r.result.job.edges.count ≤ length a.counts.now = omega (arith, r.ensures.fits.edges, c.requires.edges_len.3) in
+    let e : c.in-Ok.j.edges.count ≤ length a.counts.now = omega (arith, c.in-Ok.ensures.fits.edges, c.requires.edges_len.3) in
     sym (length-take-le _ _ e)
 
 pub draw_in-requires : goal.draw_in-requires
 draw_in-requires c =
     let a = c.args in
-    let r = c.read_job-r in
-    let ok = not-false r.result.ok c.if-not-r.false in
-    let long : length r.new.points ≡ point_numbers = omega (arith, r.auto.points, c.requires.given_len.0) in
-    let fits = r.ensures.fits in
+    let long : length c.read_job.new.points ≡ point_numbers = omega (arith, c.read_job.auto.points, c.requires.given_len.0) in
+    let fits = c.in-Ok.ensures.fits in
     let p = c.requires.edges_len in
-    let edges : r.result.job.members.count ≤ length a.edges.now = omega (arith, fits.members, p.0) in
-    let lanes : r.result.job.members.count ≤ length a.lanes.now = omega (arith, fits.members, p.1) in
-    let counts : r.result.job.edges.count ≤ length a.counts.now = omega (arith, fits.edges, p.3) in record {
-      came = (came r.result _ a.job.now r.ensures long ok, omega (arith, c.requires.given_len.1), c.requires.given_len.2, c.requires.given_len.3);
-      plan_in_bounds = laws.phase_room r.result _ a.job.now r.ensures a.wants.plan a.plan.now (length a.answer.now) c.requires.given_len.1 ok;
+    let edges : c.in-Ok.j.members.count ≤ length a.edges.now = omega (arith, fits.members, p.0) in
+    let lanes : c.in-Ok.j.members.count ≤ length a.lanes.now = omega (arith, fits.members, p.1) in
+    let counts : c.in-Ok.j.edges.count ≤ length a.counts.now = omega (arith, fits.edges, p.3) in record {
+      came = (came c.in-Ok.j _ a.job.now c.in-Ok.ensures long, omega (arith, c.requires.given_len.1), c.requires.given_len.2, c.requires.given_len.3);
+      plan_in_bounds = laws.phase_room c.in-Ok.j _ a.job.now c.in-Ok.ensures a.wants.plan a.plan.now (length a.answer.now) c.requires.given_len.1;
       search_work_in_bounds = (omega arith, c.requires.sorted_len);
       lent = record {
         edges_long = length-take-le _ _ edges;
@@ -86,67 +77,57 @@ draw_in-requires c =
     }
 
 pub shape_of-given-then-n-le-FEW_ROUTES : goal.shape_of-given-then-n-le-FEW_ROUTES
-shape_of-given-then-n-le-FEW_ROUTES c = omega (arith, c.read_job-r.auto.points)
+shape_of-given-then-n-le-FEW_ROUTES c = omega (arith, c.read_job.auto.points)
 
 pub returns-then-n-le-FEW_ROUTES : goal.returns-then-n-le-FEW_ROUTES
 returns-then-n-le-FEW_ROUTES c =
     let a = c.args in
-    let r = c.read_job-r in
-    let ok = not-false r.result.ok c.if-not-r.false in
-    laws.writes_as _ _ _ _ _ (ap (laws.outputs_for a.wants) (sym (laws.told_phase r.result _ a.job.now r.ensures a.wants.plan a.plan.now ok))) c.draw_in.ensures
+    laws.writes_as _ _ _ _ _ (ap (laws.outputs_for a.wants) (sym (laws.told_phase c.in-Ok.j _ a.job.now c.in-Ok.ensures a.wants.plan a.plan.now))) c.draw_in.ensures
 
 pub slice_bounds-draw_in-end-2 : goal.slice_bounds-draw_in-end-2
 slice_bounds-draw_in-end-2 c =
     let a = c.args in
-    let r = c.read_job-r in
-    omega (arith, r.ensures.fits.members, c.requires.edges_len.0)
+    omega (arith, c.in-Ok.ensures.fits.members, c.requires.edges_len.0)
 
 pub slice_bounds-draw_in-end-3 : goal.slice_bounds-draw_in-end-3
 slice_bounds-draw_in-end-3 c =
     let a = c.args in
-    let r = c.read_job-r in
-    let e : r.result.job.members.count ≤ length a.edges.now = omega (arith, r.ensures.fits.members, c.requires.edges_len.0) in
+    let e : c.in-Ok.j.members.count ≤ length a.edges.now = omega (arith, c.in-Ok.ensures.fits.members, c.requires.edges_len.0) in
     sym (length-take-le _ _ e)
 
 pub slice_bounds-draw_in-end-4 : goal.slice_bounds-draw_in-end-4
 slice_bounds-draw_in-end-4 c =
     let a = c.args in
-    let r = c.read_job-r in
-    omega (arith, r.ensures.fits.members, c.requires.edges_len.1)
+    omega (arith, c.in-Ok.ensures.fits.members, c.requires.edges_len.1)
 
 pub slice_bounds-draw_in-end-5 : goal.slice_bounds-draw_in-end-5
 slice_bounds-draw_in-end-5 c =
     let a = c.args in
-    let r = c.read_job-r in
-    let e : r.result.job.members.count ≤ length a.lanes.now = omega (arith, r.ensures.fits.members, c.requires.edges_len.1) in
+    let e : c.in-Ok.j.members.count ≤ length a.lanes.now = omega (arith, c.in-Ok.ensures.fits.members, c.requires.edges_len.1) in
     sym (length-take-le _ _ e)
 
 pub slice_bounds-draw_in-end-7 : goal.slice_bounds-draw_in-end-7
 slice_bounds-draw_in-end-7 c =
     let a = c.args in
-    let r = c.read_job-r in
-    omega (arith, r.ensures.fits.edges, c.requires.edges_len.3)
+    omega (arith, c.in-Ok.ensures.fits.edges, c.requires.edges_len.3)
 
 pub slice_bounds-draw_in-end-8 : goal.slice_bounds-draw_in-end-8
 slice_bounds-draw_in-end-8 c =
     let a = c.args in
-    let r = c.read_job-r in
-    let e : r.result.job.edges.count ≤ length a.counts.now = omega (arith, r.ensures.fits.edges, c.requires.edges_len.3) in
+    let e : c.in-Ok.j.edges.count ≤ length a.counts.now = omega (arith, c.in-Ok.ensures.fits.edges, c.requires.edges_len.3) in
     sym (length-take-le _ _ e)
 
 pub draw_in-requires-2 : goal.draw_in-requires-2
 draw_in-requires-2 c =
     let a = c.args in
-    let r = c.read_job-r in
-    let ok = not-false r.result.ok c.if-not-r.false in
-    let long : length r.new.points ≡ point_numbers = omega (arith, r.auto.points, c.requires.given_len.0) in
-    let fits = r.ensures.fits in
+    let long : length c.read_job.new.points ≡ point_numbers = omega (arith, c.read_job.auto.points, c.requires.given_len.0) in
+    let fits = c.in-Ok.ensures.fits in
     let p = c.requires.edges_len in
-    let edges : r.result.job.members.count ≤ length a.edges.now = omega (arith, fits.members, p.0) in
-    let lanes : r.result.job.members.count ≤ length a.lanes.now = omega (arith, fits.members, p.1) in
-    let counts : r.result.job.edges.count ≤ length a.counts.now = omega (arith, fits.edges, p.3) in record {
-      came = (came r.result _ a.job.now r.ensures long ok, omega (arith, c.requires.given_len.1), c.requires.given_len.2, c.requires.given_len.3);
-      plan_in_bounds = laws.phase_room r.result _ a.job.now r.ensures a.wants.plan a.plan.now (length a.answer.now) c.requires.given_len.1 ok;
+    let edges : c.in-Ok.j.members.count ≤ length a.edges.now = omega (arith, fits.members, p.0) in
+    let lanes : c.in-Ok.j.members.count ≤ length a.lanes.now = omega (arith, fits.members, p.1) in
+    let counts : c.in-Ok.j.edges.count ≤ length a.counts.now = omega (arith, fits.edges, p.3) in record {
+      came = (came c.in-Ok.j _ a.job.now c.in-Ok.ensures long, omega (arith, c.requires.given_len.1), c.requires.given_len.2, c.requires.given_len.3);
+      plan_in_bounds = laws.phase_room c.in-Ok.j _ a.job.now c.in-Ok.ensures a.wants.plan a.plan.now (length a.answer.now) c.requires.given_len.1;
       search_work_in_bounds = (omega arith, c.requires.sorted_len);
       lent = record {
         edges_long = length-take-le _ _ edges;
@@ -157,20 +138,18 @@ draw_in-requires-2 c =
     }
 
 pub shape_of-given : goal.shape_of-given
-shape_of-given c = omega (arith, c.read_job-r.auto.points)
+shape_of-given c = omega (arith, c.read_job.auto.points)
 
 pub shape_of-sorted : goal.shape_of-sorted
-shape_of-sorted c = omega (arith, c.read_job-r.auto.points)
+shape_of-sorted c = omega (arith, c.read_job.auto.points)
 
 pub shape_of-edges : goal.shape_of-edges
-shape_of-edges c = omega (arith, length_front c.args.edges.now c.draw_in-2.new.edges c.read_job-r.result.job.members.count c.draw_in-2.auto.edges)
+shape_of-edges c = omega (arith, length_front c.args.edges.now c.draw_in-2.new.edges c.in-Ok.j.members.count c.draw_in-2.auto.edges)
 
 pub shape_of-lanes : goal.shape_of-lanes
-shape_of-lanes c = omega (arith, length_front c.args.lanes.now c.draw_in-2.new.lanes c.read_job-r.result.job.members.count c.draw_in-2.auto.lanes)
+shape_of-lanes c = omega (arith, length_front c.args.lanes.now c.draw_in-2.new.lanes c.in-Ok.j.members.count c.draw_in-2.auto.lanes)
 
 pub returns : goal.returns
 returns c =
     let a = c.args in
-    let r = c.read_job-r in
-    let ok = not-false r.result.ok c.if-not-r.false in
-    laws.writes_as _ _ _ _ _ (ap (laws.outputs_for a.wants) (sym (laws.told_phase r.result _ a.job.now r.ensures a.wants.plan a.plan.now ok))) c.draw_in-2.ensures
+    laws.writes_as _ _ _ _ _ (ap (laws.outputs_for a.wants) (sym (laws.told_phase c.in-Ok.j _ a.job.now c.in-Ok.ensures a.wants.plan a.plan.now))) c.draw_in-2.ensures

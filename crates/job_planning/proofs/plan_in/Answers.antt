@@ -1,8 +1,11 @@
 -- `job_planning::plan_in` meets its contract. Assumes nothing.
 use native.Mathlib.Omega.{arith}
+use Rattle.std.proofs.Common.{sym, ap, ◌∙◌}
+use Rattle.plan_bytes.specs.PlanBytes.{rejected}
 use Rattle.plan.proofs.TableReads as rows
 use Rattle.job_tables.specs.Came.{Sizes}
 use Rattle.job_tables.proofs.Ready.{tables_sound, routes_in}
+use Rattle.refusal.specs.Refusal.{refusal_number}
 use Rattle.job_planning.proofs.PlanPhases as laws
 use borrow.Author.Rules.{rules}
 use Rattle.job_planning.proofs.plan_in.Goals as goal
@@ -30,19 +33,19 @@ plan_interior_collectors-s-requires c =
 pub write_notice-requires : goal.write_notice-requires
 write_notice-requires c = omega (arith, c.requires.came.1)
 
-pub returns-then-s : goal.returns-then-s
-returns-then-s c =
+pub returns-in-Err : goal.returns-in-Err
+returns-in-Err c =
     let a = c.args in
     let p = c.plan_interior_collectors-s in
     let w = c.write_notice.ensures in
-    laws.notice_writes _ _ _ 13 _ (laws.plan_refused a.j a.given.now c.requires.came.0 (sizes (goal.at.returns-then-s c).Start) p.result p.ensures c.if-s.true) w.bytes w.place
+    laws.notice_writes _ _ _ c.from-in-Err.result _ (laws.plan_refused a.j a.given.now c.requires.came.0 (sizes (goal.at.returns-in-Err c).Start) p.result p.ensures _ c.in-Err.is ∙ ap rejected (sym (ap refusal_number c.from.ensures)) ∙ ap rejected (sym c.from-in-Err.ensures)) w.bytes w.place
 
 pub write_plan-requires : goal.write_plan-requires
 write_plan-requires c = (c.requires.came.0.fits.bundles, c.requires.came.1)
 
-pub returns : goal.returns
-returns c =
+pub returns-in-Ok : goal.returns-in-Ok
+returns-in-Ok c =
     let a = c.args in
     let p = c.plan_interior_collectors-s in
     let w = c.write_plan.ensures in
-    laws.plan_writes _ _ _ _ _ (laws.plan_taken a.j a.given.now c.requires.came.0 (sizes (goal.at.returns c).Start) p.result p.ensures c.if-s.false) w.bytes w.place
+    laws.plan_writes _ _ _ _ _ (laws.plan_taken a.j a.given.now c.requires.came.0 (sizes (goal.at.returns-in-Ok c).Start) p.result p.ensures _ c.in-Ok.is) w.bytes w.place

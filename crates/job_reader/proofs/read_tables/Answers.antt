@@ -1,182 +1,117 @@
-use native.Mathlib.Omega.{arith}
-use Prim.Native.Nat.{◌-◌}
-use mathlib.Core.Path.{refl, sym, ◌∙◌}
-use lib.ListN.{take, drop}
-use borrow.Author.Tests.{not-true, not-false}
+-- `job_reader::read_tables` meets its contract. Assumes nothing.
+use Rattle.std.proofs.Common.{refl, sym, ◌∙◌, take, drop, arith}
+use Rattle.std.proofs.lemmas.Result.{err_from_is_err_and}
 use Rattle.geometry.specs.Points.{points_from}
 use Rattle.job.specs.Job.{settled, Tables}
-use Rattle.job.specs.AllTables.{told_job}
-use Rattle.job.proofs.Steps.{read_good, read_bad, nodes_refused, ports_refused, edges_refused, bundles_refused, bytes_remain, all_read, keyed_tables, eight, nine, all_known}
-use borrow.Author.Rules.{rules}
-use Rattle.std.proofs.Common.{ap, not}
+use Rattle.job.proofs.Steps.{nodes_refused, ports_refused, edges_refused, bundles_refused, bytes_remain, all_read, keyed_tables, eight, nine, all_known}
 use Rattle.job_reader.proofs.read_tables.Goals as goal
 
-pub returns-then-not-n : goal.returns-then-not-n
-returns-then-not-n c =
-    let a = c.args in
-    record {
-      is = c.refused.ensures.is _ ∙ sym (nodes_refused a.h.flags.on_grid a.h.counts (drop 62 a.s.now) (λ t rest. settled a.h t) _ (read_bad _ _ _ _ c.read_nodes-n.ensures.is (not-true _ c.if-not-n.true)));
-      fits = c.refused.ensures.fits;
-    }
+pub returns-in_err-at : goal.returns-in_err-at
+returns-in_err-at c =
+    let h = c.args.h in
+    let p = err_from_is_err_and c.from_residual.result c.from_residual.ensures.1 in
+    rw (p.1, p.2) (record { is = sym (nodes_refused h.flags.on_grid h.counts (drop 62 c.args.s.now) (λ t rest. settled h t) _ c.in_err-at.ensures); fits = tt })
 
-pub read_ports-p-requires : goal.read_ports-p-requires
-read_ports-p-requires c =
-    let l = c.requires.0 in
-    let x = c.read_nodes-n.ensures.place (not-false _ c.if-not-n.false) in
-    record { from_bound = (omega arith, l.ports, omega arith); node_ids_len = (c.read_nodes-n.auto.ids, refl, refl, refl) }
+pub returns-in_err-at-2 : goal.returns-in_err-at-2
+returns-in_err-at-2 c =
+    let h = c.args.h in
+    let f = c.from_residual-in_err-at-2 in
+    let p = err_from_is_err_and f.result f.ensures.1 in
+    rw (p.1, p.2) (record { is = sym (ports_refused h.flags.on_grid h.counts (drop 62 c.args.s.now) (λ t rest. settled h t) _ _ c.in_ok-at.ensures.is _ c.in_err-at-2.ensures); fits = tt })
 
-pub returns-then-not-p : goal.returns-then-not-p
-returns-then-not-p c =
-    let a = c.args in
-    record {
-      is = c.refused-then-not-p.ensures.is _ ∙ sym (ports_refused a.h.flags.on_grid a.h.counts (drop 62 a.s.now) (λ t rest. settled a.h t) _ _ (read_good _ _ _ _ c.read_nodes-n.ensures.is (not-false _ c.if-not-n.false)) _ (read_bad _ _ _ _ c.read_ports-p.ensures.is (not-true _ c.if-not-p.true)));
-      fits = c.refused-then-not-p.ensures.fits;
-    }
+pub returns-in_err-at-3 : goal.returns-in_err-at-3
+returns-in_err-at-3 c =
+    let h = c.args.h in
+    let f = c.from_residual-in_err-at-3 in
+    let p = err_from_is_err_and f.result f.ensures.1 in
+    rw (p.1, p.2) (record { is = sym (edges_refused h.flags.on_grid h.counts (drop 62 c.args.s.now) (λ t rest. settled h t) _ _ c.in_ok-at.ensures.is _ _ c.in_ok-at-2.ensures.is _ c.in_err-at-3.ensures); fits = tt })
 
-pub read_edges-e-requires : goal.read_edges-e-requires
-read_edges-e-requires c =
-    let p = c.requires in
-    let l = p.0 in
-    let x = c.read_nodes-n.ensures.place (not-false _ c.if-not-n.false) in
-    let y = c.read_ports-p.ensures.place (not-false _ c.if-not-p.false) in
-    record { from_bound = (omega arith, l.edges, omega arith, p.1); node_ids_len = (c.read_nodes-n.auto.ids, refl, refl) }
-
-pub returns-then-not-e : goal.returns-then-not-e
-returns-then-not-e c =
-    let a = c.args in
-    record {
-      is = c.refused-then-not-e.ensures.is _ ∙ sym (edges_refused a.h.flags.on_grid a.h.counts (drop 62 a.s.now) (λ t rest. settled a.h t) _ _ (read_good _ _ _ _ c.read_nodes-n.ensures.is (not-false _ c.if-not-n.false)) _ _ (read_good _ _ _ _ c.read_ports-p.ensures.is (not-false _ c.if-not-p.false)) _ (read_bad _ _ _ _ c.read_edges-e.ensures.is (not-true _ c.if-not-e.true)));
-      fits = c.refused-then-not-e.ensures.fits;
-    }
-
-pub read_bundles-b-requires : goal.read_bundles-b-requires
-read_bundles-b-requires c =
-    let l = c.requires.0 in
-    let x = c.read_nodes-n.ensures.place (not-false _ c.if-not-n.false) in
-    let y = c.read_ports-p.ensures.place (not-false _ c.if-not-p.false) in
-    let z = c.read_edges-e.ensures.place (not-false _ c.if-not-e.false) in
-    let t = c.read_edges-e.ensures.total (not-false _ c.if-not-e.false) in
-    record { from_bound = (omega arith, l.bundles, omega arith, l.ports, l.edges); node_ids_len = (c.read_nodes-n.auto.ids, c.read_ports-p.auto.nodes, c.read_ports-p.auto.ids, c.read_edges-e.auto.ids, refl); ids_len = (refl, refl, refl) }
-
-pub shape_of-points-then-not-b : goal.shape_of-points-then-not-b
-shape_of-points-then-not-b c = c.read_edges-e.auto.points
-
-pub returns-then-not-b : goal.returns-then-not-b
-returns-then-not-b c =
-    let a = c.args in
-    record {
-      is = c.refused-then-not-b.ensures.is _ ∙ sym (bundles_refused a.h.flags.on_grid a.h.counts (drop 62 a.s.now) (λ t rest. settled a.h t) _ _ (read_good _ _ _ _ c.read_nodes-n.ensures.is (not-false _ c.if-not-n.false)) _ _ (read_good _ _ _ _ c.read_ports-p.ensures.is (not-false _ c.if-not-p.false)) _ _ (read_good _ _ _ _ c.read_edges-e.ensures.is (not-false _ c.if-not-e.false)) _ (read_bad _ _ _ _ c.read_bundles-b.ensures.is (not-true _ c.if-not-b.true)));
-      fits = c.refused-then-not-b.ensures.fits;
-    }
-
-pub shape_of-points-then-b-s : goal.shape_of-points-then-b-s
-shape_of-points-then-b-s c = c.read_edges-e.auto.points
+pub returns-in_err-b : goal.returns-in_err-b
+returns-in_err-b c =
+    let h = c.args.h in
+    let f = c.from_residual-in_err-b in
+    let p = err_from_is_err_and f.result f.ensures.1 in
+    rw (p.1, p.2)
+    (record {
+      is = sym (bundles_refused h.flags.on_grid h.counts (drop 62 c.args.s.now) (λ t rest. settled h t) _ _ c.in_ok-at.ensures.is _ _ c.in_ok-at-2.ensures.is _ _ c.in_ok-at-3.ensures.is _ c.in_err-b.ensures);
+      fits = tt;
+    })
 
 pub returns-then-b-s : goal.returns-then-b-s
 returns-then-b-s c =
-    let a = c.args in
+    let h = c.args.h in
     record {
-      is = c.refused-then-b-s.ensures.is _ ∙ sym (bytes_remain a.h.flags.on_grid a.h.counts (drop 62 a.s.now) (λ t rest. settled a.h t) _ _ (read_good _ _ _ _ c.read_nodes-n.ensures.is (not-false _ c.if-not-n.false)) _ _ (read_good _ _ _ _ c.read_ports-p.ensures.is (not-false _ c.if-not-p.false)) _ _ (read_good _ _ _ _ c.read_edges-e.ensures.is (not-false _ c.if-not-e.false)) _ _ a.s.now (read_good _ _ _ _ c.read_bundles-b.ensures.is (not-false _ c.if-not-b.false)) c.if-b-s.true);
-      fits = c.refused-then-b-s.ensures.fits;
+      is = sym (bytes_remain h.flags.on_grid h.counts (drop 62 c.args.s.now) (λ t rest. settled h t) _ _ c.in_ok-at.ensures.is _ _ c.in_ok-at-2.ensures.is _ _ c.in_ok-at-3.ensures.is _ _ c.args.s.now c.in_ok-b.ensures.is c.if-b-s.true);
+      fits = tt;
     }
-
-pub any_twice-is_twice-requires : goal.any_twice-is_twice-requires
-any_twice-is_twice-requires c = record { limits = (c.requires.0, c.read_bundles-b.ensures.total); nodes_len = (c.read_nodes-n.auto.ids, c.read_ports-p.auto.nodes, c.read_ports-p.auto.ids, c.read_edges-e.auto.ids); bundles_len = (c.read_bundles-b.auto.ids, c.read_bundles-b.auto.edges, c.read_bundles-b.auto.roles, refl) }
-
-pub shape_of-points-then-is_twice : goal.shape_of-points-then-is_twice
-shape_of-points-then-is_twice c = c.read_edges-e.auto.points
 
 pub returns-then-is_twice : goal.returns-then-is_twice
 returns-then-is_twice c =
-    let a = c.args in
-    let l = c.requires.0 in
-    let s = a.s.now in
-    let n = c.read_nodes-n in
-    let p = c.read_ports-p in
-    let e = c.read_edges-e in
-    let b = c.read_bundles-b in
-    let on = not-false _ c.if-not-n.false in
-    let op = not-false _ c.if-not-p.false in
-    let oe = not-false _ c.if-not-e.false in
-    let ob = not-false _ c.if-not-b.false in
+    let h = c.args.h in
+    let s = c.args.s.now in
+    let n = c.in_ok-at in
+    let p = c.in_ok-at-2 in
+    let e = c.in_ok-at-3 in
+    let b = c.in_ok-b in
     let t : Tables = record {
-      nodes = take a.h.counts.nodes n.result.rows;
+      nodes = take h.counts.nodes n.field-0.rows;
       ports = p.ensures.raw;
-      edges = record { edges = e.ensures.raw; points = points_from e.new.points 0 e.result.total };
+      edges = record { edges = e.ensures.raw; points = points_from c.read_edges.new.points 0 e.field-0.total };
       bundles = record { bundles = b.ensures.raw; members = b.ensures.raw_members };
     } in
-    let read = all_read a.h.flags.on_grid a.h.counts (drop 62 s) (λ t rest. settled a.h t) _ _ (read_good _ _ _ _ n.ensures.is on) _ _ (read_good _ _ _ _ p.ensures.is op) _ _ (read_good _ _ _ _ e.ensures.is oe) _ _ s (read_good _ _ _ _ b.ensures.is ob) c.if-b-s.false in
-    let keyed = keyed_tables t a.h.counts b.result.members.count _ _ _ _ _ _ _ l n.auto.ids e.auto.ids b.auto.ids (n.ensures.keyed on) (p.ensures.keyed op) (e.ensures.keyed oe) (b.ensures.keyed ob) (b.ensures.member_keyed ob) in
-    record {
-      is = c.refused-then-is_twice.ensures.is _ ∙ sym (read ∙ eight a.h t _ _ _ _ _ keyed c.any_twice-is_twice.result c.any_twice-is_twice.ensures c.if-is_twice.true);
-      fits = c.refused-then-is_twice.ensures.fits;
-    }
-
-pub shape_of-points-then-not-known : goal.shape_of-points-then-not-known
-shape_of-points-then-not-known c = c.read_edges-e.auto.points
+    let read = all_read h.flags.on_grid h.counts (drop 62 s) (λ t rest. settled h t) _ _ n.ensures.is _ _ p.ensures.is _ _ e.ensures.is _ _ s b.ensures.is c.if-b-s.false in
+    let keyed = keyed_tables t h.counts b.b.members.count _ _ _ _ _ _ _ c.requires.0 c.read_nodes.auto.ids c.read_edges.auto.ids c.read_bundles.auto.ids n.ensures.keyed p.ensures.keyed e.ensures.keyed b.ensures.keyed b.ensures.member_keyed in
+    record { is = sym (read ∙ eight h t _ _ _ _ _ keyed c.any_twice-is_twice.result c.any_twice-is_twice.ensures c.if-is_twice.true); fits = tt }
 
 pub returns-then-not-known : goal.returns-then-not-known
 returns-then-not-known c =
-    let a = c.args in
-    let l = c.requires.0 in
-    let s = a.s.now in
-    let n = c.read_nodes-n in
-    let p = c.read_ports-p in
-    let e = c.read_edges-e in
-    let b = c.read_bundles-b in
-    let on = not-false _ c.if-not-n.false in
-    let op = not-false _ c.if-not-p.false in
-    let oe = not-false _ c.if-not-e.false in
-    let ob = not-false _ c.if-not-b.false in
+    let h = c.args.h in
+    let s = c.args.s.now in
+    let n = c.in_ok-at in
+    let p = c.in_ok-at-2 in
+    let e = c.in_ok-at-3 in
+    let b = c.in_ok-b in
     let t : Tables = record {
-      nodes = take a.h.counts.nodes n.result.rows;
+      nodes = take h.counts.nodes n.field-0.rows;
       ports = p.ensures.raw;
-      edges = record { edges = e.ensures.raw; points = points_from e.new.points 0 e.result.total };
+      edges = record { edges = e.ensures.raw; points = points_from c.read_edges.new.points 0 e.field-0.total };
       bundles = record { bundles = b.ensures.raw; members = b.ensures.raw_members };
     } in
-    let read = all_read a.h.flags.on_grid a.h.counts (drop 62 s) (λ t rest. settled a.h t) _ _ (read_good _ _ _ _ n.ensures.is on) _ _ (read_good _ _ _ _ p.ensures.is op) _ _ (read_good _ _ _ _ e.ensures.is oe) _ _ s (read_good _ _ _ _ b.ensures.is ob) c.if-b-s.false in
-    let keyed = keyed_tables t a.h.counts b.result.members.count _ _ _ _ _ _ _ l n.auto.ids e.auto.ids b.auto.ids (n.ensures.keyed on) (p.ensures.keyed op) (e.ensures.keyed oe) (b.ensures.keyed ob) (b.ensures.member_keyed ob) in
+    let read = all_read h.flags.on_grid h.counts (drop 62 s) (λ t rest. settled h t) _ _ n.ensures.is _ _ p.ensures.is _ _ e.ensures.is _ _ s b.ensures.is c.if-b-s.false in
+    let keyed = keyed_tables t h.counts b.b.members.count _ _ _ _ _ _ _ c.requires.0 c.read_nodes.auto.ids c.read_edges.auto.ids c.read_bundles.auto.ids n.ensures.keyed p.ensures.keyed e.ensures.keyed b.ensures.keyed b.ensures.member_keyed in
     record {
-      is = c.refused-then-not-known.ensures.is _ ∙ sym (read ∙ nine a.h t _ _ _ _ _ keyed c.any_twice-is_twice.result c.any_twice-is_twice.ensures p.result.known e.result.known b.result.known b.result.members_known _ _ _ _
-          (p.ensures.known op) (e.ensures.known oe) (b.ensures.known ob) (b.ensures.members_known ob) c.if-is_twice.false _ refl (not-true _ (ap not c.if-not-known.true)));
-      fits = c.refused-then-not-known.ensures.fits;
+      is = sym (read ∙ nine h t _ _ _ _ _ keyed c.any_twice-is_twice.result c.any_twice-is_twice.ensures p.field-0.known e.field-0.known b.b.known b.b.members_known _ _ _ _
+          p.ensures.known e.ensures.known b.ensures.known b.ensures.members_known c.if-is_twice.false _ refl c.if-not-known.true);
+      fits = tt;
     }
 
-pub shape_of-points : goal.shape_of-points
-shape_of-points c = c.read_edges-e.auto.points
-
 pub returns : goal.returns
-unfolding told_job
 returns c =
-    let a = c.args in
+    let h = c.args.h in
     let l = c.requires.0 in
-    let s = a.s.now in
-    let n = c.read_nodes-n in
-    let p = c.read_ports-p in
-    let e = c.read_edges-e in
-    let b = c.read_bundles-b in
-    let on = not-false _ c.if-not-n.false in
-    let op = not-false _ c.if-not-p.false in
-    let oe = not-false _ c.if-not-e.false in
-    let ob = not-false _ c.if-not-b.false in
+    let s = c.args.s.now in
+    let n = c.in_ok-at in
+    let p = c.in_ok-at-2 in
+    let e = c.in_ok-at-3 in
+    let b = c.in_ok-b in
     let t : Tables = record {
-      nodes = take a.h.counts.nodes n.result.rows;
+      nodes = take h.counts.nodes n.field-0.rows;
       ports = p.ensures.raw;
-      edges = record { edges = e.ensures.raw; points = points_from e.new.points 0 e.result.total };
+      edges = record { edges = e.ensures.raw; points = points_from c.read_edges.new.points 0 e.field-0.total };
       bundles = record { bundles = b.ensures.raw; members = b.ensures.raw_members };
     } in
-    let read = all_read a.h.flags.on_grid a.h.counts (drop 62 s) (λ t rest. settled a.h t) _ _ (read_good _ _ _ _ n.ensures.is on) _ _ (read_good _ _ _ _ p.ensures.is op) _ _ (read_good _ _ _ _ e.ensures.is oe) _ _ s (read_good _ _ _ _ b.ensures.is ob) c.if-b-s.false in
-    let keyed = keyed_tables t a.h.counts b.result.members.count _ _ _ _ _ _ _ l n.auto.ids e.auto.ids b.auto.ids (n.ensures.keyed on) (p.ensures.keyed op) (e.ensures.keyed oe) (b.ensures.keyed ob) (b.ensures.member_keyed ob) in
+    let read = all_read h.flags.on_grid h.counts (drop 62 s) (λ t rest. settled h t) _ _ n.ensures.is _ _ p.ensures.is _ _ e.ensures.is _ _ s b.ensures.is c.if-b-s.false in
+    let keyed = keyed_tables t h.counts b.b.members.count _ _ _ _ _ _ _ l c.read_nodes.auto.ids c.read_edges.auto.ids c.read_bundles.auto.ids n.ensures.keyed p.ensures.keyed e.ensures.keyed b.ensures.keyed b.ensures.member_keyed in
     record {
       is = rw b.ensures.rows
-          (sym (read ∙ all_known a.h t _ _ _ _ _ keyed c.any_twice-is_twice.result c.any_twice-is_twice.ensures p.result.known e.result.known b.result.known b.result.members_known _ _ _ _
-          (p.ensures.known op) (e.ensures.known oe) (b.ensures.known ob) (b.ensures.members_known ob) c.if-is_twice.false _ refl (not-false _ (ap not c.if-not-known.false))));
+          (sym (read ∙ all_known h t _ _ _ _ _ keyed c.any_twice-is_twice.result c.any_twice-is_twice.ensures p.field-0.known e.field-0.known b.b.known b.b.members_known _ _ _ _
+          p.ensures.known e.ensures.known b.ensures.known b.ensures.members_known c.if-is_twice.false _ refl c.if-not-known.false));
       fits = record {
         nodes = l.nodes;
         ports = l.ports;
         edges = l.edges;
         bundles = omega (arith, b.ensures.rows, l.bundles);
         members = b.ensures.total;
-        points = e.ensures.total oe;
+        points = e.ensures.total;
       };
     }

@@ -1,5 +1,4 @@
 use Rattle.checks.specs.MemberSlices.{depth_at}
-use borrow.Author.Rules.{rules}
 use Rattle.member_rewriting.proofs.corridor_depth.Goals as goal
 
 pub returns : goal.returns

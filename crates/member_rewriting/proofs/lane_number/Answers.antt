@@ -1,5 +1,4 @@
 use native.Mathlib.Numerals.{add-one}
-use borrow.Author.Rules.{rules}
 use Rattle.member_rewriting.proofs.lane_number.Goals as goal
 
 pub returns : goal.returns

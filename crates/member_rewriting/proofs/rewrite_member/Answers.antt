@@ -1,8 +1,4 @@
-use borrow.Author.Rules.{rules}
 use native.Mathlib.Omega.{arith}
-use mathlib.Core.Path.{◌≡◌, refl, sym, ap, ◌∙◌}
-use Prim.Native.Nat.{ℕ, suc, ◌≤◌, ◌<◌, ◌+◌, ◌-◌, ◌*◌}
-use lib.ListN.{length, get_or, take}
 use Rattle.member_rewriting.proofs.Members.{same_kept, member_short, member_refused, member_tiny, member_made, made_most, counts_made}
 use Rattle.member_rewriting.proofs.rewrite_member.Goals as goal
 
@@ -14,26 +10,26 @@ returns-then-n-lt2 c =
 pub returns-then-m-lt2 : goal.returns-then-m-lt2
 returns-then-m-lt2 c =
     let a = c.args in
-    let x = rw c.in-Made.is at c.rewrite_route-r.ensures in
+    let x = rw c.in-Some.is at c.rewrite_route-r.ensures in
     record { told = member_tiny a.inside a.role a.pitch a.depth a.tap a.points.now a.counts.now a.e c.requires.0 _ _ _ _ c.if-n-lt2.false c.if-m-lt2.true x; kept = same_kept a.counts.now a.e c.requires.2 }
 
 pub store_route-requires : goal.store_route-requires
 store_route-requires c =
     let a = c.args in
-    let x = rw c.in-Made.is at c.rewrite_route-r.ensures in
+    let x = rw c.in-Some.is at c.rewrite_route-r.ensures in
     let m = made_most _ _ _ _ _ c.requires.3 x in
     (omega arith, m, omega arith, omega arith)
 
-pub returns-in-Refused : goal.returns-in-Refused
-returns-in-Refused c =
+pub returns-in-None : goal.returns-in-None
+returns-in-None c =
     let a = c.args in
-    let x = rw c.in-Refused.is at c.rewrite_route-r.ensures in
+    let x = rw c.in-None.is at c.rewrite_route-r.ensures in
     record { told = member_refused a.inside a.role a.pitch a.depth a.tap a.points.now a.counts.now a.e c.requires.0 _ _ _ c.if-n-lt2.false x; kept = same_kept a.counts.now a.e c.requires.2 }
 
 pub returns-else-m-lt2 : goal.returns-else-m-lt2
 returns-else-m-lt2 c =
     let a = c.args in
-    let x = rw c.in-Made.is at c.rewrite_route-r.ensures in
+    let x = rw c.in-Some.is at c.rewrite_route-r.ensures in
     let m = made_most _ _ _ _ _ c.requires.3 x in
     let y = c.store_route.ensures in
     record { told = member_made a.inside a.role a.pitch a.depth a.tap a.points.now a.counts.now a.e c.requires.0 _ _ _ _ _ _ c.if-n-lt2.false c.if-m-lt2.false c.requires.2 x y; kept = counts_made _ _ _ _ _ _ _ m c.requires.2 y }

@@ -1,33 +1,24 @@
-use borrow.Author.Rules.{rules}
 use native.Mathlib.Omega.{arith}
-use mathlib.Core.Path.{◌≡◌, refl, sym, ap, ◌∙◌}
-use Prim.Native.Nat.{ℕ, suc, ◌≤◌, ◌<◌, ◌+◌, ◌-◌, ◌*◌}
-use lib.ListN.{length, get_or, take}
+use mathlib.Core.Path.{ap, ◌∙◌}
+use Prim.Native.Nat.{◌+◌}
 use borrow.Author.Tests.{not-true, not-false}
-use Rattle.limits.specs.Limits.{slot_numbers}
 use Rattle.route.specs.Slots.{routes_of}
-use Rattle.drawing.specs.Rewrite.{rewrite_all}
-use Rattle.checks.specs.CheckRows.{taps_from, Tabled}
-use Rattle.checks.specs.MemberSlices.{members_from, Laned, Roomy}
-use Rattle.member_rewriting.proofs.Members.{rest_all, all_start, all_on, all_off, all_end, roomy_next}
+use Rattle.member_rewriting.proofs.Members.{all_start, all_on, all_off, all_end, roomy_next}
 use Rattle.std.proofs.Common.{not}
 use Rattle.member_rewriting.proofs.rewrite_member_routes.Goals as goal
 
 pub loop-i-init : goal.loop-i-init
 loop-i-init c =
     let a = c.args in
-    (omega arith, refl, refl, refl, c.requires.0, c.requires.1, c.requires.2, c.requires.3, all_start a.inside a.role a.pitch a.offset a.edges.now a.lanes.now a.taps.now a.first a.count (routes_of a.points.now a.counts.now))
+    record { roomy = c.requires.2; told = all_start a.inside a.role a.pitch a.offset a.edges.now a.lanes.now a.taps.now a.first a.count (routes_of a.points.now a.counts.now) }
 
 pub corridor_depth-depth-requires : goal.corridor_depth-depth-requires
-corridor_depth-depth-requires c =
-    let a = c.args in
-    let l = c.loop-i in
-    l.invariant.5.small (a.first + l.i)
+corridor_depth-depth-requires c = c.requires.1.small (c.args.first + c.loop-i.i)
 
 pub rewrite_member-requires : goal.rewrite_member-requires
 rewrite_member-requires c =
     let l = c.loop-i in
-    let r = l.invariant.6 in
+    let r = l.invariant.roomy in
     let h = c.loop-i-test.true in
     (r.known l.i (omega arith) h, r.slots, r.hold, r.room l.i (omega arith) h, omega arith)
 
@@ -37,7 +28,7 @@ returns-then-not-rewrite_member c =
     let l = c.loop-i in
     let f = c.rewrite_member in
     let w = rw (c.corridor_depth-depth.ensures, c.point_at-tap.ensures) at f.ensures.told in
-    record { told = all_off a.inside a.role a.pitch a.offset a.edges.now a.lanes.now a.taps.now a.first a.count l.i (routes_of l.points l.counts) f.result _ _ c.loop-i-test.true (not-true f.result (ap not c.if-not-rewrite_member.true)) w ∙ l.invariant.8; hold = f.ensures.kept.hold }
+    record { told = all_off a.inside a.role a.pitch a.offset a.edges.now a.lanes.now a.taps.now a.first a.count l.i (routes_of l.points l.counts) f.result _ _ c.loop-i-test.true (not-true f.result (ap not c.if-not-rewrite_member.true)) w ∙ l.invariant.told; hold = f.ensures.kept.hold }
 
 pub loop-i-preserved : goal.loop-i-preserved
 loop-i-preserved c =
@@ -45,23 +36,13 @@ loop-i-preserved c =
     let l = c.loop-i in
     let f = c.rewrite_member in
     let w = rw (c.corridor_depth-depth.ensures, c.point_at-tap.ensures) at f.ensures.told in
-    let h = c.loop-i-test.true in
-    let k = f.auto.points in
-    let m = f.auto.counts in
-    let n = f.auto.scratch in (
-      omega arith,
-      omega arith,
-      omega arith,
-      omega arith,
-      l.invariant.4,
-      l.invariant.5,
-      roomy_next a.edges.now a.first l.i a.count l.points _ l.counts _ l.invariant.6 f.ensures.kept (omega arith) (omega arith) c.loop-i-test.true,
-      l.invariant.7,
-      all_on a.inside a.role a.pitch a.offset a.edges.now a.lanes.now a.taps.now a.first a.count l.i (routes_of l.points l.counts) f.result _ _ c.loop-i-test.true (not-false f.result (ap not c.if-not-rewrite_member.false)) w ∙ l.invariant.8,
-    )
+    record {
+      roomy = roomy_next a.edges.now a.first l.i a.count l.points _ l.counts _ l.invariant.roomy f.ensures.kept (omega arith) (omega arith) c.loop-i-test.true;
+      told = all_on a.inside a.role a.pitch a.offset a.edges.now a.lanes.now a.taps.now a.first a.count l.i (routes_of l.points l.counts) f.result _ _ c.loop-i-test.true (not-false f.result (ap not c.if-not-rewrite_member.false)) w ∙ l.invariant.told;
+    }
 
 pub returns : goal.returns
 returns c =
     let a = c.args in
     let l = c.loop-i in
-    record { told = all_end a.inside a.role a.pitch a.offset a.edges.now a.lanes.now a.taps.now a.first a.count l.i l.points l.counts c.loop-i-test.false ∙ l.invariant.8; hold = l.invariant.6.hold }
+    record { told = all_end a.inside a.role a.pitch a.offset a.edges.now a.lanes.now a.taps.now a.first a.count l.i l.points l.counts c.loop-i-test.false ∙ l.invariant.told; hold = l.invariant.roomy.hold }

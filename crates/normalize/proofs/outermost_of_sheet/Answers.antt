@@ -1,4 +1,3 @@
-use borrow.Author.Rules.{rules}
 use lib.Ieee.{of_bits}
 use Rattle.normalize.specs.PageTables.{origin}
 use Rattle.normalize.proofs.Outer.{bounds_joined}

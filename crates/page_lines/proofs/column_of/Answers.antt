@@ -1,4 +1,3 @@
-use borrow.Author.Rules.{rules}
 use Rattle.page_lines.specs.LineStores.{column_none, column_some}
 use Rattle.page_lines.proofs.column_of.Goals as goal
 

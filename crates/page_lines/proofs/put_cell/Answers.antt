@@ -1,5 +1,4 @@
 use Rattle.page_lines.specs.LineStores.{cell_joined}
-use borrow.Author.Rules.{rules}
 use Rattle.page_lines.proofs.put_cell.Goals as goal
 
 pub returns : goal.returns

@@ -1,5 +1,4 @@
 use Rattle.page_lines.specs.LineStores.{line_joined}
-use borrow.Author.Rules.{rules}
 use Rattle.page_lines.proofs.put_line.Goals as goal
 
 pub returns : goal.returns

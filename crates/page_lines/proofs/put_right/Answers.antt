@@ -1,5 +1,4 @@
 use Rattle.page_lines.specs.LineStores.{right_written}
-use borrow.Author.Rules.{rules}
 use Rattle.page_lines.proofs.put_right.Goals as goal
 
 pub returns : goal.returns

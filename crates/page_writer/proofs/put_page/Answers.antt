@@ -1,4 +1,4 @@
-use Rattle.std.proofs.Common.{◌≡◌, ℕ, ◌+◌, ◌-◌, ◌≤◌, length, take, drop, sym, ap, ◌∙◌, arith, lit<, rules}
+use Rattle.std.proofs.Common.{◌≡◌, ◌≤◌, length, take, sym, ap, ◌∙◌, arith, lit<, rules}
 use lib.Seq.{sets}
 use Rattle.limits.specs.Limits.{max_bundles, id_columns, page_room}
 use Rattle.board.specs.Lengths.{length_mapped}
@@ -7,15 +7,6 @@ use Rattle.bundle_page.specs.PageTables.{bundle_line, page_bytes}
 use Rattle.page_writer.specs.PageTurns.{line_room, line_written, table_room}
 use Rattle.page_writer.proofs.put_page.Goals as goal
 use Rattle.page_writer.proofs.put_page.Goals.{Start}
-
-room_left : {x y room o o' : ℕ} → x ≡ y → y ≤ room → room ≤ o → o' ≡ o → x ≤ o'
-room_left e f h k = omega arith
-
-below : (at n w m room : ℕ) → n ≡ w + m → at + n ≤ room → at + w ≤ room
-below at n w m room e h = omega arith
-
-moved : (at at' n w m end : ℕ) → at' ≡ at + w → n ≡ w + m → at + n ≡ end → at' + m ≡ end
-moved at at' n w m end e f h = omega arith
 
 rows : (s : Start) → length s.args.t.rows ≡ max_bundles
 rows s = search (rules, length_mapped)
@@ -34,7 +25,7 @@ put_entry-at-requires c =
     let r = rows (goal.at.put_entry-at-requires c).Start in (
       lit< tt,
       c.requires.1 l.i _ (omega arith),
-      below l.at _ _ _ _ (line_room id_columns a.t.rows a.t.count l.i (omega arith) (omega arith)) (room_left l.invariant.2 (fits (goal.at.put_entry-at-requires c).Start) c.requires.2 l.invariant.1),
+      omega (arith, line_room id_columns a.t.rows a.t.count l.i (omega arith) (omega arith), fits (goal.at.put_entry-at-requires c).Start),
     )
 
 pub loop-i-preserved : goal.loop-i-preserved
@@ -42,14 +33,11 @@ loop-i-preserved c =
     let a = c.args in
     let l = c.loop-i in
     let f = c.put_entry-at in
-    let k = f.auto.out in
     let r = rows (goal.at.loop-i-preserved c).Start in
-    let e = f.ensures.place in (
-      omega arith,
-      omega arith,
-      moved l.at _ _ _ _ _ e (line_room id_columns a.t.rows a.t.count l.i (omega arith) (omega arith)) l.invariant.2,
-      line_written id_columns a.t.rows a.t.count l.i _ (omega arith) l.out f.new.out l.at _ e (omega arith) f.ensures.bytes ∙ l.invariant.3,
-    )
+    let e = f.ensures.place in record {
+      place = omega (arith, e, line_room id_columns a.t.rows a.t.count l.i (omega arith) (omega arith));
+      bytes = line_written id_columns a.t.rows a.t.count l.i _ (omega arith) l.out f.new.out l.at _ e (omega arith) f.ensures.bytes ∙ l.invariant.bytes;
+    }
 
 pub returns : goal.returns
 returns c =
@@ -58,4 +46,4 @@ returns c =
     let r = rows (goal.at.returns c).Start in
     let z = nothing_left (bundle_line id_columns) a.t.rows a.t.count l.i (omega arith) (omega arith) in
     let y = ap length z in
-    record { bytes = ap (λ x. sets l.out l.at x) (sym z) ∙ l.invariant.3; place = omega arith }
+    record { bytes = ap (λ x. sets l.out l.at x) (sym z) ∙ l.invariant.bytes; place = omega arith }

@@ -1,6 +1,6 @@
 -- `plan_bounds::end_x` meets its contract. Assumes nothing.
-use mathlib.Core.Path.{◌≡◌, sym, ◌∙◌, ap}
-use Prim.Native.Nat.{ℕ, ◌<◌}
+use mathlib.Core.Path.{sym, ◌∙◌, ap}
+use Prim.Native.Nat.{◌<◌}
 use native.Mathlib.Omega.{arith}
 use Rattle.geometry.specs.declared.Point.{Point}
 use Rattle.geometry.specs.declared.Role.{Role}
@@ -8,7 +8,6 @@ use Rattle.geometry.specs.Points.{points_from}
 use Rattle.plan.specs.declared.Bound.TheVariants.{At}
 use Rattle.plan.specs.Prepared.{end_x}
 use Rattle.plan_bounds.proofs.Bounding as laws
-use borrow.Author.Rules.{rules}
 use Rattle.plan_bounds.proofs.end_x.Goals as goal
 
 pub returns-then-count-eq0 : goal.returns-then-count-eq0
@@ -18,7 +17,7 @@ pub returns-in-Input : goal.returns-in-Input
 returns-in-Input c =
     let a = c.args in
     let h : 0 < a.count = omega (arith, c.if-count-eq0.false) in
-    ap (λ (p : Point). At p.x) c.route_last-p.ensures
+    ap (λ (p : Point). At p.x) c.route_last.ensures
     ∙ laws.end_last a.points.now a.start a.count h
     ∙ ap (λ (r : Role). end_x r (points_from a.points.now a.start a.count)) (sym c.in-Input.is)
 
@@ -26,6 +25,6 @@ pub returns-in-Output : goal.returns-in-Output
 returns-in-Output c =
     let a = c.args in
     let h : 0 < a.count = omega (arith, c.if-count-eq0.false) in
-    ap (λ (p : Point). At p.x) c.route_point-p.ensures
+    ap (λ (p : Point). At p.x) c.route_point.ensures
     ∙ laws.end_first a.points.now a.start a.count h
     ∙ ap (λ (r : Role). end_x r (points_from a.points.now a.start a.count)) (sym c.in-Output.is)

@@ -1,9 +1,5 @@
 -- `plan_bounds::interior_collector_bounds` meets its contract. Assumes nothing.
-use mathlib.Core.Path.{◌≡◌, sym, ◌∙◌, ap}
-use Prim.Native.Nat.{ℕ, ◌≤◌, ◌<◌}
-use native.Mathlib.Omega.{arith}
 use Rattle.plan_bounds.proofs.Bounding as laws
-use borrow.Author.Rules.{rules}
 use Rattle.plan_bounds.proofs.interior_collector_bounds.Goals as goal
 
 pub returns-then-u-le1 : goal.returns-then-u-le1

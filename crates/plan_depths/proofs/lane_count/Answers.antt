@@ -1,9 +1,8 @@
 -- `plan_depths::lane_count` meets its contract. Assumes nothing.
 use mathlib.Core.Path.{◌≡◌, sym, ◌∙◌, ap}
-use mathlib.Core.List.{List}
-use Prim.Native.Nat.{ℕ, ◌+◌, ◌-◌, ◌≤◌, ◌<◌}
+use Prim.Native.Nat.{ℕ, ◌+◌, ◌<◌}
 use native.Mathlib.Omega.{arith}
-use lib.ListN.{length, get_or, take, drop}
+use lib.ListN.{take, drop}
 use Rattle.board.specs.declared.Member.{Member}
 use Rattle.plan.specs.Depths.{lane_count}
 use Rattle.plan.proofs.TableReads as laws

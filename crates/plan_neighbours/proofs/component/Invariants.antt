@@ -1,13 +1,9 @@
-use mathlib.Core.Path.{◌≡◌, refl, sym, ◌∙◌, ap, subst}
-use mathlib.Core.Bool.{Bool, true, false}
-use mathlib.Core.List.{List, [], ◌∷◌}
-use Prim.Native.Nat.{ℕ, ◌+◌, ◌-◌, ◌*◌, ◌≤◌, ◌<◌}
-use native.Mathlib.Omega.{arith}
-use borrow.Author.Rules.{rules}
-use lib.ListN.{length, get_or, take, set, length-set, replicate, length-replicate}
+use mathlib.Core.Path.{◌≡◌}
+use Prim.Native.Nat.{◌+◌, ◌-◌, ◌≤◌}
+use lib.ListN.{length, take}
 use Rattle.limits.specs.Limits.{max_bundles}
-use Rattle.plan.specs.Plan.{walk, push_all, Walk}
-use Rattle.plan.specs.Stack.{down_from, unseen, row_from, row_of, room, walk_of}
+use Rattle.plan.specs.Plan.{walk}
+use Rattle.plan.specs.Stack.{down_from, row_of, room}
 use Rattle.plan_neighbours.proofs.Walks as laws
 use Rattle.plan_neighbours.proofs.component.Given as goal
 

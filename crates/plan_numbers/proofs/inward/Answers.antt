@@ -1,6 +1,4 @@
 -- `plan_numbers::inward` meets its contract. Assumes nothing.
-use mathlib.Core.Path.{◌≡◌, refl, sym, ◌∙◌, ap}
-use borrow.Author.Rules.{rules}
 use Rattle.plan_numbers.proofs.inward.Goals as goal
 
 pub returns-in-Input : goal.returns-in-Input

@@ -1,6 +1,4 @@
 -- `plan_numbers::raise` meets its contract. Assumes nothing.
-use mathlib.Core.Path.{◌≡◌, refl, sym, ◌∙◌, ap}
-use borrow.Author.Rules.{rules}
 use Rattle.plan_numbers.proofs.raise.Goals as goal
 
 pub returns-in-None : goal.returns-in-None

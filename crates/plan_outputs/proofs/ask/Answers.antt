@@ -2,8 +2,7 @@
 -- the code's divergence is the definition's
 use mathlib.Core.Path.{◌≡◌, sym, ◌∙◌, ap}
 use mathlib.Core.List.{List, map}
-use lib.Ieee as Ieee
-use lib.Ieee.{Float, binary64}
+use lib.Ieee.{Float}
 use Rattle.binary64.specs.Order.{greatest}
 use Rattle.geometry.specs.Points.{Route}
 use Rattle.board.specs.declared.Bundle.{Bundle}
@@ -17,7 +16,6 @@ use Rattle.plan.specs.Plan.{asked, divergence}
 use Rattle.plan.specs.Over.{divergence_over, divergence_same}
 use Rattle.plan.specs.Prepared.{Routed}
 use Prim.Native.Nat.{ℕ}
-use borrow.Author.Rules.{rules}
 use Rattle.plan_outputs.proofs.ask.Goals as goal
 
 diverged : (b : Board) (given : List Route) (points : List Float) (starts counts : List ℕ) (u : Bundle) (pitch x : Float) (d : Bound) → pitch ≡ pitch_of b u → Routed b given points starts counts u

@@ -1,19 +1,13 @@
 -- `plan_outputs::required_output_collector_x` meets its contract. Assumes nothing.
-use mathlib.Core.Path.{◌≡◌, refl, sym, ◌∙◌, ap}
-use mathlib.Core.List.{List, map}
-use Prim.Native.Nat.{ℕ, ◌+◌, ◌-◌, ◌≤◌, ◌<◌}
+use mathlib.Core.Path.{refl, sym, ◌∙◌, ap}
+use mathlib.Core.List.{map}
+use Prim.Native.Nat.{ℕ, ◌<◌}
 use native.Mathlib.Omega.{arith}
-use lib.ListN.{length, get_or, take, drop, length-set}
-use lib.Ieee.{Float}
+use lib.ListN.{get_or, take}
 use Rattle.limits.specs.Limits.{max_bundles}
-use Rattle.geometry.specs.Points.{Route}
 use Rattle.board.specs.declared.Bundle.{Bundle}
-use Rattle.board.specs.Board.{Board}
-use Rattle.search.specs.Search.{search_of}
-use Rattle.plan.specs.declared.Bound.{Bound}
-use Rattle.plan.specs.declared.Bound.TheVariants.{None}
-use Rattle.plan.specs.Plan.{Ranged, Plan, ranged_at, asked, required, seek, found_x, again}
-use Rattle.plan.specs.Prepared.{AllTell, SameBundles, x_of, no_planned, reached_at, plan_in, upper_at}
+use Rattle.plan.specs.Plan.{ranged_at, asked}
+use Rattle.plan.specs.Prepared.{x_of, no_planned}
 use Rattle.plan.proofs.TableReads as rows
 use Rattle.plan.proofs.Agains as laws
 use borrow.Author.Rules.{rules}
@@ -27,7 +21,7 @@ low : (s : Start) (k : ℕ) → k < s.args.count → get_or s.args.which.now k 0
 low s k h = omega (arith, below s k h, s.requires.all_among.bundles_few)
 
 pub loop-k-init : goal.loop-k-init
-loop-k-init c = (omega arith, λ b given rail ranges t e. refl)
+loop-k-init c = λ b given rail ranges t e. refl
 
 pub bounds-which-k : goal.bounds-which-k
 bounds-which-k c = omega (arith, c.requires.listing.count_in, c.loop-k-test.true)
@@ -56,16 +50,14 @@ loop-k-preserved c =
     let h = c.loop-k-test.true in
     let i : ℕ = get_or a.which.now l.k 0 in
     let g = below (goal.at.loop-k-preserved c).Start l.k h in
-    let f = c.ask-a in (
-      omega (arith, h),
-      λ b given rail ranges t e.
-          laws.required_turn b given ranges i _ _ (rows.part_cons a.which.now a.count l.k 0 h c.requires.listing.count_in) (map x_of (take a.t.count a.p.rows)) l.r f.result c.further_of-r.result
-          (f.ensures b given (t.each i g).pitch_is (t.each i g).routed
-          ∙ ap (λ (z : Bundle). asked b given z (get_or a.p.rows i no_planned).x) (sym (e.same i g))
-          ∙ ap (asked b given (ranged_at ranges i).bundle) (laws.x_at a.p.rows a.t.count i g))
-          c.further_of-r.ensures
-          ∙ l.invariant.1 b given rail ranges t e,
-    )
+    let f = c.ask-a in
+    λ b given rail ranges t e.
+    laws.required_turn b given ranges i _ _ (rows.part_cons a.which.now a.count l.k 0 h c.requires.listing.count_in) (map x_of (take a.t.count a.p.rows)) l.r f.result c.further_of-r.result
+    (f.ensures b given (t.each i g).pitch_is (t.each i g).routed
+    ∙ ap (λ (z : Bundle). asked b given z (get_or a.p.rows i no_planned).x) (sym (e.same i g))
+    ∙ ap (asked b given (ranged_at ranges i).bundle) (laws.x_at a.p.rows a.t.count i g))
+    c.further_of-r.ensures
+    ∙ l.invariant b given rail ranges t e
 
 pub returns : goal.returns
 returns c =
@@ -73,4 +65,4 @@ returns c =
     let l = c.loop-k in
     λ b given rail ranges t e.
     laws.required_end b given ranges (map x_of (take a.t.count a.p.rows)) l.r _ (rows.part_none a.which.now a.count l.k c.loop-k-test.false c.requires.listing.count_in)
-    ∙ l.invariant.1 b given rail ranges t e
+    ∙ l.invariant b given rail ranges t e

@@ -1,28 +1,14 @@
-use mathlib.Core.Path.{◌≡◌, refl, sym, ◌∙◌, ap}
+use mathlib.Core.Path.{◌≡◌}
 use mathlib.Core.List.{List, map}
-use Prim.Native.Nat.{ℕ, ◌+◌, ◌-◌, ◌≤◌, ◌<◌}
-use native.Mathlib.Omega.{arith}
-use lib.ListN.{length, get_or, take, drop, length-set}
+use lib.ListN.{take, drop}
 use lib.Ieee.{Float}
-use Rattle.limits.specs.Limits.{max_bundles}
 use Rattle.geometry.specs.Points.{Route}
-use Rattle.board.specs.declared.Bundle.{Bundle}
 use Rattle.board.specs.Board.{Board}
-use Rattle.search.specs.Search.{search_of}
-use Rattle.plan.specs.declared.Bound.{Bound}
-use Rattle.plan.specs.declared.Bound.TheVariants.{None}
-use Rattle.plan.specs.Plan.{Ranged, Plan, ranged_at, asked, required, seek, found_x, again}
-use Rattle.plan.specs.Prepared.{AllTell, SameBundles, x_of, no_planned, reached_at, plan_in, upper_at}
-use Rattle.plan.proofs.TableReads as rows
-use Rattle.plan.proofs.Agains as laws
-use borrow.Author.Rules.{rules}
+use Rattle.plan.specs.Plan.{Ranged, required}
+use Rattle.plan.specs.Prepared.{AllTell, SameBundles, x_of}
 use Rattle.plan_outputs.proofs.required_output_collector_x.Given as goal
 
 abbrev pub invariant-loop-k : goal.invariant-loop-k
 invariant-loop-k l =
-    (l.k ≤ l.count)
-    × ((b : Board) (given : List Route) (rail : Float) (ranges : List Ranged) → AllTell b given l.points l.starts l.counts rail l.pitch l.t → SameBundles ranges l.t
-    → required b given ranges (map x_of (take l.t.count l.p.rows)) l.r (drop l.k (take l.count l.which)) ≡ required b given ranges (map x_of (take l.t.count l.p.rows)) l.initial.r (take l.count l.which))
-
-abbrev pub decreases-loop-k : goal.decreases-loop-k
-decreases-loop-k l = l.count - l.k
+    (b : Board) (given : List Route) (rail : Float) (ranges : List Ranged) → AllTell b given l.points l.starts l.counts rail l.pitch l.t → SameBundles ranges l.t
+    → required b given ranges (map x_of (take l.t.count l.p.rows)) l.r (drop l.k (take l.count l.which)) ≡ required b given ranges (map x_of (take l.t.count l.p.rows)) l.initial.r (take l.count l.which)

@@ -1,6 +1,5 @@
 -- `plan_searches::interior_collector_range` meets its contract. Assumes nothing.
-use mathlib.Core.Path.{◌≡◌, sym, ◌∙◌, ap}
-use lib.Ieee.{Float}
+use mathlib.Core.Path.{◌≡◌, ◌∙◌, ap}
 use Rattle.search.specs.declared.CollectorBounds.{CollectorBounds}
 use Rattle.search.specs.declared.Searched.{Searched}
 use Rattle.search.specs.Search.{search_of}
@@ -8,7 +7,6 @@ use Rattle.plan.specs.declared.Bound.TheVariants.{None}
 use Rattle.plan.specs.Bounds.{bounds_of}
 use Rattle.plan.specs.Plan.{seek_in, seek}
 use Rattle.plan_searches.proofs.Passes as laws
-use borrow.Author.Rules.{rules}
 use Rattle.plan_searches.proofs.interior_collector_range.Goals as goal
 
 pub returns : goal.returns
@@ -21,6 +19,6 @@ returns c =
     let f : s.result ≡ seek search_of b given a.r.bundle None None a.granted.0 =
     s.ensures b given t.pitch_is t.routed ∙ ap (λ (z : CollectorBounds). seek_in search_of b given a.r.bundle z a.granted.0) e in
     record {
-      range_is = laws.ranged_by a.r.bundle bounds.result (bounds_of b given a.r.bundle None None) s.result (seek search_of b given a.r.bundle None None a.granted.0) c.narrow-found.result e f c.narrow-found.ensures;
+      range_is = laws.ranged_by a.r.bundle bounds.result (bounds_of b given a.r.bundle None None) s.result (seek search_of b given a.r.bundle None None a.granted.0) c.narrow.result e f c.narrow.ensures;
       left_is = ap (λ (z : Searched). z.left.0) f;
     }

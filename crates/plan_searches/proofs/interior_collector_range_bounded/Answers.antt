@@ -1,9 +1,8 @@
 -- `plan_searches::interior_collector_range_bounded` meets its contract. Assumes nothing.
-use mathlib.Core.Path.{◌≡◌, sym, ◌∙◌, ap}
+use mathlib.Core.Path.{◌∙◌, ap}
 use Rattle.search.specs.declared.CollectorBounds.{CollectorBounds}
 use Rattle.search.specs.Search.{search_of}
 use Rattle.plan.specs.Plan.{seek_in}
-use borrow.Author.Rules.{rules}
 use Rattle.plan_searches.proofs.interior_collector_range_bounded.Goals as goal
 
 pub returns : goal.returns

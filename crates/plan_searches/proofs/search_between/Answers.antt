@@ -1,5 +1,5 @@
 -- `plan_searches::search_between` meets its contract. Assumes nothing.
-use mathlib.Core.Path.{◌≡◌, sym, ◌∙◌, ap}
+use mathlib.Core.Path.{◌≡◌, sym, ap}
 use Prim.Native.Nat.{ℕ, ◌+◌, ◌-◌, ◌≤◌}
 use native.Mathlib.Omega.{arith}
 use lib.ListN.{length}
@@ -8,7 +8,6 @@ use Rattle.search.specs.declared.CollectorBounds.{CollectorBounds}
 use Rattle.search.specs.Search.{search_of}
 use Rattle.plan.specs.Plan.{seek_in}
 use Rattle.plan_searches.proofs.Seeks as laws
-use borrow.Author.Rules.{rules}
 use Rattle.plan_searches.proofs.search_between.Goals as goal
 
 pub common_horizontal_collector_x-requires : goal.common_horizontal_collector_x-requires

@@ -1,7 +1,6 @@
 -- `plan_writer::put_entry` meets its contract. Assumes nothing.
 use mathlib.Core.Path.{refl}
 use Rattle.plan_writer.proofs.Written as laws
-use borrow.Author.Rules.{rules}
 use Rattle.plan_writer.proofs.put_entry.Goals as goal
 
 pub returns-in-None : goal.returns-in-None

@@ -1,8 +1,6 @@
 -- `plan_writer::write_plan` meets its contract. Assumes nothing.
-use Rattle.board.specs.Lengths.{length_mapped}
 use native.Mathlib.Omega.{arith}
 use Rattle.plan_writer.proofs.Written as laws
-use borrow.Author.Rules.{rules}
 use Rattle.plan_writer.proofs.write_plan.Goals as goal
 
 pub overflow_cast-end : goal.overflow_cast-end

@@ -35,42 +35,41 @@ node_in s i h =
     subst (λ (p : Port). p.node < s.args.nodes.count) (rows.get_d_any s.args.ports.rows (bundle s i).port no_port rows.null_port q) (s.requires.ports_on (bundle s i).port r)
 
 pub loop-i-init : goal.loop-i-init
-loop-i-init c = (omega arith, refl, λ j h. absurd (omega arith))
+loop-i-init c = record { rows_length = refl; end_is = λ j h. absurd (omega arith) }
 
-pub offset_bounds-ports-at : goal.offset_bounds-ports-at
-offset_bounds-ports-at c =
+pub offset_bounds-ports-bundles : goal.offset_bounds-ports-bundles
+offset_bounds-ports-bundles c =
     let r = c.requires.bundles_on c.loop-i.i c.loop-i-test.true in
     let k = c.requires.ports_few in
     search rules
 
-pub bounds-ports-at : goal.bounds-ports-at
-bounds-ports-at c = omega (arith, c.requires.bundles_on c.loop-i.i c.loop-i-test.true, c.requires.ports_few)
+pub bounds-ports-bundles : goal.bounds-ports-bundles
+bounds-ports-bundles c = omega (arith, c.requires.bundles_on c.loop-i.i c.loop-i-test.true, c.requires.ports_few)
 
-pub offset_bounds-nodes-on : goal.offset_bounds-nodes-on
-offset_bounds-nodes-on c =
-    let h = node_in (goal.at.offset_bounds-nodes-on c).Start c.loop-i.i c.loop-i-test.true in
+pub offset_bounds-nodes-p : goal.offset_bounds-nodes-p
+offset_bounds-nodes-p c =
+    let h = node_in (goal.at.offset_bounds-nodes-p c).Start c.loop-i.i c.loop-i-test.true in
     let k = c.requires.nodes_few in
     search rules
 
-pub bounds-nodes-on : goal.bounds-nodes-on
-bounds-nodes-on c = omega (arith, node_in (goal.at.bounds-nodes-on c).Start c.loop-i.i c.loop-i-test.true, c.requires.nodes_few)
+pub bounds-nodes-p : goal.bounds-nodes-p
+bounds-nodes-p c = omega (arith, node_in (goal.at.bounds-nodes-p c).Start c.loop-i.i c.loop-i-test.true, c.requires.nodes_few)
 
 pub loop-i-preserved : goal.loop-i-preserved
 loop-i-preserved c =
     let a = c.args in
     let l = c.loop-i in
     let h : l.i < a.bundles.count = c.loop-i-test.true in
-    let end = c.endpoint_of-end in
+    let end = c.endpoint_of in
     let kp = ports-length (goal.at.loop-i-preserved c).Start in
     let kn = nodes-length (goal.at.loop-i-preserved c).Start in
     let qp : a.ports.count ≤ length a.ports.rows = omega (arith, c.requires.ports_few) in
     let qn : a.nodes.count ≤ length a.nodes.rows = omega (arith, c.requires.nodes_few) in
     let u : Bundle = bundle (goal.at.loop-i-preserved c).Start l.i in
     let r = c.requires.bundles_on l.i h in
-    let low : l.i < length l.rows = omega (arith, h, c.requires.bundles_few, l.invariant.1) in (
-      omega (arith, h),
-      length-set l.rows l.i end.result.x ∙ l.invariant.1,
-      laws.filled
+    let low : l.i < length l.rows = omega (arith, h, c.requires.bundles_few, l.invariant.rows_length) in record {
+      rows_length = length-set l.rows l.i end.result.x ∙ l.invariant.rows_length;
+      end_is = laws.filled
           (λ j x. (b : Board) → b.nodes ≡ take a.nodes.count a.nodes.rows → b.ports ≡ take a.ports.count a.ports.rows → x ≡ (endpoint_of b (get_or a.bundles.rows j no_bundle)).x)
           l.rows l.i end.result.x nan low
           (λ b en ep.
@@ -78,11 +77,11 @@ loop-i-preserved c =
           (end.ensures
           ∙ ap (λ (m : PlacedNode). endpoint m (get_or a.ports.rows u.port rows.null_port)) (rows.node_read b a.ports.rows a.ports.count ep qp u r a.nodes.rows a.nodes.count en qn (c.requires.ports_on u.port r))
           ∙ ap (endpoint (node_of b u)) (rows.port_read b a.ports.rows a.ports.count ep qp u r)))
-          l.invariant.2,
-    )
+          l.invariant.end_is;
+    }
 
 pub returns : goal.returns
 returns c =
     let l = c.loop-i in
-    let e : l.i ≡ c.args.bundles.count = omega (arith, c.loop-i-test.false, l.invariant.0) in
-    record { end_is = λ b en ep i h. l.invariant.2 i (omega (arith, h, e)) b en ep }
+    let e : l.i ≡ c.args.bundles.count = omega (arith, c.loop-i-test.false) in
+    record { end_is = λ b en ep i h. l.invariant.end_is i (omega (arith, h, e)) b en ep }

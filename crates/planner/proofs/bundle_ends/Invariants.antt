@@ -17,9 +17,7 @@ use borrow.Author.Rules.{rules}
 use Rattle.planner.proofs.bundle_ends.Given as goal
 
 abbrev pub invariant-loop-i : goal.invariant-loop-i
-invariant-loop-i l =
-    (l.i ≤ l.n) × (length l.rows ≡ max_bundles)
-    × ((j : ℕ) → j < l.i → (b : Board) → b.nodes ≡ take l.nodes.count l.nodes.rows → b.ports ≡ take l.ports.count l.ports.rows → get_or l.rows j nan ≡ (endpoint_of b (get_or l.bundles.rows j no_bundle)).x)
-
-abbrev pub decreases-loop-i : goal.decreases-loop-i
-decreases-loop-i l = l.n - l.i
+invariant-loop-i l = record {
+  rows_length : length l.rows ≡ max_bundles;
+  end_is : (j : ℕ) → j < l.i → (b : Board) → b.nodes ≡ take l.nodes.count l.nodes.rows → b.ports ≡ take l.ports.count l.ports.rows → get_or l.rows j nan ≡ (endpoint_of b (get_or l.bundles.rows j no_bundle)).x;
+}

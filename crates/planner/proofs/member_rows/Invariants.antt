@@ -12,14 +12,11 @@ use borrow.Author.Rules.{rules}
 use Rattle.planner.proofs.member_rows.Given as goal
 
 abbrev pub invariant-loop-i : goal.invariant-loop-i
-invariant-loop-i l =
-    (l.i ≤ l.n) × (length l.starts ≡ max_members) × (length l.counts ≡ max_members) × (length l.edges ≡ max_members) × (length l.lanes ≡ max_members)
-    × ((j : ℕ) → j < l.i → get_or l.starts j 0 ≡ (edge_row l.table l.members j).first)
-    × ((j : ℕ) → j < l.i → get_or l.counts j 0 ≡ (edge_row l.table l.members j).count)
-    × ((j : ℕ) → j < l.i → get_or l.edges j 0 ≡ (member_at l.members j).edge)
-    × ((j : ℕ) → j < l.i → get_or l.lanes j 0 ≡ (member_at l.members j).tap_lane)
-    × ((j : ℕ) → l.i ≤ j → get_or l.starts j 0 ≡ 0)
-    × ((j : ℕ) → l.i ≤ j → get_or l.counts j 0 ≡ 0)
-
-abbrev pub decreases-loop-i : goal.decreases-loop-i
-decreases-loop-i l = l.n - l.i
+invariant-loop-i l = record {
+  start_is : (j : ℕ) → j < l.i → get_or l.starts j 0 ≡ (edge_row l.table l.members j).first;
+  count_is : (j : ℕ) → j < l.i → get_or l.counts j 0 ≡ (edge_row l.table l.members j).count;
+  edge_is : (j : ℕ) → j < l.i → get_or l.edges j 0 ≡ (member_at l.members j).edge;
+  lane_is : (j : ℕ) → j < l.i → get_or l.lanes j 0 ≡ (member_at l.members j).tap_lane;
+  no_start : (j : ℕ) → l.i ≤ j → get_or l.starts j 0 ≡ 0;
+  no_count : (j : ℕ) → l.i ≤ j → get_or l.counts j 0 ≡ 0;
+}

@@ -19,11 +19,9 @@ use borrow.Author.Rules.{rules}
 use Rattle.planner.proofs.reaches.Given as goal
 
 abbrev pub invariant-loop-i : goal.invariant-loop-i
-invariant-loop-i l =
-    (l.i ≤ l.n) × (length l.rows ≡ max_bundles)
-    × ((j : ℕ) → j < l.i → (get_or l.rows j no_reached).bundle ≡ get_or l.bundles.rows j no_bundle)
-    × ((j : ℕ) → j < l.i → (b : Board) (given : List Route) (lanes : List ℕ) → Ended b l.o l.bundles l.ends.rows → Rowed b l.edges lanes → Windowed b given l.points l.starts l.counts → Cornered b Input l.in_marks l.in_xs → Cornered b Output l.out_marks l.out_xs
-    → Tells b given l.points l.starts l.counts (rail_depth l.o) (sheet_pitch l.o) (get_or l.rows j no_reached))
-
-abbrev pub decreases-loop-i : goal.decreases-loop-i
-decreases-loop-i l = l.n - l.i
+invariant-loop-i l = record {
+  rows_length : length l.rows ≡ max_bundles;
+  bundle_is : (j : ℕ) → j < l.i → (get_or l.rows j no_reached).bundle ≡ get_or l.bundles.rows j no_bundle;
+  told : (j : ℕ) → j < l.i → (b : Board) (given : List Route) (lanes : List ℕ) → Ended b l.o l.bundles l.ends.rows → Rowed b l.edges lanes → Windowed b given l.points l.starts l.counts → Cornered b Input l.in_marks l.in_xs → Cornered b Output l.out_marks l.out_xs
+      → Tells b given l.points l.starts l.counts (rail_depth l.o) (sheet_pitch l.o) (get_or l.rows j no_reached);
+}

@@ -1,7 +1,8 @@
-use Rattle.route.specs.Intersection.{meets, last_vertical_line_intersection}
-use borrow.Author.Rules.{rules}
+use Rattle.geometry.specs.Line.{on_line}
+use Rattle.route.specs.Intersection.{last_vertical_line_intersection}
+use Rattle.std.proofs.Common.{rules, true}
 use Rattle.route_crossings.proofs.last_vertical_line_intersection.Goals as goal
 
 pub returns : goal.returns
-unfolding meets last_vertical_line_intersection
-returns c = c.last_crossing.ensures
+unfolding last_vertical_line_intersection
+returns c = c.last_met.ensures (λ s. on_line true c.args.x s.start s.end) (λ s h p. search rules)

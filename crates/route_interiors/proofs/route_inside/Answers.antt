@@ -1,97 +1,65 @@
-use native.Mathlib.Omega.{arith}
-use mathlib.Core.Path.{◌≡◌, sym, ◌∙◌}
-use Prim.Native.Nat.{◌≤◌, ◌<◌, ◌+◌, ◌-◌, ◌*◌, ◌/◌}
-use lib.ListN.{length}
-use Rattle.geometry.specs.Points.{runs, points_from}
-use Rattle.drawing.specs.Check.{walk, inside_tests}
-use Rattle.checks.specs.CheckRows.{boxes_from, nodes_in}
-use Rattle.checks.proofs.TestSteps.{nodes_at, node_start, node_own, node_spent, node_hit, node_clean, node_end, inside_at, inside_start, inside_slanted, inside_straight, inside_end}
-use borrow.Author.Rules.{rules}
-use Rattle.std.proofs.Common.{ap, not}
+use Rattle.std.proofs.Common.{◌≡◌, sym, ◌∙◌, ◌+◌, ◌≤◌, ◌<◌, ◌/◌, arith, length}
+use Rattle.std.proofs.lemmas.Result.{err_from_is_err_and}
+use Rattle.checks.specs.CheckRows.{nodes_in}
+use Rattle.checks.proofs.TestSteps.{node_start, node_own, node_spent, node_hit, node_clean, node_end, inside_at, inside_start, inside_slanted, inside_straight, inside_end}
 use Rattle.route_interiors.proofs.route_inside.Goals as goal
 
 pub loop-i-init : goal.loop-i-init
-loop-i-init c =
-    let a = c.args in
-    (omega arith, omega arith, c.requires, inside_start (nodes_in a.boxes.now) a.e a.points.now a.start a.count _)
+loop-i-init c = let a = c.args in inside_start (nodes_in a.boxes.now) a.e a.route.points.now a.route.start a.route.count _
 
 pub returns-then-is_slanted : goal.returns-then-is_slanted
 returns-then-is_slanted c =
     let a = c.args in
     let l = c.loop-i in
-    let p = c.route_run-run in
-    let x = sym c.is_slanted.ensures ∙ c.if-is_slanted.true in
-    sym (inside_slanted (nodes_in a.boxes.now) a.e a.points.now a.start a.count l.i l.left p.result c.loop-i-test.true p.ensures x) ∙ l.invariant.3
+    let p = c.view_run-run in
+    sym (inside_slanted (nodes_in a.boxes.now) a.e a.route.points.now a.route.start a.route.count l.i _ p.result (omega arith) p.ensures (sym c.is_slanted.ensures ∙ c.if-is_slanted.true)) ∙ l.invariant
 
 pub loop-j-init : goal.loop-j-init
 loop-j-init c =
     let a = c.args in
     let l = c.loop-i in
-    let p = c.route_run-run in
-    let x = sym c.is_slanted.ensures ∙ c.if-is_slanted.false in
-    let n = length a.boxes.now / 4 in
-    let ns = nodes_in a.boxes.now in (
-      c.loop-i-test.true,
-      l.invariant.1,
-      l.invariant.2,
-      omega arith,
-      node_start a.e p.result a.boxes.now n (inside_at ns a.e a.points.now a.start a.count (l.i + 1)) l.left
-          ∙ inside_straight ns a.e a.points.now a.start a.count l.i l.left p.result c.loop-i-test.true p.ensures x,
-    )
+    let p = c.view_run-run in
+    let ns = nodes_in a.boxes.now in
+    node_start a.e p.result a.boxes.now (length a.boxes.now / 4) (inside_at ns a.e a.route.points.now a.route.start a.route.count (l.i + 1)) _
+    ∙ inside_straight ns a.e a.route.points.now a.route.start a.route.count l.i _ p.result (omega arith) p.ensures (sym c.is_slanted.ensures ∙ c.if-is_slanted.false)
 
 pub loop-j-preserved-then-is_own : goal.loop-j-preserved-then-is_own
 loop-j-preserved-then-is_own c =
     let a = c.args in
-    let l = c.loop-i in
     let m = c.loop-j in
-    let p = c.route_run-run in
-    let h = c.loop-j-test.true in
-    let n = length a.boxes.now / 4 in
-    (m.invariant.0, m.invariant.1, m.invariant.2, omega arith, node_own a.e p.result a.boxes.now n (inside_at (nodes_in a.boxes.now) a.e a.points.now a.start a.count (l.i + 1)) m.j m.left h (sym c.is_own.ensures ∙ c.if-is_own.true) ∙ m.invariant.4)
+    node_own a.e c.view_run-run.result a.boxes.now _ (inside_at (nodes_in a.boxes.now) a.e a.route.points.now a.route.start a.route.count (c.loop-i.i + 1)) m.j _ c.loop-j-test.true (sym c.is_own.ensures ∙ c.if-is_own.true) ∙ m.invariant
 
-pub returns-then-not-charge : goal.returns-then-not-charge
-returns-then-not-charge c =
+pub returns-in_err-charge : goal.returns-in_err-charge
+returns-in_err-charge c =
     let a = c.args in
-    let l = c.loop-i in
     let m = c.loop-j in
-    let p = c.route_run-run in
-    let h = c.loop-j-test.true in
-    let n = length a.boxes.now / 4 in
-    node_spent a.e p.result a.boxes.now n (inside_at (nodes_in a.boxes.now) a.e a.points.now a.start a.count (l.i + 1)) m.j m.left _ _ h (sym c.is_own.ensures ∙ c.if-is_own.false) c.charge.ensures (ap not c.if-not-charge.true) ∙ m.invariant.4 ∙ l.invariant.3
+    let p = err_from_is_err_and c.from_residual.result c.from_residual.ensures.1 in
+    rw (p.1, p.2, c.in_err-charge.ensures.refusal)
+    (node_spent a.e c.view_run-run.result a.boxes.now _ (inside_at (nodes_in a.boxes.now) a.e a.route.points.now a.route.start a.route.count (c.loop-i.i + 1)) m.j _ _ c.loop-j-test.true (sym c.is_own.ensures ∙ c.if-is_own.false) c.in_err-charge.ensures.paid ∙ m.invariant ∙ c.loop-i.invariant)
 
 pub returns-then-run_passes_inside : goal.returns-then-run_passes_inside
 returns-then-run_passes_inside c =
     let a = c.args in
-    let l = c.loop-i in
     let m = c.loop-j in
-    let p = c.route_run-run in
-    let h = c.loop-j-test.true in
     let d = c.box_at in
-    let n = length a.boxes.now / 4 in
-    node_hit a.e p.result a.boxes.now n (inside_at (nodes_in a.boxes.now) a.e a.points.now a.start a.count (l.i + 1)) m.j m.left _ _ h (sym c.is_own.ensures ∙ c.if-is_own.false) c.charge.ensures d.result d.ensures (ap not c.if-not-charge.false) (sym c.run_passes_inside.ensures ∙ c.if-run_passes_inside.true) ∙ m.invariant.4 ∙ l.invariant.3
+    node_hit a.e c.view_run-run.result a.boxes.now _ (inside_at (nodes_in a.boxes.now) a.e a.route.points.now a.route.start a.route.count (c.loop-i.i + 1)) m.j _ _ c.loop-j-test.true (sym c.is_own.ensures ∙ c.if-is_own.false) d.result d.ensures c.in_ok-charge.ensures.paid (sym c.run_passes_inside.ensures ∙ c.if-run_passes_inside.true) ∙ m.invariant ∙ c.loop-i.invariant
 
 pub loop-j-preserved : goal.loop-j-preserved
 loop-j-preserved c =
     let a = c.args in
-    let l = c.loop-i in
     let m = c.loop-j in
-    let p = c.route_run-run in
-    let h = c.loop-j-test.true in
     let d = c.box_at in
-    let n = length a.boxes.now / 4 in
-    (m.invariant.0, m.invariant.1, m.invariant.2, omega arith, node_clean a.e p.result a.boxes.now n (inside_at (nodes_in a.boxes.now) a.e a.points.now a.start a.count (l.i + 1)) m.j m.left _ _ h (sym c.is_own.ensures ∙ c.if-is_own.false) c.charge.ensures d.result d.ensures (ap not c.if-not-charge.false) (sym c.run_passes_inside.ensures ∙ c.if-run_passes_inside.false) ∙ m.invariant.4)
+    node_clean a.e c.view_run-run.result a.boxes.now _ (inside_at (nodes_in a.boxes.now) a.e a.route.points.now a.route.start a.route.count (c.loop-i.i + 1)) m.j _ _ c.loop-j-test.true (sym c.is_own.ensures ∙ c.if-is_own.false) d.result d.ensures c.in_ok-charge.ensures.paid (sym c.run_passes_inside.ensures ∙ c.if-run_passes_inside.false) ∙ m.invariant
 
 pub loop-i-preserved : goal.loop-i-preserved
 loop-i-preserved c =
     let a = c.args in
     let l = c.loop-i in
     let m = c.loop-j in
-    let p = c.route_run-run in
-    let n = length a.boxes.now / 4 in
-    (omega arith, l.invariant.1, l.invariant.2, sym (node_end a.e p.result a.boxes.now n (inside_at (nodes_in a.boxes.now) a.e a.points.now a.start a.count (l.i + 1)) m.j m.left c.loop-j-test.false) ∙ m.invariant.4 ∙ l.invariant.3)
+    sym (node_end a.e c.view_run-run.result a.boxes.now (length a.boxes.now / 4) (inside_at (nodes_in a.boxes.now) a.e a.route.points.now a.route.start a.route.count (l.i + 1)) m.j _ c.loop-j-test.false) ∙ m.invariant ∙ l.invariant
 
 pub returns : goal.returns
 returns c =
     let a = c.args in
     let l = c.loop-i in
-    sym (inside_end (nodes_in a.boxes.now) a.e a.points.now a.start a.count l.i l.left c.loop-i-test.false) ∙ l.invariant.3
+    sym (inside_end (nodes_in a.boxes.now) a.e a.route.points.now a.route.start a.route.count l.i _ (omega arith)) ∙ l.invariant

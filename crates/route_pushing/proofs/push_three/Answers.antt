@@ -1,6 +1,5 @@
 use Rattle.route.specs.Push.{push_points}
 use native.Mathlib.Omega.{arith}
-use borrow.Author.Rules.{rules}
 use Rattle.route_pushing.proofs.push_three.Goals as goal
 
 pub returns : goal.returns

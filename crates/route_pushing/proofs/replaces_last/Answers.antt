@@ -1,6 +1,5 @@
 use Rattle.route.proofs.WindowSteps.{replaces_is}
 use borrow.Author.Tests.{lt-ltb, le-ltb, eq-eqb, ne_eqb}
-use borrow.Author.Rules.{rules}
 use Rattle.route_pushing.proofs.replaces_last.Goals as goal
 
 pub returns-then-count-eq0 : goal.returns-then-count-eq0

@@ -1,6 +1,5 @@
 use Rattle.route.specs.Rewrite.{new_points}
 use Rattle.route.specs.Push.{push_points}
-use borrow.Author.Rules.{rules}
 use Rattle.route_rewriting.proofs.push_new.Goals as goal
 
 pub returns-then-trunk : goal.returns-then-trunk

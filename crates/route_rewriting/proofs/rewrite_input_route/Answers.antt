@@ -1,12 +1,11 @@
+use Rattle.route.proofs.Lines.{Anywhere, meets}
 use Rattle.route.proofs.WindowSteps.{within_first}
-use mathlib.Core.Bool.{true, false}
+use mathlib.Core.Bool.{false}
 use Rattle.route.proofs.Remade.{is_input_route}
 use Rattle.route.specs.Rewrite.{corridor_x}
-use Rattle.route.specs.Intersection.{meets, first_vertical_line_intersection}
+use Rattle.route.specs.Intersection.{first_vertical_line_intersection}
 use Rattle.geometry.specs.Points.{points_from}
-use Rattle.route.specs.declared.Line.TheVariants.{Anywhere}
 use native.Mathlib.Omega.{arith}
-use borrow.Author.Rules.{rules}
 use Rattle.route_rewriting.proofs.rewrite_input_route.Goals as goal
 
 pub join-requires : goal.join-requires

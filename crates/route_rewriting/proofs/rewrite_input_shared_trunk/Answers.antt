@@ -1,11 +1,10 @@
+use Rattle.route.proofs.Lines.{Trunk, meets}
 use Rattle.route.proofs.WindowSteps.{within_first}
 use Rattle.route.proofs.Remade.{is_input_trunk}
-use Rattle.route.specs.Intersection.{meets, first_shared_trunk_intersection}
+use Rattle.route.specs.Intersection.{first_shared_trunk_intersection}
 use Rattle.geometry.specs.Points.{points_from}
-use Rattle.route.specs.declared.Line.TheVariants.{Trunk}
 use Rattle.geometry.specs.declared.Role.TheVariants.{Input}
 use native.Mathlib.Omega.{arith}
-use borrow.Author.Rules.{rules}
 use Rattle.route_rewriting.proofs.rewrite_input_shared_trunk.Goals as goal
 
 pub join-requires : goal.join-requires

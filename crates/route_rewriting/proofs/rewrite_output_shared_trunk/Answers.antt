@@ -1,11 +1,10 @@
+use Rattle.route.proofs.Lines.{Trunk, meets}
 use Rattle.route.proofs.WindowSteps.{within_last}
 use Rattle.route.proofs.Remade.{is_output_trunk}
-use Rattle.route.specs.Intersection.{meets, last_shared_trunk_intersection}
+use Rattle.route.specs.Intersection.{last_shared_trunk_intersection}
 use Rattle.geometry.specs.Points.{points_from}
-use Rattle.route.specs.declared.Line.TheVariants.{Trunk}
 use Rattle.geometry.specs.declared.Role.TheVariants.{Output}
 use native.Mathlib.Omega.{arith}
-use borrow.Author.Rules.{rules}
 use Rattle.route_rewriting.proofs.rewrite_output_shared_trunk.Goals as goal
 
 pub join-requires : goal.join-requires

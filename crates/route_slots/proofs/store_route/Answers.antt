@@ -1,6 +1,5 @@
 use Rattle.route.proofs.WindowSteps.{stores}
 use native.Mathlib.Omega.{arith}
-use borrow.Author.Rules.{rules}
 use Rattle.route_slots.proofs.store_route.Goals as goal
 
 pub returns : goal.returns

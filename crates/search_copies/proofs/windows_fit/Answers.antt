@@ -1,8 +1,13 @@
 -- `search_copies::windows_fit` meets its contract. Assumes nothing.
-use borrow.Author.Rules.{rules}
+use Rattle.std.proofs.Common.{arith}
+use Rattle.std.proofs.lemmas.Grind.{common_steps}
 use Rattle.search_calls.specs.Copied.{windows_fit}
 use Rattle.search_copies.proofs.windows_fit.Goals as goal
 
-pub returns : goal.returns
+pub returns-then-starts-le-MAX_BUNDLE_MEMBERS : goal.returns-then-starts-le-MAX_BUNDLE_MEMBERS
 unfolding windows_fit
-returns c = rw (← c.places_fit-placed.ensures, ← c.counts_fit-counted.ensures)
+returns-then-starts-le-MAX_BUNDLE_MEMBERS c = grind (arith, common_steps)
+
+pub returns-else-starts-le-MAX_BUNDLE_MEMBERS : goal.returns-else-starts-le-MAX_BUNDLE_MEMBERS
+unfolding windows_fit
+returns-else-starts-le-MAX_BUNDLE_MEMBERS c = grind (arith, common_steps)

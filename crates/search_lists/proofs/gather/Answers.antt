@@ -1,42 +1,50 @@
 -- `search_lists::gather` meets its contract. Each loop's invariant says that the first pass from the loop's start is the one from here on, with the candidates found so far at the front of the slice. Assumes nothing.
 -- the runs of the members from m on
+use Rattle.std.specs.Prelude.{Option}
 use mathlib.Core.Path.{◌≡◌, refl, sym, ◌∙◌, ap}
 use mathlib.Core.List.{List, [], ◌∷◌, ◌++◌, map}
 use Prim.Native.Nat.{ℕ, ◌+◌, ◌-◌, ◌*◌, ◌≤◌, ◌<◌}
 use native.Mathlib.Omega.{arith}
-use borrow.Author.Rules.{rules}
-use lib.ListN.{length, get_or, take, drop, set, length-set}
+use lib.ListN.{length, get_or, take, length-set}
 use lib.Ieee.{Float}
-use Rattle.geometry.specs.declared.Role.{Role}
-use Rattle.geometry.specs.declared.Stretch.{Stretch}
 use Rattle.search.specs.declared.Candidate.{Candidate}
 use Rattle.search.specs.declared.Candidate.TheVariants.{Missing, At}
 use Rattle.search.specs.Stretches.{members, routes, all_runs}
 use Rattle.geometry.specs.Points.{points_from}
 use Rattle.search.specs.Kept.{kept}
-use Rattle.search.specs.Search.{Listing, candidate, onto, gathered_onto}
+use Rattle.search.specs.Search.{candidate, onto, gathered_onto}
 use Rattle.search.proofs.KeptLaws as laws
 use Rattle.search_lists.proofs.Walk as walk
 use Rattle.search_lists.proofs.Walk.{R, run}
 use Rattle.search_lists.proofs.gather.Invariants.{from_member}
 use Rattle.search_lists.proofs.gather.Goals as goal
-use Rattle.search_lists.proofs.gather.Goals.{After-candidate_of-c, At-loop-m, At-loop-rest, In-loop-rest}
+use Rattle.search_lists.proofs.gather.Goals.{After-candidate_of-c, At-loop-i, At-loop-m, In-loop-i, in-At, in_default}
 
-abbrev from : At-loop-m → ℕ → List Stretch
+abbrev from : At-loop-m → ℕ → List (Option (Float × Float))
 from s m =
     let a = s.args in
     from_member a.points.now a.role a.pitch a.starts.now a.counts.now m
 
+-- the runs of all members
+abbrev all : At-loop-m → List (Option (Float × Float))
+all s =
+    let a = s.args in
+    all_runs (members a.role a.pitch (routes a.points.now a.starts.now a.counts.now))
+
+-- those of member m from run i on, and of the members behind it
+abbrev behind : At-loop-i → ℕ → List (Option (Float × Float))
+behind r i =
+    let a = r.args in
+    R a.points.now a.role a.pitch (get_or a.starts.now r.loop-m.m 0 + i) (get_or a.counts.now r.loop-m.m 0 - i) ++ from (goal.at.At-loop-i r).At-loop-m (r.loop-m.m + 1)
+
 -- the whole pass, at the members' loop
 whole : (s : At-loop-m)
     → let a = s.args in
-    gathered_onto a.role a.b (a.b.desired ∷ []) (all_runs (members a.role a.pitch (routes a.points.now a.starts.now a.counts.now))) a.granted.0
-    ≡ gathered_onto a.role a.b (take s.loop-m.n s.loop-m.xs) (from s s.loop-m.m) s.loop-m.left
+    gathered_onto a.role a.b (a.b.desired ∷ []) (all s) a.granted.0 ≡ gathered_onto a.role a.b (take s.loop-m.n s.loop-m.xs) (from s s.loop-m.m) s.loop-m.left
 whole s =
     let a = s.args in
     let h : 0 < length a.xs.now = omega arith in
-    ap (λ (l : List Float). gathered_onto a.role a.b l (all_runs (members a.role a.pitch (routes a.points.now a.starts.now a.counts.now))) a.granted.0) (walk.stored a.xs.now 0 a.b.desired h)
-    ∙ s.loop-m.invariant.2
+    ap (λ (l : List Float). gathered_onto a.role a.b l (all s) a.granted.0) (walk.stored a.xs.now 0 a.b.desired h) ∙ s.loop-m.invariant.passed
 
 next-member : (s : At-loop-m)
     → let a = s.args in
@@ -47,174 +55,148 @@ next-member s h =
     ap all_runs (walk.members_next a.points.now a.role a.pitch a.starts.now a.counts.now s.requires.windows.paired s.loop-m.m h) ∙ walk.runs_next _ _
 
 -- what is left of the pass at the members' loop, at the runs' loop
-part : (r : At-loop-rest)
+part : (r : At-loop-i)
     → let a = r.args in
-    gathered_onto a.role a.b (take r.loop-m.n r.loop-m.xs) (from (goal.at.At-loop-rest r).At-loop-m r.loop-m.m) r.loop-m.left
-    ≡ gathered_onto a.role a.b (take r.loop-rest.n r.loop-rest.xs) (R a.points.now a.role a.pitch r.loop-rest.at r.loop-rest.rest ++ from (goal.at.At-loop-rest r).At-loop-m (r.loop-m.m + 1)) r.loop-rest.left
-part r = rw (next-member (goal.at.At-loop-rest r).At-loop-m r.loop-m-test.true) r.loop-rest.invariant.3
+    gathered_onto a.role a.b (take r.loop-m.n r.loop-m.xs) (from (goal.at.At-loop-i r).At-loop-m r.loop-m.m) r.loop-m.left
+    ≡ gathered_onto a.role a.b (take r.loop-i.n r.loop-i.xs) (behind r r.loop-i.i) r.loop-i.left
+part r = rw (next-member (goal.at.At-loop-i r).At-loop-m r.loop-m-test.true) r.loop-i.invariant.passed
 
 -- what is left to keep at the members' loop, at the runs' loop
-kept-part : (r : At-loop-rest)
-    → let a = r.args in
-    points_from r.loop-m.kept 0 r.loop-m.k ++ map kept (from (goal.at.At-loop-rest r).At-loop-m r.loop-m.m)
-    ≡ points_from r.loop-rest.kept 0 r.loop-rest.k ++ map kept (R a.points.now a.role a.pitch r.loop-rest.at r.loop-rest.rest ++ from (goal.at.At-loop-rest r).At-loop-m (r.loop-m.m + 1))
-kept-part r = rw (next-member (goal.at.At-loop-rest r).At-loop-m r.loop-m-test.true) r.loop-rest.invariant.6
+kept-part : (r : At-loop-i)
+    → points_from r.loop-m.kept 0 r.loop-m.k ++ map kept (from (goal.at.At-loop-i r).At-loop-m r.loop-m.m)
+    ≡ points_from r.loop-i.kept 0 r.loop-i.k ++ map kept (behind r r.loop-i.i)
+kept-part r = rw (next-member (goal.at.At-loop-i r).At-loop-m r.loop-m-test.true) r.loop-i.invariant.keeps
 
 -- a run is left
-next-run : (c : In-loop-rest)
+next-run : (c : In-loop-i)
     → let a = c.args in
-    R a.points.now a.role a.pitch c.loop-rest.at c.loop-rest.rest ++ from (goal.at.In-loop-rest c).At-loop-m (c.loop-m.m + 1)
-    ≡ run a.points.now a.role a.pitch c.loop-rest.at ∷ (R a.points.now a.role a.pitch (c.loop-rest.at + 1) (c.loop-rest.rest - 1) ++ from (goal.at.In-loop-rest c).At-loop-m (c.loop-m.m + 1))
+    let r = (goal.at.In-loop-i c).At-loop-i in
+    behind r c.loop-i.i ≡ run a.points.now a.role a.pitch (get_or a.starts.now c.loop-m.m 0 + c.loop-i.i) ∷ behind r (c.loop-i.i + 1)
 next-run c =
     let a = c.args in
-    ap (λ (l : List Stretch). l ++ from (goal.at.In-loop-rest c).At-loop-m (c.loop-m.m + 1)) (walk.more a.points.now a.role a.pitch c.loop-rest.at c.loop-rest.rest c.loop-rest-test.true)
+    let i = c.loop-i.i in
+    let start = get_or a.starts.now c.loop-m.m 0 in
+    let count = get_or a.counts.now c.loop-m.m 0 in
+    let e : start + (i + 1) ≡ start + i + 1 = omega arith in
+    let f : count - (i + 1) ≡ count - i - 1 = omega arith in
+    let h : 1 < count - i = omega arith in
+    rw (e, f) (ap (λ (l : List (Option (Float × Float))). l ++ from (goal.at.In-loop-i c).At-loop-m (c.loop-m.m + 1)) (walk.more a.points.now a.role a.pitch (start + i) (count - i) h))
 
-room : (c : In-loop-rest)
-    → let a = c.args in
-    c.loop-rest.n + 1 + length (R a.points.now a.role a.pitch (c.loop-rest.at + 1) (c.loop-rest.rest - 1) ++ from (goal.at.In-loop-rest c).At-loop-m (c.loop-m.m + 1)) ≤ length c.loop-rest.xs
-room c = omega (arith, rw (next-run c) at c.loop-rest.invariant.2)
+room : (c : In-loop-i) → c.loop-i.n + 1 + length (behind (goal.at.In-loop-i c).At-loop-i (c.loop-i.i + 1)) ≤ length c.loop-i.xs
+room c = omega (arith, rw (next-run c) at c.loop-i.invariant.room)
 
-pair-room : (c : In-loop-rest) → 2 * (c.loop-rest.k + 1) ≤ length c.loop-rest.kept
-pair-room c = omega (arith, rw (next-run c) at c.loop-rest.invariant.5)
+pair-room : (c : In-loop-i) → 2 * (c.loop-i.k + 1 + length (behind (goal.at.In-loop-i c).At-loop-i (c.loop-i.i + 1))) ≤ length c.loop-i.kept
+pair-room c = omega (arith, rw (next-run c) at c.loop-i.invariant.pair_room)
 
 -- a run's candidate is taken or missing
 stepped : (e : After-candidate_of-c) (o : Candidate) → e.candidate_of-c.result ≡ o
     → let a = e.args in
-    gathered_onto a.role a.b (take e.loop-rest.n e.loop-rest.xs) (R a.points.now a.role a.pitch e.loop-rest.at e.loop-rest.rest ++ from (goal.at.After-candidate_of-c e).At-loop-m (e.loop-m.m + 1)) e.loop-rest.left
-    ≡ gathered_onto a.role a.b (onto (take e.loop-rest.n e.loop-rest.xs) o) (R a.points.now a.role a.pitch (e.loop-rest.at + 1) (e.loop-rest.rest - 1) ++ from (goal.at.After-candidate_of-c e).At-loop-m (e.loop-m.m + 1)) (e.loop-rest.left - 1)
+    let r = (goal.at.After-candidate_of-c e).At-loop-i in
+    gathered_onto a.role a.b (take e.loop-i.n e.loop-i.xs) (behind r e.loop-i.i) e.loop-i.left
+    ≡ gathered_onto a.role a.b (onto (take e.loop-i.n e.loop-i.xs) o) (behind r (e.loop-i.i + 1)) (e.loop-i.left - 1)
 stepped e o g =
     let a = e.args in
-    let v : 0 < e.loop-rest.left = omega arith in
-    let k : candidate a.role a.b (run a.points.now a.role a.pitch e.loop-rest.at) ≡ o = ap (candidate a.role a.b) (sym e.run_stretch-s.ensures) ∙ sym e.candidate_of-c.ensures ∙ g in
-    rw (next-run (goal.at.After-candidate_of-c e).In-loop-rest) (walk.gather_step a.role a.b (take e.loop-rest.n e.loop-rest.xs) (run a.points.now a.role a.pitch e.loop-rest.at) (R a.points.now a.role a.pitch (e.loop-rest.at + 1) (e.loop-rest.rest - 1) ++ from (goal.at.After-candidate_of-c e).At-loop-m (e.loop-m.m + 1)) e.loop-rest.left o v k)
+    let s = run a.points.now a.role a.pitch (get_or a.starts.now e.loop-m.m 0 + e.loop-i.i) in
+    let v : 0 < e.loop-i.left = omega arith in
+    let k : candidate a.role a.b s ≡ o = ap (candidate a.role a.b) (sym e.run_stretch-s.ensures) ∙ sym e.candidate_of-c.ensures ∙ g in
+    rw (next-run (goal.at.After-candidate_of-c e).In-loop-i) (walk.gather_step a.role a.b (take e.loop-i.n e.loop-i.xs) s (behind (goal.at.After-candidate_of-c e).At-loop-i (e.loop-i.i + 1)) e.loop-i.left o v k)
 
 -- a run's pair is kept
 kept_more : (e : After-candidate_of-c)
-    → let a = e.args in
-    let rest = R a.points.now a.role a.pitch (e.loop-rest.at + 1) (e.loop-rest.rest - 1) ++ from (goal.at.After-candidate_of-c e).At-loop-m (e.loop-m.m + 1) in
-    points_from e.loop-rest.kept 0 e.loop-rest.k ++ map kept (R a.points.now a.role a.pitch e.loop-rest.at e.loop-rest.rest ++ from (goal.at.After-candidate_of-c e).At-loop-m (e.loop-m.m + 1))
-    ≡ points_from e.put_point.new.out 0 (e.loop-rest.k + 1) ++ map kept rest
+    → let r = (goal.at.After-candidate_of-c e).At-loop-i in
+    points_from e.loop-i.kept 0 e.loop-i.k ++ map kept (behind r e.loop-i.i) ≡ points_from e.put_point.new.out 0 (e.loop-i.k + 1) ++ map kept (behind r (e.loop-i.i + 1))
 kept_more e =
     let a = e.args in
-    let rest = R a.points.now a.role a.pitch (e.loop-rest.at + 1) (e.loop-rest.rest - 1) ++ from (goal.at.After-candidate_of-c e).At-loop-m (e.loop-m.m + 1) in
-    rw (next-run (goal.at.After-candidate_of-c e).In-loop-rest) (laws.kept_step e.loop-rest.kept e.put_point.new.out e.loop-rest.k e.kept_of.result (run a.points.now a.role a.pitch e.loop-rest.at) rest
-    (pair-room (goal.at.After-candidate_of-c e).In-loop-rest) (e.kept_of.ensures ∙ ap kept e.run_stretch-s.ensures) e.put_point.ensures)
-
--- and there is room for the pairs of the runs behind it
-pair-after : (e : After-candidate_of-c)
-    → let a = e.args in
-    2 * (e.loop-rest.k + 1 + length (R a.points.now a.role a.pitch (e.loop-rest.at + 1) (e.loop-rest.rest - 1) ++ from (goal.at.After-candidate_of-c e).At-loop-m (e.loop-m.m + 1))) ≤ length e.put_point.new.out
-pair-after e =
-    omega (arith, rw (next-run (goal.at.After-candidate_of-c e).In-loop-rest) at e.loop-rest.invariant.5, e.put_point.auto.out)
+    let s = run a.points.now a.role a.pitch (get_or a.starts.now e.loop-m.m 0 + e.loop-i.i) in
+    let h : 2 * (e.loop-i.k + 1) ≤ length e.loop-i.kept = omega (arith, pair-room (goal.at.After-candidate_of-c e).In-loop-i) in
+    rw (next-run (goal.at.After-candidate_of-c e).In-loop-i) (laws.kept_step e.loop-i.kept e.put_point.new.out e.loop-i.k e.kept_of.result s (behind (goal.at.After-candidate_of-c e).At-loop-i (e.loop-i.i + 1))
+    h (e.kept_of.ensures ∙ ap kept e.run_stretch-s.ensures) e.put_point.ensures)
 
 pub loop-m-init : goal.loop-m-init
 unfolding points_from
 loop-m-init c =
-    let a = c.args in
-    (refl, omega (arith, length-set a.xs.now 0 a.b.desired), refl, refl, omega (arith, c.requires), refl)
+    let a = c.args in record {
+      room = omega (arith, length-set a.xs.now 0 a.b.desired);
+      passed = refl;
+      pair_room = omega (arith, c.requires);
+      keeps = refl;
+    }
 
-pub loop-rest-init : goal.loop-rest-init
-loop-rest-init c =
-    let h = c.loop-m-test.true in (
-      refl,
-      c.requires.windows.inside c.loop-m.m h,
-      rw (next-member (goal.at.loop-rest-init c).At-loop-m h) at c.loop-m.invariant.1,
-      refl,
-      refl,
-      rw (next-member (goal.at.loop-rest-init c).At-loop-m h) at c.loop-m.invariant.4,
-      refl,
-    )
+pub loop-i-init : goal.loop-i-init
+loop-i-init c =
+    let a = c.args in
+    let next = next-member (goal.at.loop-i-init c).At-loop-m c.loop-m-test.true in
+    let e : get_or a.starts.now c.loop-m.m 0 + 0 ≡ get_or a.starts.now c.loop-m.m 0 = omega arith in
+    let f : get_or a.counts.now c.loop-m.m 0 - 0 ≡ get_or a.counts.now c.loop-m.m 0 = omega arith in record {
+      room = rw (e, f) (rw next at c.loop-m.invariant.room);
+      passed = rw (e, f);
+      pair_room = rw (e, f) (rw next at c.loop-m.invariant.pair_room);
+      keeps = rw (e, f);
+    }
 
 pub loop-m-preserved : goal.loop-m-preserved
 loop-m-preserved c =
     let a = c.args in
-    let h = c.loop-m-test.true in
-    let e : R a.points.now a.role a.pitch c.loop-rest.at c.loop-rest.rest ++ from (goal.at.loop-m-preserved c).At-loop-m (c.loop-m.m + 1) ≡ from (goal.at.loop-m-preserved c).At-loop-m (c.loop-m.m + 1) = ap (λ (l : List Stretch). l ++ from (goal.at.loop-m-preserved c).At-loop-m (c.loop-m.m + 1)) (walk.none a.points.now a.role a.pitch c.loop-rest.at c.loop-rest.rest c.loop-rest-test.false) in (
-      c.loop-rest.invariant.0 ∙ c.loop-m.invariant.0,
-      rw e at c.loop-rest.invariant.2,
-      c.loop-m.invariant.2 ∙ part (goal.at.loop-m-preserved c).At-loop-rest ∙ rw e,
-      c.loop-rest.invariant.4 ∙ c.loop-m.invariant.3,
-      rw e at c.loop-rest.invariant.5,
-      c.loop-m.invariant.5 ∙ kept-part (goal.at.loop-m-preserved c).At-loop-rest ∙ rw e,
-    )
+    let r = (goal.at.loop-m-preserved c).At-loop-i in
+    let last : get_or a.counts.now c.loop-m.m 0 - c.loop-i.i ≤ 1 = omega arith in
+    let e : behind r c.loop-i.i ≡ from (goal.at.loop-m-preserved c).At-loop-m (c.loop-m.m + 1) =
+    ap (λ (l : List (Option (Float × Float))). l ++ from (goal.at.loop-m-preserved c).At-loop-m (c.loop-m.m + 1)) (walk.none a.points.now a.role a.pitch _ _ last) in record {
+      room = rw e at c.loop-i.invariant.room;
+      passed = c.loop-m.invariant.passed ∙ part r ∙ rw e;
+      pair_room = rw e at c.loop-i.invariant.pair_room;
+      keeps = c.loop-m.invariant.keeps ∙ kept-part r ∙ rw e;
+    }
 
-pub shape_of-xs-then-left-eq0 : goal.shape_of-xs-then-left-eq0
-shape_of-xs-then-left-eq0 c =
-    c.loop-rest.invariant.0 ∙ c.loop-m.invariant.0 ∙ simp length-set
-
-pub shape_of-kept-then-left-eq0 : goal.shape_of-kept-then-left-eq0
-shape_of-kept-then-left-eq0 c =
-    c.loop-rest.invariant.4 ∙ c.loop-m.invariant.3
-
-pub returns-then-left-eq0 : goal.returns-then-left-eq0
-returns-then-left-eq0 c =
-    let a = c.args in
-    record { found = record { within = tt; are = sym (whole (goal.at.returns-then-left-eq0 c).At-loop-m ∙ part (goal.at.returns-then-left-eq0 c).At-loop-rest ∙ rw (next-run (goal.at.returns-then-left-eq0 c).In-loop-rest) (walk.gather_spent a.role a.b _ _ _ c.loop-rest.left c.if-left-eq0.true)) }; keeps = tt }
+pub returns-then-left-eq0-clause-found : goal.returns-then-left-eq0-clause-found
+returns-then-left-eq0-clause-found c =
+    let a = c.args in record {
+      within = tt;
+      are = sym (whole (goal.at.returns-then-left-eq0-clause-found c).At-loop-m ∙ part (goal.at.returns-then-left-eq0-clause-found c).At-loop-i
+          ∙ rw (next-run (goal.at.returns-then-left-eq0-clause-found c).In-loop-i) (walk.gather_spent a.role a.b _ _ _ c.loop-i.left c.if-left-eq0.true));
+    }
 
 pub put_point-requires : goal.put_point-requires
-put_point-requires c = let h = pair-room (goal.at.put_point-requires c).In-loop-rest in omega arith
-
-pub overflow_add-k : goal.overflow_add-k
-overflow_add-k c =
-    let h = pair-room (goal.at.overflow_add-k c).In-loop-rest in
-    let e = c.loop-rest.invariant.4 ∙ c.loop-m.invariant.3 in
-    omega (arith, c.well_formed)
-
-pub offset_bounds-xs-n : goal.offset_bounds-xs-n
-offset_bounds-xs-n c =
-    let h = room (goal.at.offset_bounds-xs-n c).In-loop-rest in
-    let e = c.loop-rest.invariant.0 ∙ c.loop-m.invariant.0 ∙ length-set c.args.xs.now 0 _ in
-    omega (arith, c.well_formed)
+put_point-requires c = let h = pair-room (goal.at.put_point-requires c).In-loop-i in omega arith
 
 pub bounds-xs-n : goal.bounds-xs-n
-bounds-xs-n c =
-    let h = room (goal.at.bounds-xs-n c).In-loop-rest in
-    omega arith
+bounds-xs-n c = let h = room (goal.at.bounds-xs-n c).In-loop-i in omega arith
 
-pub overflow_add-n : goal.overflow_add-n
-overflow_add-n c = omega (arith, offset_bounds-xs-n c)
+pub loop-i-preserved : goal.loop-i-preserved
+loop-i-preserved c =
+    let e = (goal.at.loop-i-preserved c).After-candidate_of-c in
+    let room' = room (goal.at.loop-i-preserved c).In-loop-i in
+    let pair-room' = pair-room (goal.at.loop-i-preserved c).In-loop-i in
+    let keeps' = c.loop-i.invariant.keeps ∙ kept_more e in
+    elim c.match-c.branch [
+      | in-At w ↦
+          let h : c.loop-i.n < length c.loop-i.xs = omega arith in record {
+            room = omega arith;
+            passed = c.loop-i.invariant.passed ∙ stepped e (At w.in-At.x) w.in-At.is ∙ rw (w.xs-is, w.n-is, walk.stored c.loop-i.xs c.loop-i.n w.in-At.x h);
+            pair_room = omega (arith, pair-room', c.put_point.auto.out);
+            keeps = keeps';
+          }
+      | in_default w ↦ record {
+        room = omega arith;
+        passed = c.loop-i.invariant.passed ∙ stepped e Missing w.in_default.is ∙ rw (w.xs-is, w.n-is);
+        pair_room = omega (arith, pair-room', c.put_point.auto.out);
+        keeps = keeps';
+      }
+    ]
 
-pub loop-rest-preserved-in-At : goal.loop-rest-preserved-in-At
-loop-rest-preserved-in-At c =
-    let x = c.in-At.x in
-    let room' = room (goal.at.loop-rest-preserved-in-At c).In-loop-rest in
-    let h : c.loop-rest.n < length c.loop-rest.xs = omega arith in (
-      length-set c.loop-rest.xs c.loop-rest.n x ∙ c.loop-rest.invariant.0,
-      omega arith,
-      omega (arith, length-set c.loop-rest.xs c.loop-rest.n x),
-      c.loop-rest.invariant.3 ∙ stepped (goal.at.loop-rest-preserved-in-At c).After-candidate_of-c (At x) c.in-At.is ∙ rw (walk.stored c.loop-rest.xs c.loop-rest.n x h),
-      c.put_point.auto.out ∙ c.loop-rest.invariant.4,
-      pair-after (goal.at.loop-rest-preserved-in-At c).After-candidate_of-c,
-      c.loop-rest.invariant.6 ∙ kept_more (goal.at.loop-rest-preserved-in-At c).After-candidate_of-c,
-    )
+end : (s : At-loop-m) → length s.args.starts.now ≤ s.loop-m.m → from s s.loop-m.m ≡ []
+end s h =
+    let a = s.args in
+    ap all_runs (walk.members_end a.points.now a.role a.pitch a.starts.now a.counts.now s.requires.windows.paired s.loop-m.m h) ∙ walk.runs_end
 
-pub loop-rest-preserved : goal.loop-rest-preserved
-loop-rest-preserved c =
-    let room' = room (goal.at.loop-rest-preserved c).In-loop-rest in (
-      c.loop-rest.invariant.0,
-      omega arith,
-      omega arith,
-      c.loop-rest.invariant.3 ∙ stepped (goal.at.loop-rest-preserved c).After-candidate_of-c Missing c.in_default.is,
-      c.put_point.auto.out ∙ c.loop-rest.invariant.4,
-      pair-after (goal.at.loop-rest-preserved c).After-candidate_of-c,
-      c.loop-rest.invariant.6 ∙ kept_more (goal.at.loop-rest-preserved c).After-candidate_of-c,
-    )
-
-pub shape_of-xs : goal.shape_of-xs
-shape_of-xs c =
-    c.loop-m.invariant.0 ∙ simp length-set
-
-pub shape_of-kept : goal.shape_of-kept
-shape_of-kept c =
-    c.loop-m.invariant.3
-
-pub returns : goal.returns
-returns c =
+pub returns-clause-found : goal.returns-clause-found
+returns-clause-found c =
     let a = c.args in
-    let end : from (goal.at.returns c).At-loop-m c.loop-m.m ≡ [] = ap all_runs (walk.members_end a.points.now a.role a.pitch a.starts.now a.counts.now c.requires.windows.paired c.loop-m.m c.loop-m-test.false) ∙ walk.runs_end in record {
-      found = record {
-        within = omega (arith, c.loop-m.invariant.0 ∙ length-set a.xs.now 0 a.b.desired);
-        are = sym (whole (goal.at.returns c).At-loop-m ∙ rw end (walk.gather_end a.role a.b _ _));
-      };
-      keeps = laws.kept_whole c.loop-m.kept c.loop-m.k (all_runs (members a.role a.pitch (routes a.points.now a.starts.now a.counts.now))) (c.loop-m.invariant.5 ∙ rw end);
+    let s = (goal.at.returns-clause-found c).At-loop-m in record {
+      within = omega (arith, length-set a.xs.now 0 a.b.desired);
+      are = sym (whole s ∙ rw (end s c.loop-m-test.false) (walk.gather_end a.role a.b _ _));
     }
+
+pub returns-clause-keeps : goal.returns-clause-keeps
+returns-clause-keeps c =
+    let s = (goal.at.returns-clause-keeps c).At-loop-m in
+    laws.kept_whole c.loop-m.kept c.loop-m.k (all s) (c.loop-m.invariant.keeps ∙ rw (end s c.loop-m-test.false))

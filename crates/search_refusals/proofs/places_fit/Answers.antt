@@ -1,15 +1,9 @@
 -- `search_refusals::places_fit` meets its contract. Assumes nothing.
-use mathlib.Core.Path.{◌≡◌, sym, ◌∙◌}
-use mathlib.Core.Bool.{true, false}
-use Prim.Native.Nat.{◌+◌, ◌*◌, ◌-◌, ◌/◌, ◌≤◌, ◌<◌}
-use native.Mathlib.Omega.{arith}
-use lib.Dec.{leb}
-use lib.ListN.{length, get_or, drop}
-use borrow.Author.Tests.{le-leb, lt-leb}
-use Rattle.search_calls.specs.Entry.{places_fit}
+use Rattle.std.proofs.Common.{◌<◌, ◌+◌, ◌*◌, sym, ◌∙◌, arith, length, get_or, le-leb}
+use Rattle.std.proofs.lemmas.Bool.{lt-leb}
 use Rattle.search_calls.proofs.RefusalSteps as laws
-use borrow.Author.Rules.{rules}
 use Rattle.search_refusals.proofs.places_fit.Goals as goal
+use Rattle.search_refusals.proofs.places_fit.Goals.{then-start-n-via-then-start-n, then-start-n-via-else-start-n+then-counts-m}
 
 pub returns-then-starts-counts : goal.returns-then-starts-counts
 returns-then-starts-counts c =
@@ -19,25 +13,23 @@ returns-then-starts-counts c =
 pub returns-then-start-n : goal.returns-then-start-n
 returns-then-start-n c =
     let a = c.args in
-    let next = laws.places_next a.points.now a.starts.now a.counts.now c.if-starts-counts.false c.loop-m.m c.loop-m-test.true in
-    let s = get_or a.starts.now c.loop-m.m 0 in
-    let n = get_or a.counts.now c.loop-m.m 0 in
-    sym (c.loop-m.invariant ∙ next ∙ rw (lt-leb (2 * (s + n)) (length a.points.now) (omega arith)))
-
-pub returns-then-count-n : goal.returns-then-count-n
-returns-then-count-n c =
-    let a = c.args in
-    let next = laws.places_next a.points.now a.starts.now a.counts.now c.if-starts-counts.false c.loop-m.m c.loop-m-test.true in
-    let s = get_or a.starts.now c.loop-m.m 0 in
-    let n = get_or a.counts.now c.loop-m.m 0 in
-    sym (c.loop-m.invariant ∙ next ∙ rw (lt-leb (2 * (s + n)) (length a.points.now) (omega arith)))
+    let m = c.loop-m.m in
+    let next = laws.places_next a.points.now a.starts.now a.counts.now c.if-starts-counts.false m c.loop-m-test.true in
+    let s = get_or a.starts.now m 0 in
+    let n = get_or a.counts.now m 0 in
+    let out : length a.points.now < 2 * (s + n) = elim c.then-start-n.branch [
+      | then-start-n-via-then-start-n w ↦ omega arith
+      | then-start-n-via-else-start-n+then-counts-m w ↦ omega arith
+    ] in
+    sym (c.loop-m.invariant ∙ next ∙ rw (lt-leb (2 * (s + n)) (length a.points.now) out))
 
 pub loop-m-preserved : goal.loop-m-preserved
 loop-m-preserved c =
     let a = c.args in
-    let next = laws.places_next a.points.now a.starts.now a.counts.now c.if-starts-counts.false c.loop-m.m c.loop-m-test.true in
-    let s = get_or a.starts.now c.loop-m.m 0 in
-    let n = get_or a.counts.now c.loop-m.m 0 in
+    let m = c.loop-m.m in
+    let next = laws.places_next a.points.now a.starts.now a.counts.now c.if-starts-counts.false m c.loop-m-test.true in
+    let s = get_or a.starts.now m 0 in
+    let n = get_or a.counts.now m 0 in
     c.loop-m.invariant ∙ next ∙ rw (le-leb (2 * (s + n)) (length a.points.now) (omega arith))
 
 pub returns : goal.returns

@@ -1,28 +1,25 @@
 -- `search_refusals::points_fit` meets its contract. Assumes nothing.
-use mathlib.Core.Path.{◌≡◌, refl, sym, ap, ◌∙◌}
-use mathlib.Core.Bool.{true, false, ◌&&◌}
-use Prim.Native.Nat.{◌+◌, ◌*◌, ◌-◌, ◌≤◌, ◌<◌}
-use native.Mathlib.Omega.{arith}
-use native.Mathlib.Nat.{add-zero}
-use lib.ListN.{length}
-use Rattle.geometry.specs.Points.{points_from, point_at}
-use Rattle.search_calls.specs.Entry.{points_fit}
+use Rattle.std.proofs.Common.{◌≡◌, ◌+◌, ◌-◌, sym, ◌∙◌, arith}
 use Rattle.search_calls.proofs.RefusalSteps as laws
-use borrow.Author.Rules.{rules}
 use Rattle.search_refusals.proofs.points_fit.Goals as goal
 
-pub loop-rest-preserved : goal.loop-rest-preserved
-loop-rest-preserved c =
+pub returns-then-not-is_point : goal.returns-then-not-is_point
+returns-then-not-is_point c =
     let a = c.args in
-    let next = laws.points_next a.points.now c.loop-rest.at c.loop-rest.rest c.loop-rest-test.true in
-    (omega arith, c.loop-rest.invariant.1 ∙ next ∙ rw (← (c.route_point-p.ensures ∙ ap (point_at a.points.now) (add-zero c.loop-rest.at)), ← c.is_point.ensures, c.if-is_point.true))
+    let k = c.loop-k.k in
+    let next = laws.points_next a.points.now (a.start + k) (a.count - k) (omega arith) in
+    sym (c.loop-k.invariant ∙ next ∙ rw (← c.route_point.ensures, ← c.is_point.ensures, c.if-not-is_point.true))
 
-pub returns-in-loop-rest : goal.returns-in-loop-rest
-returns-in-loop-rest c =
+pub loop-k-preserved : goal.loop-k-preserved
+loop-k-preserved c =
     let a = c.args in
-    let next = laws.points_next a.points.now c.loop-rest.at c.loop-rest.rest c.loop-rest-test.true in
-    sym (c.loop-rest.invariant.1 ∙ next ∙ rw (← (c.route_point-p.ensures ∙ ap (point_at a.points.now) (add-zero c.loop-rest.at)), ← c.is_point.ensures, c.if-is_point.false))
+    let k = c.loop-k.k in
+    let next = laws.points_next a.points.now (a.start + k) (a.count - k) (omega arith) in
+    let e : a.start + (k + 1) ≡ a.start + k + 1 = omega arith in
+    let f : a.count - (k + 1) ≡ a.count - k - 1 = omega arith in
+    c.loop-k.invariant ∙ next ∙ rw (← c.route_point.ensures, ← c.is_point.ensures, c.if-not-is_point.false, e, f)
 
 pub returns : goal.returns
 returns c =
-    sym (c.loop-rest.invariant.1 ∙ laws.points_end c.args.points.now c.loop-rest.at c.loop-rest.rest c.loop-rest-test.false)
+    let a = c.args in
+    sym (c.loop-k.invariant ∙ laws.points_end a.points.now (a.start + c.loop-k.k) (a.count - c.loop-k.k) (omega arith))

@@ -1,15 +1,8 @@
-use mathlib.Core.Path.{◌≡◌, sym, ◌∙◌}
-use Prim.Native.Nat.{◌+◌, ◌-◌, ◌≤◌, ◌<◌}
-use native.Mathlib.Omega.{arith}
-use borrow.Author.Rules.{rules}
-use lib.ListN.{length, drop}
+use mathlib.Core.Path.{◌≡◌}
+use lib.ListN.{drop}
 use Rattle.search.specs.Stretches.{routes}
 use Rattle.search_calls.specs.Entry.{routes_fit}
-use Rattle.search_calls.proofs.RefusalSteps as laws
 use Rattle.search_refusals.proofs.routes_fit.Given as goal
 
 abbrev pub invariant-loop-m : goal.invariant-loop-m
 invariant-loop-m l = routes_fit (routes l.points l.starts l.counts) ≡ routes_fit (routes l.points (drop l.m l.starts) (drop l.m l.counts))
-
-abbrev pub decreases-loop-m : goal.decreases-loop-m
-decreases-loop-m l = length l.starts - l.m

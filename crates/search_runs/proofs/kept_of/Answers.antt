@@ -2,8 +2,8 @@
 use borrow.Author.Rules.{rules}
 use Rattle.search_runs.proofs.kept_of.Goals as goal
 
-pub returns-in-Nowhere : goal.returns-in-Nowhere
-returns-in-Nowhere c = rw c.in-Nowhere.is
+pub returns-in-None : goal.returns-in-None
+returns-in-None c = rw c.in-None.is
 
-pub returns-in-Of : goal.returns-in-Of
-returns-in-Of c = rw c.in-Of.is
+pub returns-in-Some : goal.returns-in-Some
+returns-in-Some c = rw c.in-Some.is

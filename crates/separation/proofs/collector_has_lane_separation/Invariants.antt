@@ -12,7 +12,4 @@ use borrow.Author.Tests.{not-true, not-false}
 use Rattle.separation.proofs.collector_has_lane_separation.Given as goal
 
 abbrev pub invariant-loop-i : goal.invariant-loop-i
-invariant-loop-i l = (l.i ≤ l.count) × (clear l.pitch l.x (drop l.i (take l.count l.used)) ≡ clear l.pitch l.x (take l.count l.used))
-
-abbrev pub decreases-loop-i : goal.decreases-loop-i
-decreases-loop-i l = l.count - l.i
+invariant-loop-i l = clear l.pitch l.x (drop l.i (take l.count l.used)) ≡ clear l.pitch l.x (take l.count l.used)

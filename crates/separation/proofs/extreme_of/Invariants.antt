@@ -10,7 +10,4 @@ use borrow.Author.Rules.{rules}
 use Rattle.separation.proofs.extreme_of.Given as goal
 
 abbrev pub invariant-loop-i : goal.invariant-loop-i
-invariant-loop-i l = (l.i ≤ l.count) × (extreme_of l.larger l.most (drop l.i (take l.count l.used)) ≡ extreme_of l.larger l.x (take l.count l.used))
-
-abbrev pub decreases-loop-i : goal.decreases-loop-i
-decreases-loop-i l = l.count - l.i
+invariant-loop-i l = extreme_of l.larger l.most (drop l.i (take l.count l.used)) ≡ extreme_of l.larger l.x (take l.count l.used)

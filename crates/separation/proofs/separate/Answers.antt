@@ -24,24 +24,19 @@ rows_length : (s : Start) → length s.args.t.rows ≡ max_bundles
 rows_length s = search (rules, rows.length_mapped)
 
 pub loop-i-init : goal.loop-i-init
-loop-i-init c = (omega arith, search (rules, rows.length_mapped), refl, refl, omega arith, omega arith, λ b given t. refl)
-
-pub slice_bounds-beside_planned-end : goal.slice_bounds-beside_planned-end
-slice_bounds-beside_planned-end c = let n = c.lanes_of-taken.ensures.size in search rules
+loop-i-init c =
+    record { rows_length = search (rules, rows.length_mapped); inputs_few = omega arith; outputs_few = omega arith; plan_is = λ b given t. refl }
 
 pub beside_planned-r-requires : goal.beside_planned-r-requires
 beside_planned-r-requires c =
     let l = c.loop-i in
     let p = c.requires.searchable in
-    let few = c.lanes_of-taken.ensures.few l.i l.invariant.4 l.invariant.5 in record { searchable = record { paired = p.paired; windows = p.windows; room = omega (arith, p.room, l.invariant.2); scratch_room = omega (arith, p.scratch_room, l.invariant.2, l.invariant.3) }; among = c.requires.ranges_fit.each l.i c.loop-i-test.true; count_in_bounds = omega (arith, few, c.lanes_of-taken.ensures.size, c.loop-i-test.true, c.requires.ranges_fit.bundles_few) }
-
-pub slice_bounds-if_clear-end : goal.slice_bounds-if_clear-end
-slice_bounds-if_clear-end c = let n = c.lanes_of-taken.ensures.size in search rules
+    let few = c.lanes_of-taken.ensures.few l.i l.invariant.inputs_few l.invariant.outputs_few in record { searchable = record { paired = p.paired; windows = p.windows; room = omega (arith, p.room); scratch_room = omega (arith, p.scratch_room) }; among = c.requires.ranges_fit.each l.i c.loop-i-test.true; count_in_bounds = omega (arith, few, c.lanes_of-taken.ensures.size, c.loop-i-test.true, c.requires.ranges_fit.bundles_few) }
 
 pub if_clear-x-requires : goal.if_clear-x-requires
 if_clear-x-requires c =
     let l = c.loop-i in
-    omega (arith, c.lanes_of-taken.ensures.few l.i l.invariant.4 l.invariant.5, c.lanes_of-taken.ensures.size, c.loop-i-test.true, c.requires.ranges_fit.bundles_few)
+    omega (arith, c.lanes_of-taken.ensures.few l.i l.invariant.inputs_few l.invariant.outputs_few, c.lanes_of-taken.ensures.size, c.loop-i-test.true, c.requires.ranges_fit.bundles_few)
 
 pub offset_bounds-rows-i-in-loop-i : goal.offset_bounds-rows-i-in-loop-i
 offset_bounds-rows-i-in-loop-i c =
@@ -55,28 +50,14 @@ bounds-rows-i-in-loop-i c =
     let l = c.loop-i in
     let h = c.loop-i-test.true in
     let few = c.requires.ranges_fit.bundles_few in
-    omega (arith, h, few, l.invariant.1)
+    omega (arith, h, few, l.invariant.rows_length)
 
 pub add_lane-lanes-requires : goal.add_lane-lanes-requires
 add_lane-lanes-requires c =
     let l = c.loop-i in
     let h = c.loop-i-test.true in
     let few = c.requires.ranges_fit.bundles_few in
-    (omega (arith, h, few, l.invariant.4), omega (arith, h, few, l.invariant.5))
-
-pub overflow_add-i : goal.overflow_add-i
-overflow_add-i c =
-    let l = c.loop-i in
-    let h = c.loop-i-test.true in
-    let few = c.requires.ranges_fit.bundles_few in
-    search rules
-
-pub loop-i-smaller : goal.loop-i-smaller
-loop-i-smaller c =
-    let l = c.loop-i in
-    let h = c.loop-i-test.true in
-    let few = c.requires.ranges_fit.bundles_few in
-    omega (arith, h)
+    (omega (arith, h, few, l.invariant.inputs_few), omega (arith, h, few, l.invariant.outputs_few))
 
 pub loop-i-preserved : goal.loop-i-preserved
 loop-i-preserved c =
@@ -85,28 +66,25 @@ loop-i-preserved c =
     let h = c.loop-i-test.true in
     let few = c.requires.ranges_fit.bundles_few in
     let n : length a.t.rows ≡ max_bundles = rows_length (goal.at.loop-i-preserved c).Start in
-    let g : l.i < length l.rows = omega (arith, h, few, l.invariant.1) in
+    let g : l.i < length l.rows = omega (arith, h, few, l.invariant.rows_length) in
     let q : a.n ≤ length a.t.rows = omega (arith, few, n) in
-    let r : a.n ≤ length l.rows = omega (arith, few, l.invariant.1) in
+    let r : a.n ≤ length l.rows = omega (arith, few, l.invariant.rows_length) in
     let y = c.if_clear-x in
     let d = c.add_lane-lanes in
     let f = c.beside_planned-r in
-    let u = c.lanes_of-taken.ensures.told in (
-      omega (arith, h),
-      length-set l.rows l.i (record { x = y.result }) ∙ l.invariant.1,
-      omega (arith, l.invariant.2, f.auto.xs),
-      omega (arith, l.invariant.3, f.auto.scratch),
-      omega (arith, l.invariant.4, d.ensures.few.0),
-      omega (arith, l.invariant.5, d.ensures.few.1),
-      λ b given t.
+    let u = c.lanes_of-taken.ensures.told in record {
+      rows_length = length-set l.rows l.i (record { x = y.result }) ∙ l.invariant.rows_length;
+      inputs_few = omega (arith, l.invariant.inputs_few, d.ensures.few.0);
+      outputs_few = omega (arith, l.invariant.outputs_few, d.ensures.few.1);
+      plan_is = λ b given t.
           ap (λ (z : List Bound). laws.behind (map x_of (take (l.i + 1) (set l.rows l.i (record { x = y.result })))) (separated search_of b given (map ranged_from (drop (l.i + 1) (take a.n a.t.rows))) z (lanes_in d.result) f.result.left.0))
           (ap (map x_of) (laws.later_rows l.rows a.n l.i (record { x = y.result }) h))
           ∙ laws.separated_turn b given _ _ (ranged_from (range_at a.t l.i)) _ _ (get_or l.rows l.i no_planned).x y.result (lanes_in l.lanes) (lanes_in d.result) l.left.0 f.result l.i l.rows
           (ap (map ranged_from) (rows.part_cons a.t.rows a.n l.i no_range h q)) (ap (map x_of) (rows.part_cons l.rows a.n l.i no_planned h r)) g
           (f.ensures b given (t.pitch_is l.i h) (t.routed l.i h) ∙ ap (λ (ys : List Float). beside search_of b given (ranged_from (range_at a.t l.i)) (get_or l.rows l.i no_planned).x ys l.left.0) u)
           (laws.if_clear_same y.result a.pitch _ c.found_x-found.result _ _ _ y.ensures (t.pitch_is l.i h) c.found_x-found.ensures u) d.ensures.told
-          ∙ l.invariant.6 b given t,
-    )
+          ∙ l.invariant.plan_is b given t;
+    }
 
 pub returns : goal.returns
 returns c =
@@ -115,8 +93,8 @@ returns c =
     let few = c.requires.ranges_fit.bundles_few in
     let n : length a.t.rows ≡ max_bundles = rows_length (goal.at.returns c).Start in
     let q : a.n ≤ length a.t.rows = omega (arith, few, n) in
-    let e : a.n ≡ l.i = omega (arith, c.loop-i-test.false, l.invariant.0) in
+    let e : a.n ≡ l.i = omega (arith, c.loop-i-test.false) in
     λ b given t.
     ap (λ (j : ℕ). plan_in j (record { rows = l.rows; left = l.left })) e
     ∙ laws.separated_end b given _ _ (lanes_in l.lanes) l.left.0 (map x_of (take l.i l.rows)) (ap (map ranged_from) (rows.part_none a.t.rows a.n l.i c.loop-i-test.false q))
-    ∙ l.invariant.6 b given t
+    ∙ l.invariant.plan_is b given t

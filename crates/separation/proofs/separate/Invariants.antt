@@ -19,11 +19,11 @@ use borrow.Author.Rules.{rules}
 use Rattle.separation.proofs.separate.Given as goal
 
 abbrev pub invariant-loop-i : goal.invariant-loop-i
-invariant-loop-i l =
-    (l.i ≤ l.n) × (length l.rows ≡ max_bundles) × (length l.xs ≡ length l.initial.xs) × (length l.scratch ≡ length l.initial.scratch) × (l.lanes.input.count ≤ l.i) × (l.lanes.output.count ≤ l.i)
-    × ((b : Board) (given : List Route) → RangesTell b given l.points l.starts l.counts l.pitch l.t l.n
-    → laws.behind (map x_of (take l.i l.rows)) (separated search_of b given (map ranged_from (drop l.i (take l.n l.t.rows))) (map x_of (drop l.i (take l.n l.rows))) (lanes_in l.lanes) l.left.0)
-    ≡ separated search_of b given (map ranged_from (take l.n l.t.rows)) (map x_of (take l.n l.initial.rows)) none_taken l.initial.left.0)
-
-abbrev pub decreases-loop-i : goal.decreases-loop-i
-decreases-loop-i l = l.n - l.i
+invariant-loop-i l = record {
+  rows_length : length l.rows ≡ max_bundles;
+  inputs_few : l.lanes.input.count ≤ l.i;
+  outputs_few : l.lanes.output.count ≤ l.i;
+  plan_is : (b : Board) (given : List Route) → RangesTell b given l.points l.starts l.counts l.pitch l.t l.n
+      → laws.behind (map x_of (take l.i l.rows)) (separated search_of b given (map ranged_from (drop l.i (take l.n l.t.rows))) (map x_of (drop l.i (take l.n l.rows))) (lanes_in l.lanes) l.left.0)
+      ≡ separated search_of b given (map ranged_from (take l.n l.t.rows)) (map x_of (take l.n l.initial.rows)) none_taken l.initial.left.0;
+}

@@ -9,24 +9,6 @@ use Rattle.draw_job.proofs.Phases as laws
 use borrow.Author.Rules.{rules}
 use Rattle.sheet_replay.proofs.draw.Goals as goal
 
-pub slice_bounds-edges-end : goal.slice_bounds-edges-end
-slice_bounds-edges-end c = let h = c.requires.0.fits.members in search rules
-
-pub slice_bounds-draw_in-end : goal.slice_bounds-draw_in-end
-slice_bounds-draw_in-end c = sym (length-take-le _ _ c.requires.0.fits.members)
-
-pub slice_bounds-lanes-end : goal.slice_bounds-lanes-end
-slice_bounds-lanes-end c = let h = c.requires.0.fits.members in search rules
-
-pub slice_bounds-draw_in-end-2 : goal.slice_bounds-draw_in-end-2
-slice_bounds-draw_in-end-2 c = sym (length-take-le _ _ c.requires.0.fits.members)
-
-pub slice_bounds-counts-end : goal.slice_bounds-counts-end
-slice_bounds-counts-end c = let h = c.requires.0.fits.edges in search rules
-
-pub slice_bounds-draw_in-end-5 : goal.slice_bounds-draw_in-end-5
-slice_bounds-draw_in-end-5 c = sym (length-take-le _ _ c.requires.0.fits.edges)
-
 pub draw_in-requires : goal.draw_in-requires
 draw_in-requires c =
     let fits = c.requires.0.fits in

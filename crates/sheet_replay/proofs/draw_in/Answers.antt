@@ -1,5 +1,6 @@
 -- `sheet_replay::draw_in` is safe and ends. Assumes nothing.
 use mathlib.Core.Path.{◌≡◌}
+use Rattle.checks.specs.Purse.{told}
 use Rattle.job_tables.specs.Came.{Sizes}
 use Rattle.job_tables.proofs.Ready.{tables_sound, routes_in}
 use Rattle.plan.proofs.TableReads as rows
@@ -33,4 +34,4 @@ pub put_pages-requires : goal.put_pages-requires
 put_pages-requires c =
     let a = c.args in
     let d = c.draw_sheet-d in
-    record { on_sheet = laws.on_sheet a.j a.given.now c.requires.came.0 (sizes (goal.at.put_pages-requires c).Start) _ _ _ _ _ _ _ c.requires.lent d.result.verdict d.result.drawn d.new.edges d.new.lanes d.new.taps d.new.points d.new.counts d.auto.taps d.auto.points d.auto.counts _ c.in-Clean.is d.ensures.members d.ensures.rows d.ensures.full d.ensures.hold; any_answer_room_in_bounds = c.requires.came.1 }
+    record { on_sheet = laws.on_sheet a.j a.given.now c.requires.came.0 (sizes (goal.at.put_pages-requires c).Start) _ _ _ _ _ _ _ c.requires.lent (told d.result.ended d.new.visits.0) d.result.drawn d.new.edges d.new.lanes d.new.taps d.new.points d.new.counts d.auto.taps d.auto.points d.auto.counts _ (laws.ended_clean d.result.ended d.new.visits.0 _ c.in-Ok.is) d.ensures.members d.ensures.rows d.ensures.full d.ensures.hold; any_answer_room_in_bounds = c.requires.came.1 }

@@ -40,6 +40,3 @@ put_page-requires c =
     let p = c.put_page-next in
     let w = windows_kept a.j.members.count a.drawn n.result.drawn n.ensures.rows n.ensures.drawn (answers.windows a.j a.edges.now a.drawn a.points.now a.counts.now a.taps.now c.requires.on_sheet (sizes (goal.at.put_page-requires c).Start)) in
     record { count_le_max_nodes = (omega (arith, on.fits.nodes, n.ensures.nodes), on.fits.edges, omega (arith, on.all_drawn, on.fits.bundles, n.ensures.drawn), on.fits.members); count_in_bounds = (omega (arith, on.counted), omega (arith, on.counted, on.slots, n.auto.points), on.hold); windows = (w, omega (arith, on.places, n.auto.taps)); members_on = (on.members_on, omega (arith, c.requires.any_answer_room_in_bounds, p.auto.page)) }
-
-pub shape_of-out : goal.shape_of-out
-shape_of-out c = omega (arith, c.put_page.auto.out, c.put_page-next.auto.out, c.put_verdict-start.auto.out)

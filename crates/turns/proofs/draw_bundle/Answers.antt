@@ -1,36 +1,22 @@
-use borrow.Author.Rules.{rules}
-use borrow.Author.Tests.{not-true, not-false}
-use native.Mathlib.Omega.{arith}
-use lib.ListN.{length, take}
+use Rattle.std.proofs.Common.{arith, length, take, ◌∙◌, ◌≤◌, ◌*◌, ◌≡◌}
+use Rattle.std.proofs.lemmas.Result.{err_from_is_err_and}
 use Rattle.route.specs.Slots.{routes_of}
-use Rattle.turns.proofs.Turning.{earlier_tabled, known_row, turn_off, turn_on, longer_made, longer_refused}
-use Rattle.std.proofs.Common.{ap, not}
+use Rattle.turns.proofs.Turning.{earlier_tabled, known_row, turn_off, turn_on, ends_refused, longer_made, longer_refused}
 use Rattle.turns.proofs.draw_bundle.Goals as goal
 
-pub build_geometry-d-requires : goal.build_geometry-d-requires
-build_geometry-d-requires c =
-    let r = c.requires.1 in
-    let m = r.roomy in
-    (r.tabled, r.laned.members, record { slots = m.slots; hold = m.hold; known = λ k h. m.known k (omega arith) h })
-
-pub rewrite_member_routes-requires : goal.rewrite_member_routes-requires
-rewrite_member_routes-requires c =
-    let g = c.build_geometry-d in
-    let k = g.auto.taps in
-    let r = c.requires.1 in
-    let w = r.tabled.places in
-    (record { members = r.tabled.members; places = omega (arith, k, w) }, r.laned, r.roomy, c.requires.2)
-
-pub returns-then-not-rewrite_member_routes : goal.returns-then-not-rewrite_member_routes
-returns-then-not-rewrite_member_routes c =
+pub returns-then-not-rewrite_member_routes-clause-told : goal.returns-then-not-rewrite_member_routes-clause-told
+returns-then-not-rewrite_member_routes-clause-told c b s =
     let a = c.args in
     let f = c.rewrite_member_routes in
-    let p = c.pitch_of_bundle-pitch in
     let g = c.build_geometry-d in
-    let e = rw p.ensures at f.ensures.told in record { told = (λ b s. turn_off b a.allow a.o a.boxes.now a.ends.now a.u a.end a.planned a.offset a.edges.now a.lanes.now g.result _ (routes_of a.points.now a.counts.now) s g.ensures.row (g.ensures.drawn b s.seen) _ _ _ _ a.visits f.result (not-true f.result (ap not c.if-not-rewrite_member_routes.true)) e); row = g.ensures.row; hold = f.ensures.hold; longer = longer_refused 10 a.visits _ _ _ }
+    let e = rw c.pitch_of_bundle.ensures at f.ensures.told in
+    turn_off b a.allow a.o a.boxes.now a.ends.now a.u a.end a.planned a.offset a.edges.now a.lanes.now g.result _ (routes_of a.points.now a.counts.now) s g.ensures.row (g.ensures.drawn b s.seen) _ _ _ _ a.visits.now f.result c.if-not-rewrite_member_routes.true e
 
-pub verify_bundle-v-requires : goal.verify_bundle-v-requires
-verify_bundle-v-requires c =
+pub returns-then-not-rewrite_member_routes-clause-longer : goal.returns-then-not-rewrite_member_routes-clause-longer
+returns-then-not-rewrite_member_routes-clause-longer c = longer_refused 10 c.args.visits.now _ _ _
+
+pub verify_bundle-requires : goal.verify_bundle-requires
+verify_bundle-requires c =
     let f = c.rewrite_member_routes in
     let g = c.build_geometry-d in
     let k = g.auto.taps in
@@ -52,12 +38,32 @@ verify_bundle-v-requires c =
       (λ n o. known_row c.args.edges.now c.args.u.first c.args.u.count _ _ (length c.args.counts.now) _ i j h (λ x y. r.roomy.known x (omega arith) y) n o),
     )
 
-pub returns : goal.returns
-returns c =
+pub returns-in_err-verify_bundle-clause-told : goal.returns-in_err-verify_bundle-clause-told
+returns-in_err-verify_bundle-clause-told c b s =
     let a = c.args in
-    let v = c.verify_bundle-v in
     let f = c.rewrite_member_routes in
-    let p = c.pitch_of_bundle-pitch in
     let g = c.build_geometry-d in
-    let e = rw p.ensures at f.ensures.told in
-    let d = not-false f.result (ap not c.if-not-rewrite_member_routes.false) in record { told = (λ b s. turn_on b a.allow a.o a.boxes.now a.ends.now a.u a.end a.planned a.offset a.edges.now a.lanes.now g.result _ (routes_of a.points.now a.counts.now) s g.ensures.row (g.ensures.drawn b s.seen) a.taps.now (take a.priors.count a.priors.rows) a.visits.0 _ _ g.ensures.kept c.requires.1.earlier v.result f.result d e v.ensures); row = g.ensures.row; hold = f.ensures.hold; longer = longer_made v.result _ _ _ _ _ _ _ _ _ _ f.result d e }
+    let e = rw c.pitch_of_bundle.ensures at f.ensures.told in
+    let p = err_from_is_err_and c.from_residual.result c.from_residual.ensures.1 in
+    rw (p.1, p.2)
+    (ends_refused _ _ _ _ _ _
+    ∙ turn_on b a.allow a.o a.boxes.now a.ends.now a.u a.end a.planned a.offset a.edges.now a.lanes.now g.result _ (routes_of a.points.now a.counts.now) s g.ensures.row (g.ensures.drawn b s.seen) a.taps.now (take a.priors.count a.priors.rows) a.visits.now.0 _ _ g.ensures.kept c.requires.1.earlier _ f.result c.if-not-rewrite_member_routes.false e c.in_err-verify_bundle.ensures)
+
+pub returns-in_err-verify_bundle-clause-longer : goal.returns-in_err-verify_bundle-clause-longer
+returns-in_err-verify_bundle-clause-longer c =
+    let p = err_from_is_err_and c.from_residual.result c.from_residual.ensures.1 in
+    rw (p.1, p.2) (longer_refused _ _ _ _ _)
+
+pub returns-clause-told : goal.returns-clause-told
+returns-clause-told c b s =
+    let a = c.args in
+    let f = c.rewrite_member_routes in
+    let g = c.build_geometry-d in
+    let e = rw c.pitch_of_bundle.ensures at f.ensures.told in
+    turn_on b a.allow a.o a.boxes.now a.ends.now a.u a.end a.planned a.offset a.edges.now a.lanes.now g.result _ (routes_of a.points.now a.counts.now) s g.ensures.row (g.ensures.drawn b s.seen) a.taps.now (take a.priors.count a.priors.rows) a.visits.now.0 _ _ g.ensures.kept c.requires.1.earlier _ f.result c.if-not-rewrite_member_routes.false e c.in_ok-verify_bundle.ensures
+
+pub returns-clause-longer : goal.returns-clause-longer
+returns-clause-longer c =
+    let f = c.rewrite_member_routes in
+    let e = rw c.pitch_of_bundle.ensures at f.ensures.told in
+    longer_made _ _ _ _ _ _ _ _ _ _ _ f.result c.if-not-rewrite_member_routes.false e

@@ -12,8 +12,8 @@ returns-then-x c =
     let x = c.args.x in
     sym (by_raising 6 to_a_64th x (passes (fits binary64 x) c.well_formed.0.1) ∙ ap (λ (t : Bool). cond t (eq (sub binary64 (add binary64 x (raise 6)) (raise 6)) x) false) c.if-x.true)
 
-pub returns : goal.returns
+pub returns-else-x : goal.returns-else-x
 unfolding of_bits neg
-returns c =
+returns-else-x c =
     let x = c.args.x in
     sym (by_raising 6 to_a_64th x (passes (fits binary64 x) c.well_formed.0.1) ∙ ap (λ (t : Bool). cond t (eq (sub binary64 (add binary64 x (raise 6)) (raise 6)) x) false) c.if-x.false)

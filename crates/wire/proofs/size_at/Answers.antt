@@ -1,14 +1,16 @@
-use mathlib.Core.Path.{◌∙◌, ap}
-use lib.Ieee.{Float, of_bits, neg}
+use lib.Ieee.{of_bits}
+use Rattle.wire.specs.Read.{after}
 use borrow.Author.Rules.{rules}
-use Rattle.wire.specs.Read.{Read, after}
-use Rattle.wire.specs.Accept.{gridded}
 use Rattle.wire.proofs.size_at.Goals as goal
 
-pub number_at-n-requires : goal.number_at-n-requires
+pub number_at-requires : goal.number_at-requires
 unfolding of_bits
-number_at-n-requires c = (search rules, tt, tt)
+number_at-requires c = (search rules, tt, tt)
+
+pub returns-in_err-number_at : goal.returns-in_err-number_at
+unfolding after of_bits
+returns-in_err-number_at c = search rules
 
 pub returns : goal.returns
-unfolding of_bits
-returns c = c.on_grid.ensures _ ∙ ap (λ (x : Read Float). after x (gridded c.args.grid)) c.number_at-n.ensures
+unfolding after of_bits
+returns c = rw (← c.in_ok-number_at.ensures) (c.on_grid.ensures _)
