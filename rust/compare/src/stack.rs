@@ -199,10 +199,12 @@ pub fn stack(seed: u64, count: u64) -> bool {
     enough
 }
 
-/// Largest jobs on a stack of that many pages. Too few end the process by a signal.
+/// Largest jobs and chains that sort much, which need the most, on a stack of that many pages. Too few end
+/// the process by a signal.
 pub fn stack_of(pages: usize) -> bool {
-    let family = jobs::families::family("largest").expect("a family");
-    let good = runs_on(pages, &cases(family, 1, 6));
+    let good = all_cases(1, 6)
+        .filter(|(name, _)| ["largest", "chains"].contains(name))
+        .all(|(_, cases)| runs_on(pages, &cases));
     println!(
         "on {pages} pages: {}",
         if good { "runs" } else { "DIFFERS" }
