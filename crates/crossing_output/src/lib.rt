@@ -14,7 +14,8 @@ use limits::{CROSSING_NUMBERS, MAX_CROSSINGS};
 
 // Whether there are more than 1,024 crossings (19). Where there are not, the list is written, unless
 // another refusal is due. The places and ids of the crossings are kept here, so that they are cleared
-// only where the list is wanted. A bool, not a Result: draw_job's proof cites it in each branch.
+// only where the list is wanted. A bool: its one caller writes a notice where it is true, as it would at an
+// Err.
 pub fn list_crossings(
     permitted: bool,
     withheld: bool,

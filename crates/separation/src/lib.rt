@@ -22,7 +22,7 @@ use limits::MAX_BUNDLES;
 use plan::{Bound, Planned, Planning, Range, Ranges};
 use search::{Bounds, CollectorBounds, Outcome, Searched, TapVisits};
 
-// The x taken so far by bundles of one role.
+// The x taken so far by bundles of one role, with room for all of them, as no heap is asked for.
 #[derive(Clone, Copy)]
 pub struct Taken {
     pub xs: [f64; MAX_BUNDLES],

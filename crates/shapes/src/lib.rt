@@ -129,6 +129,7 @@ fn is_on_upright(start: Point, end: Point, x: f64) -> bool
     (start.x == x) & (end.x == x)
 }
 
+// prefer_end is the Rust's own parameter.
 pub fn segment_vertical_line_intersection(
     start: Point,
     end: Point,
