@@ -12,7 +12,7 @@ use limits::MAX_BUNDLES;
 use plan::{Bound, Planned, Planning, Reaches};
 use search::TapVisits;
 
-pub fn plan_at(record: &[u8], from: usize) -> Planning {
+pub(crate) fn plan_at(record: &[u8], from: usize) -> Planning {
     let mut rows = [Planned { x: Bound::None }; MAX_BUNDLES];
     let mut at = from;
     for row in &mut rows {
@@ -86,7 +86,7 @@ fn inputs_of(t: Reaches) -> Places
     Places { rows, count }
 }
 
-pub fn put_asked(
+pub(crate) fn put_asked(
     points: &[f64],
     starts: &[usize],
     counts: &[usize],

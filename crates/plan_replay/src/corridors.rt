@@ -11,7 +11,7 @@ use job::Job;
 use limits::{MAX_EDGES, MAX_MEMBERS};
 use plan::Bound;
 
-pub fn put_offsets(j: Job, out: &mut [u8], from: usize) -> usize
+pub(crate) fn put_offsets(j: Job, out: &mut [u8], from: usize) -> usize
     requires { Sound j.nodes j.ports j.bundles j.members }
 {
     let bundles = j.bundles;
@@ -83,7 +83,7 @@ fn put_bundles(
     at
 }
 
-pub fn put_corridors(j: Job, out: &mut [u8], at: usize) -> usize
+pub(crate) fn put_corridors(j: Job, out: &mut [u8], at: usize) -> usize
     requires sound { Sound j.nodes j.ports j.bundles j.members × (j.edges.count ≤ max_edges) }
     requires by_index { (i : ℕ) → i < j.members.count → (get_or j.members.rows i no_member).edge < j.edges.count }
 {

@@ -3,28 +3,28 @@
 use plan::Bound;
 use search::{CollectorBounds, TapVisits};
 
-pub fn put_mark(out: &mut [u8], at: usize, x: u64) -> usize {
+pub(crate) fn put_mark(out: &mut [u8], at: usize, x: u64) -> usize {
     records::put_u8(out, at, x);
     records::plus(at, 1)
 }
 
-pub fn put_count(out: &mut [u8], at: usize, n: usize) -> usize {
+pub(crate) fn put_count(out: &mut [u8], at: usize, n: usize) -> usize {
     records::put_u16(out, at, n as u64);
     records::plus(at, 2)
 }
 
-pub fn put_visits(out: &mut [u8], at: usize, v: TapVisits) -> usize {
+pub(crate) fn put_visits(out: &mut [u8], at: usize, v: TapVisits) -> usize {
     records::put_u32(out, at, v.0 as u64);
     records::plus(at, 4)
 }
 
-pub fn put_number(out: &mut [u8], at: usize, x: f64) -> usize {
+pub(crate) fn put_number(out: &mut [u8], at: usize, x: f64) -> usize {
     records::put_f64(out, at, x);
     records::plus(at, 8)
 }
 
 // A tag, 0 or 1, and after 1 the number.
-pub fn put_bound(out: &mut [u8], at: usize, b: Bound) -> usize {
+pub(crate) fn put_bound(out: &mut [u8], at: usize, b: Bound) -> usize {
     match b {
         Bound::None => put_mark(out, at, 0),
         Bound::At(x) => {
@@ -34,7 +34,7 @@ pub fn put_bound(out: &mut [u8], at: usize, b: Bound) -> usize {
     }
 }
 
-pub fn put_between(out: &mut [u8], at: usize, b: CollectorBounds) -> usize {
+pub(crate) fn put_between(out: &mut [u8], at: usize, b: CollectorBounds) -> usize {
     match b {
         CollectorBounds::Absent => put_mark(out, at, 0),
         CollectorBounds::Between(r) => {
@@ -46,7 +46,7 @@ pub fn put_between(out: &mut [u8], at: usize, b: CollectorBounds) -> usize {
     }
 }
 
-pub fn bound_at(record: &[u8], at: usize) -> Bound {
+pub(crate) fn bound_at(record: &[u8], at: usize) -> Bound {
     if records::u8_at(record, at) == 0 {
         return Bound::None;
     }

@@ -21,7 +21,7 @@ fn put_planned(p: Planning, n: usize, out: &mut [u8], from: usize) -> usize
     put_visits(out, at, p.left)
 }
 
-pub fn put_plan(
+pub(crate) fn put_plan(
     j: Job,
     points: &[f64],
     xs: &mut [f64],

@@ -8,7 +8,7 @@ use crate::fields::{put_between, put_count, put_mark, put_visits};
 use plan::{Bound, Reaches};
 use search::{CollectorBounds, Outcome, TapVisits};
 
-pub fn put_all_bounds(
+pub(crate) fn put_all_bounds(
     t: Reaches,
     rail: f64,
     pitch: f64,
@@ -40,7 +40,7 @@ fn put_search(out: &mut [u8], at: usize, b: CollectorBounds, o: Outcome) -> usiz
     }
 }
 
-pub fn put_searches(
+pub(crate) fn put_searches(
     points: &[f64],
     starts: &[usize],
     counts: &[usize],
