@@ -1,7 +1,7 @@
 -- Laws of Booleans: what holds of the one that is chosen, and the parts of tests joined by && and ||.
 -- Assumes nothing.
 use Rattle.std.specs.Prelude.{◌≡◌, refl, ◌⊎◌, Bool, true, false, ◌&&◌, ◌||◌, cond, T}
-use Rattle.std.proofs.Common.{sym, inl, inr, true≢false}
+use Rattle.std.proofs.Common.{inl, inr, true≢false}
 use Rattle.std.proofs.lemmas.Bool.{false≢true}
 
 -- what holds of both holds of the one that is chosen

@@ -1,7 +1,7 @@
 -- Exact arithmetic on a grid. `At g x z` says that x is finite and is exactly the whole number z over 2 ^ g. Where the result's z has at most 53 digits, a sum and a difference round nothing.
 -- Assumes nothing.
 use Rattle.std.specs.Prelude.{◌≡◌, refl, ℕ, zero, suc, ◌+◌, ◌-◌, ◌*◌, ◌^◌, ◌≤◌, ◌<◌, Bool, true, false, not, cond, ℤ, pos, negsuc, nat_abs, neg_ℤ, ◌+ℤ◌, ◌-ℤ◌, T, ltb, Float}
-use Rattle.std.proofs.Common.{sym, ap, ◌∙◌, le_trans, lt_of_lt_of_le, mul_comm, mul_assoc, mul_left_comm, mul_right_comm, add-mul, mul-le-mul_left, mul-lt-mul_of_pos_right, mul-pos, zero-lt-suc, zero-mul, arith, true≢false, ltb→lt, nltb→le, lit≤, pow-add, pow_pos, pow_mono}
+use Rattle.std.proofs.Common.{sym, ap, ◌∙◌, le_trans, lt_of_lt_of_le, mul_comm, mul_assoc, mul_left_comm, mul_right_comm, add-mul, mul-le-mul_left, mul-lt-mul_of_pos_right, mul-pos, zero-lt-suc, arith, true≢false, ltb→lt, nltb→le, lit≤, pow-add, pow_pos, pow_mono}
 use Rattle.std.proofs.Math.Nat.{mul-sub, eq_of_mul-eq-mul_right}
 use Rattle.std.specs.Float.{nan, inf, fin, binary64}
 use Rattle.std.specs.Float.Ieee.{up, down, round, sum, add, sub, neg}

@@ -1,12 +1,13 @@
 -- A mask that is true at a bundle's members' edges and false elsewhere: with it the two checks make the tests of the definitions.
 -- Assumes nothing.
-use Prim.Native.Nat.{ℕ, zero, suc, ◌+◌, ◌≤◌, ◌<◌}
+use Prim.Native.Nat.{ℕ, suc, ◌+◌, ◌≤◌, ◌<◌}
 use mathlib.Core.Path.{◌≡◌, refl, sym, ap, ap₂, ◌∙◌}
 use mathlib.Core.List.{List, [], ◌∷◌, ◌++◌}
-use mathlib.Core.Bool.{Bool, true, false, cond}
+use mathlib.Core.Bool.{Bool, cond}
 use native.Mathlib.Omega.{arith}
 use lib.ListN.{length}
 use lib.Ieee.{Float}
+use Rattle.std.specs.Prelude.{Some}
 use Rattle.geometry.specs.Points.{Route}
 use Rattle.board.specs.declared.Options.{Options}
 use Rattle.board.specs.declared.Member.{Member}
@@ -31,30 +32,31 @@ over_alike f c d (r ∷ rs) i h =
     ap₂ (λ (b : Bool) (ts : List Test). cond b (f i r) [] ++ ts) e (over_alike f c d rs (suc i) g)
 
 module _ (ms : List Member) (mask : List Bool) (rs : List Route) (marks : Marks ms mask) (room : length rs ≤ length mask) where
-  chosen_alike : Alike (chosen_by false mask) (among ms) rs 0
+  chosen_alike : Alike (chosen_by (Some mask)) (among ms) rs 0
+  unfolding chosen_by
   chosen_alike k l = let z : 0 + k ≡ k = omega arith in rw z (marks k (omega arith))
 
-  drawn_masked : (o : Options) (allow : Bool) (d : Drawn) → drawn_tests o allow d (chosen_by false mask) rs ≡ drawn_tests o allow d (among ms) rs
+  drawn_masked : (o : Options) (allow : Bool) (d : Drawn) → drawn_tests o allow d (chosen_by (Some mask)) rs ≡ drawn_tests o allow d (among ms) rs
   unfolding drawn_tests
   drawn_masked o allow d =
       ap₂ (λ (x y : List Test). x ++ y)
-      (over_alike (route_tests o allow d.collector d.taps) (chosen_by false mask) (among ms) rs 0 chosen_alike)
-      (over_alike (route_tests o allow d.spine d.taps) (chosen_by false mask) (among ms) rs 0 chosen_alike)
+      (over_alike (route_tests o allow d.collector d.taps) (chosen_by (Some mask)) (among ms) rs 0 chosen_alike)
+      (over_alike (route_tests o allow d.spine d.taps) (chosen_by (Some mask)) (among ms) rs 0 chosen_alike)
 
-  prior_masked : (o : Options) (allow : Bool) (new : Drawn) (ds : List Drawn) → prior_tests o allow new (chosen_by false mask) ds rs ≡ prior_tests o allow new (among ms) ds rs
+  prior_masked : (o : Options) (allow : Bool) (new : Drawn) (ds : List Drawn) → prior_tests o allow new (chosen_by (Some mask)) ds rs ≡ prior_tests o allow new (among ms) ds rs
   unfolding prior_tests
   prior_masked o allow new [] = refl
   prior_masked o allow new (d ∷ ds) =
       ap₂ (λ (x y : List Test). (x ++ pair_tests o allow new d) ++ y) (drawn_masked o allow d) (prior_masked o allow new ds)
 
   -- the tests of verify_new_bundle_route_contacts
-  pub contact_masked : (o : Options) (allow : Bool) (new : Drawn) (ds : List Drawn) → contact_tests o allow new (chosen_by false mask) ds rs ≡ contact_tests o allow new (among ms) ds rs
+  pub contact_masked : (o : Options) (allow : Bool) (new : Drawn) (ds : List Drawn) → contact_tests o allow new (chosen_by (Some mask)) ds rs ≡ contact_tests o allow new (among ms) ds rs
   unfolding contact_tests
   contact_masked o allow new ds = ap (λ (x : List Test). drawn_tests o allow new every_route rs ++ x) (prior_masked o allow new ds)
 
   -- the tests of verify_one_bundle_route_node_interiors
-  pub inside_masked : (boxes : List Float) (ends : List ℕ) → over_routes (inside_route boxes ends) (chosen_by false mask) rs 0 ≡ over_routes (inside_route boxes ends) (among ms) rs 0
-  inside_masked boxes ends = over_alike (inside_route boxes ends) (chosen_by false mask) (among ms) rs 0 chosen_alike
+  pub inside_masked : (boxes : List Float) (ends : List ℕ) → over_routes (inside_route boxes ends) (chosen_by (Some mask)) rs 0 ≡ over_routes (inside_route boxes ends) (among ms) rs 0
+  inside_masked boxes ends = over_alike (inside_route boxes ends) (chosen_by (Some mask)) (among ms) rs 0 chosen_alike
 
 -- ---- one check after the other
 

@@ -12,11 +12,11 @@ ghost use Rattle.limits.specs.Limits.{max_bundles};
 ghost use Rattle.drawing.specs.Check.{walk, among, over_routes, contact_tests};
 ghost use Rattle.checks.specs.Purse.{told};
 ghost use Rattle.checks.specs.CheckRows.{inside_route, Tabled};
-ghost use Rattle.checks.specs.Lent.{routes_lent, SlotsLent, drawn_lent, RowsLent};
+ghost use Rattle.checks.specs.Lent.{routes_lent, drawn_lent, RowsLent};
 ghost use Rattle.checks.specs.MemberSlices.{members_from, Known, Marks, then_walk};
 
-use board::{DrawnBundle, DrawnBundles, Options};
-use checks::{MemberTaps, PresentRoutes};
+use board::{DrawnBundle, DrawnBundles};
+use checks::{BoardSlices, ChosenRoutes, MemberTaps, PresentRoutes, Rules};
 use drawing::GeometryVisits;
 use refusal::Refusal;
 
@@ -32,12 +32,13 @@ pub fn mark_members(edges: &[usize], first: usize, count: usize, mask: &mut [boo
     }
 }
 
+// That the table of members has the earlier bundles' taps is asked down to verify_priors: it is a fact of
+// two values. The slices and structs that are lent come from four makers, so no struct has them all.
+
 // Both checks of a new bundle, the interiors of the nodes before the contacts.
 pub fn verify_bundle(
-    o: Options,
-    allow: bool,
-    boxes: &[f64],
-    ends: &[usize],
+    rules: Rules,
+    board: BoardSlices,
     new: DrawnBundle,
     priors: DrawnBundles,
     table: MemberTaps,
@@ -45,12 +46,14 @@ pub fn verify_bundle(
     mask: &mut [bool],
     visits: &mut GeometryVisits,
 ) -> Result<(), Refusal>
-    requires { (2 * length present.counts.now ≤ length ends.now) × (priors.count ≤ max_bundles) × RowsLent table (take priors.count priors.rows) × Tabled new.first new.count table.edges.now table.taps.now × SlotsLent present mask.old × Known table.edges.now new.first new.count (length mask.old) }
-    ensures { told result visits.new.0 ≡ then_walk (walk 12 (over_routes (inside_route boxes.now ends.now) (among (members_from table.entry.edges.now [] new.first new.count)) (routes_lent present.entry) 0) visits.old.0) (λ k. walk 11 (contact_tests o allow (drawn_lent table.entry new) (among (members_from table.entry.edges.now [] new.first new.count)) (map (drawn_lent table.entry) (take priors.count priors.rows)) (routes_lent present.entry)) k) }
+    requires { (2 * length present.counts.now ≤ length board.ends.now) × (priors.count ≤ max_bundles) × RowsLent table (take priors.count priors.rows) × Tabled new.first new.count table.edges.now table.taps.now × (length present.counts.now ≤ length mask.old) × Known table.edges.now new.first new.count (length mask.old) }
+    ensures { told result visits.new.0 ≡ then_walk (walk 12 (over_routes (inside_route board.entry.boxes.now board.entry.ends.now) (among (members_from table.entry.edges.now [] new.first new.count)) (routes_lent present.entry) 0) visits.old.0) (λ k. walk 11 (contact_tests rules.options rules.permits_crossings (drawn_lent table.entry new) (among (members_from table.entry.edges.now [] new.first new.count)) (map (drawn_lent table.entry) (take priors.count priors.rows)) (routes_lent present.entry)) k) }
 {
     mark_members(table.edges, new.first, new.count, mask);
-    paid_checks::verify_one_bundle_route_node_interiors(boxes, ends, mask, present, visits)?;
-    paid_checks::verify_new_bundle_route_contacts(
-        o, allow, new, priors, table, mask, present, visits,
-    )
+    let changed = ChosenRoutes {
+        routes: present,
+        mask: Some(mask),
+    };
+    paid_checks::verify_one_bundle_route_node_interiors(board, changed, visits)?;
+    paid_checks::verify_new_bundle_route_contacts(rules, new, priors, table, changed, visits)
 }

@@ -233,19 +233,19 @@ module _ (edges : List ℕ) (t : List Float) (y : Float) where
   unfolding taps_from rail_low rail_high
   rail_none first n h = rw h (refl, refl)
 
-  pub rail_first : (first n : ℕ) → (n ≡ 0 → ⊥) → least (point_at t first).y y ≡ rail_low (taps_from edges t first n) y
+  pub rail_first : (first n : ℕ) → (n ≡ 0 → ⊥) → least (point_at t (first + 0)).y y ≡ rail_low (taps_from edges t first n) y
   unfolding taps_from rail_low
   rail_first first zero h = absurd (h refl)
-  rail_first first (suc n) h = refl
+  rail_first first (suc n) h = let z : first + 0 ≡ first = omega arith in rw z
 
   last_from : (first n : ℕ) → rail_high (taps_from edges t first (suc n)) y ≡ greatest (point_at t (first + n)).y y
   unfolding taps_from rail_high
   last_from first zero = let z : first + 0 ≡ first = omega arith in rw z
   last_from first (suc n) = let z : first + suc n ≡ suc first + n = omega arith in rw z (last_from (suc first) n)
 
-  pub rail_last : (first n : ℕ) → (n ≡ 0 → ⊥) → greatest (point_at t (first + n - 1)).y y ≡ rail_high (taps_from edges t first n) y
+  pub rail_last : (first n : ℕ) → (n ≡ 0 → ⊥) → greatest (point_at t (first + (n - 1))).y y ≡ rail_high (taps_from edges t first n) y
   rail_last first zero h = absurd (h refl)
-  rail_last first (suc n) h = let a : first + suc n - 1 ≡ first + n = omega arith in rw a (sym (last_from first n))
+  rail_last first (suc n) h = let a : first + (suc n - 1) ≡ first + n = omega arith in rw a (sym (last_from first n))
 
 pub rail_low_any : (edges : List ℕ) (t : List Float) (y : Float) (first n : ℕ) → rail_low (taps_from [] t first n) y ≡ rail_low (taps_from edges t first n) y
 unfolding taps_from rail_low

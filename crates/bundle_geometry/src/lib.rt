@@ -2,26 +2,29 @@
 //
 // Ported from cachanova/schemweave, commit c4a1a2c60a, crates/schemweave/src/boundary_bundles.rs
 // (Apache-2.0, see NOTICE). The present routes are in slots (crate route). Member k of the table of
-// members has its edge at place k of edges, its tap lane at place k of lanes and its tap as x and y
-// at point k of taps; a bundle's members are count places from first on.
+// members has its tap as x and y at point k of taps; a bundle's taps are lent as a view of points, as a
+// route is.
 
 #![tactic(auto)]
 
 ghost use Rattle.std.specs.Prelude.{◌≡◌, [], ◌+◌, ◌*◌, ◌≤◌, length, get_or};
-ghost use Rattle.geometry.specs.Points.{points_from};
+ghost use Rattle.geometry.specs.Lent.{route_lent};
 ghost use Rattle.route.specs.Slots.{routes_of};
 ghost use Rattle.plan.specs.Depths.{number, inward};
 ghost use Rattle.std.specs.Float.{binary64};
 ghost use Rattle.std.specs.Float.Ieee.{le, add, sub, div};
 ghost use Rattle.binary64.specs.Order.{magnitude};
 ghost use Rattle.board.specs.Board.{bundle_pitch};
-ghost use Rattle.drawing.specs.Build.{trunk_met, trunk_taps, lowest, highest, center, rail_low, rail_high, all_at};
+ghost use Rattle.drawing.specs.Build.{pt, seg, trunk_met, trunk_taps, lowest, highest, center, rail_low, rail_high, all_at};
 ghost use Rattle.drawing.specs.Sheet.{planned_x};
 ghost use Rattle.checks.specs.CheckRows.{taps_from, drawn_of, Tabled};
+ghost use Rattle.checks.specs.Lent.{routes_lent};
+ghost use Rattle.checks.specs.LentRows.{taps_in};
 ghost use Rattle.checks.specs.MemberSlices.{members_from, Placed, Untouched, Slots, rail_point, tapped_in, interior_at, Row, drawn_row, inside_with, railed_with, corner_with, Draws};
 
 use board::{Bundle, DrawnBundle, Options};
-use geometry::{Point, Role, Segment};
+use checks::{BundleRows, MemberRows, PresentRoutes};
+use geometry::{Point, Role, RouteView, Segment};
 use limits::SLOT_POINTS;
 use plan::Bound;
 
@@ -34,28 +37,19 @@ pub struct Reach {
 
 // ---- build_interior_geometry
 
-// Where a route of count points from point start on has its tap at x: an input's is its first crossing,
-// an output's its last, two functions of the Rust.
-fn trunk_tap(
-    role: Role,
-    pitch: f64,
-    x: f64,
-    points: &[f64],
-    start: usize,
-    count: usize,
-) -> Option<(usize, Point)>
-    requires { 2 * (start + count) ≤ length points.now }
-    ensures { result ≡ trunk_met role pitch x (points_from points.now start count) }
+// Where a route has its tap at x: an input's is its first crossing, an output's its last, two functions
+// of the Rust.
+#[tactic(auto, unfolding(drawing::specs::Build::trunk_met))]
+fn trunk_tap(role: Role, pitch: f64, x: f64, route: RouteView) -> Option<(usize, Point)>
+    ensures { result ≡ trunk_met role pitch x (route_lent route.entry) }
 {
     match role {
-        Role::Input => route_crossings::first_shared_trunk_intersection(
-            points, start, count, x, role, pitch,
-        ),
-        Role::Output => route_crossings::last_shared_trunk_intersection(
-            points, start, count, x, role, pitch,
-        ),
+        Role::Input => route_crossings::first_shared_trunk_intersection(route, x, role, pitch),
+        Role::Output => route_crossings::last_shared_trunk_intersection(route, x, role, pitch),
     }
 }
+
+// That there is room for each member's tap is a fact of the members and of the slice together.
 
 // Each member's tap at x, if every member's route has one; else some of the bundle's taps may have
 // been written.
@@ -63,26 +57,28 @@ fn trunk_taps(
     role: Role,
     pitch: f64,
     x: f64,
-    edges: &[usize],
-    first: usize,
-    count: usize,
-    points: &[f64],
-    counts: &[usize],
+    members: BundleRows,
+    present: PresentRoutes,
     taps: &mut [f64],
 ) -> bool
-    requires { Tabled first count edges.now taps.old × Slots edges.now first count points.now counts.now }
-    ensures told { tapped_in result edges.now taps.new first count ≡ trunk_taps role pitch x (members_from edges.now [] first count) (routes_of points.now counts.now) }
-    ensures kept { Untouched taps.old taps.new first count }
+    requires tapped { 2 * (members.first + members.count) ≤ length taps.old }
+    requires slots { Slots members.table.edges.now members.first members.count present.points.now present.counts.now }
+    ensures told { tapped_in result members.entry.table.edges.now taps.new members.entry.first members.entry.count ≡ trunk_taps role pitch x (members_from members.entry.table.edges.now [] members.entry.first members.entry.count) (routes_lent present.entry) }
+    ensures kept { Untouched taps.old taps.new members.entry.first members.entry.count }
 {
-    for i in 0..count {
-        let e = edges[first + i];
-        let c = trunk_tap(role, pitch, x, points, SLOT_POINTS * e, counts[e]);
-        match c {
+    for i in 0..members.count {
+        let e = members.table.edges[members.first + i];
+        let route = RouteView {
+            points: present.points,
+            start: SLOT_POINTS * e,
+            count: present.counts[e],
+        };
+        match trunk_tap(role, pitch, x, route) {
             None => {
                 return false;
             }
             Some((k, p)) => {
-                route_views::put_point(&mut taps[..], first + i, p);
+                route_views::put_point(&mut taps[..], members.first + i, p);
             }
         }
     }
@@ -90,15 +86,14 @@ fn trunk_taps(
 }
 
 // How far a bundle's taps reach from y.
-fn tap_reach(y: f64, taps: &[f64], first: usize, count: usize) -> Reach
-    requires { 2 * (first + count) ≤ length taps.now }
-    ensures low { result.low ≡ lowest y (taps_from [] taps.now first count) }
-    ensures high { result.high ≡ highest y (taps_from [] taps.now first count) }
+fn tap_reach(y: f64, taps: RouteView) -> Reach
+    ensures low { result.low ≡ lowest y (taps_in taps.entry) }
+    ensures high { result.high ≡ highest y (taps_in taps.entry) }
 {
     let mut low = y;
     let mut high = y;
-    for i in 0..count {
-        let p = route_views::point_at(taps, first + i);
+    for i in 0..taps.count {
+        let p = route_views::view_point(taps, i);
         low = binary64::min(low, p.y);
         high = binary64::max(high, p.y);
     }
@@ -108,12 +103,11 @@ fn tap_reach(y: f64, taps: &[f64], first: usize, count: usize) -> Reach
 // ---- the interior test of rewrite_member_routes
 
 // Whether every tap stands at x.
-fn taps_are_at(x: f64, taps: &[f64], first: usize, count: usize) -> bool
-    requires { 2 * (first + count) ≤ length taps.now }
-    ensures { result ≡ all_at x (taps_from [] taps.now first count) }
+fn taps_are_at(x: f64, taps: RouteView) -> bool
+    ensures { result ≡ all_at x (taps_in taps.entry) }
 {
-    for i in 0..count {
-        let p = route_views::point_at(taps, first + i);
+    for i in 0..taps.count {
+        let p = route_views::view_point(taps, i);
         if !(p.x == x) {
             return false;
         }
@@ -133,33 +127,47 @@ fn counts_interior(
     pitch: f64,
     collector: Segment,
     spine: Segment,
-    taps: &[f64],
-    first: usize,
-    count: usize,
+    taps: RouteView,
 ) -> bool
-    requires { 2 * (first + count) ≤ length taps.now }
-    ensures { result ≡ interior_at depth pitch collector spine (taps_from [] taps.now first count) }
+    ensures { result ≡ interior_at depth pitch collector spine (taps_in taps.entry) }
 {
     let x = spine.end.x;
     x == collector.start.x
         && (x == collector.end.x
-            && (taps_are_at(x, taps, first, count) && reaches(depth, pitch, spine.start.x, x)))
+            && (taps_are_at(x, taps) && reaches(depth, pitch, spine.start.x, x)))
 }
 
-// The row of a bundle drawn with these segments and taps.
+// The row of a bundle drawn with these taps, whose collector stands at the corner's x and whose spine
+// goes from end to the corner.
 fn drawn_with(
     o: Options,
     u: Bundle,
-    collector: Segment,
-    spine: Segment,
-    taps: &[f64],
+    end: Point,
+    corner: Point,
+    reach: Reach,
+    taps: RouteView,
 ) -> DrawnBundle
-    requires { 2 * (u.first + u.count) ≤ length taps.now }
-    ensures { result ≡ drawn_row o u collector spine (taps_from [] taps.now u.first u.count) }
+    ensures { result ≡ drawn_row o u (seg (pt corner.x reach.low) (pt corner.x reach.high)) (seg end corner) (taps_in taps.entry) }
 {
+    let low = Point {
+        x: corner.x,
+        y: reach.low,
+    };
+    let high = Point {
+        x: corner.x,
+        y: reach.high,
+    };
+    let collector = Segment {
+        start: low,
+        end: high,
+    };
+    let spine = Segment {
+        start: end,
+        end: corner,
+    };
     let depth = board::boundary_bundle_rail_depth(o);
     let pitch = board::pitch_of_bundle(o, u);
-    let interior = counts_interior(depth, pitch, collector, spine, taps, u.first, u.count);
+    let interior = counts_interior(depth, pitch, collector, spine, taps);
     DrawnBundle {
         id: u.id,
         interior,
@@ -171,27 +179,13 @@ fn drawn_with(
 }
 
 // With taps at the planned x.
-fn build_inside(o: Options, end: Point, u: Bundle, x: f64, taps: &[f64]) -> DrawnBundle
-    requires { 2 * (u.first + u.count) ≤ length taps.now }
-    ensures { result ≡ inside_with o u end x (taps_from [] taps.now u.first u.count) }
+#[tactic(auto, unfolding(checks::specs::MemberSlices::inside_with))]
+fn build_inside(o: Options, end: Point, u: Bundle, x: f64, taps: RouteView) -> DrawnBundle
+    ensures { result ≡ inside_with o u end x (taps_in taps.entry) }
 {
-    let reach = tap_reach(end.y, taps, u.first, u.count);
-    let low = Point { x, y: reach.low };
-    let high = Point { x, y: reach.high };
+    let reach = tap_reach(end.y, taps);
     let corner = Point { x, y: end.y };
-    drawn_with(
-        o,
-        u,
-        Segment {
-            start: low,
-            end: high,
-        },
-        Segment {
-            start: end,
-            end: corner,
-        },
-        taps,
-    )
+    drawn_with(o, u, end, corner, reach, taps)
 }
 
 // ---- at the rail
@@ -203,14 +197,14 @@ fn half_of(lane: u32) -> f64
 }
 
 // The middle of a bundle's lanes.
-fn middle_lane(lanes: &[u32], first: usize, count: usize) -> f64
-    requires { first + count ≤ length lanes.now }
-    ensures { result ≡ center (members_from [] lanes.now first count) }
+#[tactic(auto, using(crate::proofs::Taps::center_none, crate::proofs::Taps::center_some))]
+fn middle_lane(members: BundleRows) -> f64
+    ensures { result ≡ center (members_from [] members.entry.table.lanes.now members.entry.first members.entry.count) }
 {
-    if count == 0 {
+    if members.count == 0 {
         return half_of(0);
     }
-    half_of(lanes[first + count - 1])
+    half_of(members.table.lanes[members.first + members.count - 1])
 }
 
 fn rail_tap(end: Point, middle: f64, pitch: f64, lane: u32) -> Point
@@ -223,36 +217,27 @@ fn rail_tap(end: Point, middle: f64, pitch: f64, lane: u32) -> Point
 }
 
 // Each member's tap on the rail.
-fn rail_taps(
-    end: Point,
-    middle: f64,
-    pitch: f64,
-    lanes: &[u32],
-    first: usize,
-    count: usize,
-    taps: &mut [f64],
-)
-    requires { (first + count ≤ length lanes.now) × (2 * (first + count) ≤ length taps.old) }
-    ensures placed { Placed taps.new first count (λ k. rail_point end middle pitch (get_or lanes.now (first + k) 0)) }
-    ensures kept { Untouched taps.old taps.new first count }
+fn rail_taps(end: Point, middle: f64, pitch: f64, members: BundleRows, taps: &mut [f64])
+    requires { 2 * (members.first + members.count) ≤ length taps.old }
+    ensures placed { Placed taps.new members.entry.first members.entry.count (λ k. rail_point end middle pitch (get_or members.entry.table.lanes.now (members.entry.first + k) 0)) }
+    ensures kept { Untouched taps.old taps.new members.entry.first members.entry.count }
 {
-    for i in 0..count {
-        let p = rail_tap(end, middle, pitch, lanes[first + i]);
-        route_views::put_point(&mut taps[..], first + i, p);
+    for i in 0..members.count {
+        let p = rail_tap(end, middle, pitch, members.table.lanes[members.first + i]);
+        route_views::put_point(&mut taps[..], members.first + i, p);
     }
 }
 
 // How far the first and the last tap reach from y.
-fn rail_reach(y: f64, taps: &[f64], first: usize, count: usize) -> Reach
-    requires { 2 * (first + count) ≤ length taps.now }
-    ensures low { result.low ≡ rail_low (taps_from [] taps.now first count) y }
-    ensures high { result.high ≡ rail_high (taps_from [] taps.now first count) y }
+fn rail_reach(y: f64, taps: RouteView) -> Reach
+    ensures low { result.low ≡ rail_low (taps_in taps.entry) y }
+    ensures high { result.high ≡ rail_high (taps_in taps.entry) y }
 {
-    if count == 0 {
+    if taps.count == 0 {
         return Reach { low: y, high: y };
     }
-    let a = route_views::point_at(taps, first);
-    let b = route_views::point_at(taps, first + count - 1);
+    let a = route_views::view_point(taps, 0);
+    let b = route_views::view_last(taps);
     let low = binary64::min(a.y, y);
     let high = binary64::max(b.y, y);
     Reach { low, high }
@@ -268,49 +253,33 @@ fn inward_of(role: Role, x: f64, depth: f64) -> f64
 }
 
 // A bundle drawn at the rail, its taps written.
-fn build_rail(o: Options, end: Point, u: Bundle, lanes: &[u32], taps: &mut [f64]) -> DrawnBundle
-    requires { (u.first + u.count ≤ length lanes.now) × (2 * (u.first + u.count) ≤ length taps.old) }
-    ensures row { result ≡ railed_with o u end (taps_from [] taps.new u.first u.count) }
-    ensures placed { Placed taps.new u.first u.count (λ k. rail_point (corner_with o u end) (center (members_from [] lanes.now u.first u.count)) (bundle_pitch o u) (get_or lanes.now (u.first + k) 0)) }
-    ensures kept { Untouched taps.old taps.new u.first u.count }
+#[tactic(auto, unfolding(checks::specs::MemberSlices::railed_with))]
+fn build_rail(
+    o: Options,
+    end: Point,
+    u: Bundle,
+    members: BundleRows,
+    taps: &mut [f64],
+) -> DrawnBundle
+    requires { 2 * (members.first + members.count) ≤ length taps.old }
+    ensures row { result ≡ railed_with o u end (taps_from [] taps.new members.entry.first members.entry.count) }
+    ensures placed { Placed taps.new members.entry.first members.entry.count (λ k. rail_point (corner_with o u end) (center (members_from [] members.entry.table.lanes.now members.entry.first members.entry.count)) (bundle_pitch o u) (get_or members.entry.table.lanes.now (members.entry.first + k) 0)) }
+    ensures kept { Untouched taps.old taps.new members.entry.first members.entry.count }
 {
     let depth = board::boundary_bundle_rail_depth(o);
     let pitch = board::pitch_of_bundle(o, u);
     let role = u.role;
     let x = inward_of(role, end.x, depth);
     let corner = Point { x, y: end.y };
-    let middle = middle_lane(lanes, u.first, u.count);
-    rail_taps(
-        corner,
-        middle,
-        pitch,
-        lanes,
-        u.first,
-        u.count,
-        &mut taps[..],
-    );
-    let reach = rail_reach(corner.y, &taps[..], u.first, u.count);
-    let low = Point {
-        x: corner.x,
-        y: reach.low,
+    let middle = middle_lane(members);
+    rail_taps(corner, middle, pitch, members, &mut taps[..]);
+    let written = RouteView {
+        points: &taps[..],
+        start: members.first,
+        count: members.count,
     };
-    let high = Point {
-        x: corner.x,
-        y: reach.high,
-    };
-    drawn_with(
-        o,
-        u,
-        Segment {
-            start: low,
-            end: high,
-        },
-        Segment {
-            start: end,
-            end: corner,
-        },
-        &taps[..],
-    )
+    let reach = rail_reach(corner.y, written);
+    drawn_with(o, u, end, corner, reach, written)
 }
 
 // ---- build_geometry
@@ -322,36 +291,35 @@ pub fn build_geometry(
     end: Point,
     u: Bundle,
     planned: Bound,
-    edges: &[usize],
-    lanes: &[u32],
-    points: &[f64],
-    counts: &[usize],
+    table: MemberRows,
+    present: PresentRoutes,
     taps: &mut [f64],
 ) -> DrawnBundle
-    requires { Tabled u.first u.count edges.now taps.old × (u.first + u.count ≤ length lanes.now) × Slots edges.now u.first u.count points.now counts.now }
-    ensures drawn { Draws o u end (members_from edges.now lanes.now u.first u.count) (planned_x planned) (routes_of points.now counts.now) (drawn_of edges.now taps.new result) }
+    requires tabled { Tabled u.first u.count table.edges.now taps.old × (u.first + u.count ≤ length table.lanes.now) }
+    requires slots { Slots table.edges.now u.first u.count present.points.now present.counts.now }
+    ensures drawn { Draws o u end (members_from table.entry.edges.now table.entry.lanes.now u.first u.count) (planned_x planned) (routes_lent present.entry) (drawn_of table.entry.edges.now taps.new result) }
     ensures row { Row u result }
     ensures kept { Untouched taps.old taps.new u.first u.count }
 {
+    let members = BundleRows {
+        table,
+        first: u.first,
+        count: u.count,
+    };
     match planned {
-        Bound::None => build_rail(o, end, u, lanes, &mut taps[..]),
+        Bound::None => build_rail(o, end, u, members, &mut taps[..]),
         Bound::At(x) => {
             let pitch = board::pitch_of_bundle(o, u);
             let role = u.role;
-            if trunk_taps(
-                role,
-                pitch,
-                x,
-                edges,
-                u.first,
-                u.count,
-                points,
-                counts,
-                &mut taps[..],
-            ) {
-                return build_inside(o, end, u, x, &taps[..]);
+            if trunk_taps(role, pitch, x, members, present, &mut taps[..]) {
+                let written = RouteView {
+                    points: &taps[..],
+                    start: u.first,
+                    count: u.count,
+                };
+                return build_inside(o, end, u, x, written);
             }
-            build_rail(o, end, u, lanes, &mut taps[..])
+            build_rail(o, end, u, members, &mut taps[..])
         }
     }
 }

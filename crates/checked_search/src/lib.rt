@@ -6,115 +6,108 @@
 
 #![tactic(auto)]
 
-ghost use Rattle.search_calls.specs.Entry.{bounds, collector_bounds, search_number, search_says, promotion_number, promotion_says, Replied, Untouched};
+ghost use Rattle.std.specs.Prelude.{◌≡◌};
+ghost use Rattle.search_calls.specs.Entry.{collector_bounds_fit, Replied, Untouched};
+ghost use Rattle.search_calls.specs.Lent.{search_call, search_call_says, promotion_call, promotion_call_says};
 
 use limits::{ENTRY_WORK, LARGEST_LIST, MOST_KEPT, PROMOTION_SCRATCH, SEARCH_SCRATCH};
-use search::{Bounds, TapVisits};
-use search_calls::SearchAnswer;
+use search::{Bounds, CollectorBounds, MemberRoutes, Sought, TapVisits};
+use search_calls::{Call, SearchAnswer};
 
 // The stretches are kept, and the candidates sorted, in an array of its own, for which scratch would
 // be too short.
-pub fn search_checked(
-    points: &[f64],
-    starts: &[usize],
-    counts: &[usize],
-    role: u8,
-    pitch: f64,
-    minimum: f64,
-    desired: f64,
-    maximum: f64,
-    granted: u32,
+pub fn search_checked<'a>(
+    call: Call<'a>,
+    bounds: Bounds,
     xs: &mut [f64],
     candidates: &mut [f64],
     scratch: &mut [f64],
 ) -> SearchAnswer
-    ensures replied { Replied (search_number xs.old candidates.old scratch.old points.now starts.now counts.now role pitch (bounds minimum desired maximum) granted) (search_says (search_number xs.old candidates.old scratch.old points.now starts.now counts.now role pitch (bounds minimum desired maximum) granted) points.now starts.now counts.now role pitch (bounds minimum desired maximum) granted) result xs.old xs.new }
-    ensures untouched { Untouched (search_number xs.old candidates.old scratch.old points.now starts.now counts.now role pitch (bounds minimum desired maximum) granted) candidates.old candidates.new scratch.old scratch.new }
+    ensures replied { Replied (search_call xs.old candidates.old scratch.old call.entry bounds) (search_call_says (search_call xs.old candidates.old scratch.old call.entry bounds) call.entry bounds) result xs.old xs.new }
+    ensures untouched { Untouched (search_call xs.old candidates.old scratch.old call.entry bounds) candidates.old candidates.new scratch.old scratch.new }
 {
-    let b = Bounds {
-        minimum,
-        desired,
-        maximum,
-    };
     let room = (LARGEST_LIST <= xs.len())
         & (SEARCH_SCRATCH <= candidates.len())
         & (SEARCH_SCRATCH <= scratch.len());
-    let bounds = search_refusals::is_bounds(b);
-    let refused = search_refusals::refusal_of(
-        room, points, starts, counts, role, pitch, bounds, granted,
-    );
+    let accepted = search_refusals::is_bounds(bounds);
+    let refused = search_refusals::refusal_of(room, call, accepted);
     if let Err(refusal) = refused {
-        return search_replies::refuse(u8::from(refusal), granted);
+        return search_replies::refuse(u8::from(refusal), call.granted);
     }
-    let side = search_refusals::role_from(role);
+    // As in promotion_checked: that the routes are views is known only here, after the refusals.
+    let routes = MemberRoutes {
+        points: call.routes.points,
+        starts: call.routes.starts,
+        counts: call.routes.counts,
+    };
+    let sought = Sought {
+        role: search_refusals::role_from(call.role),
+        pitch: call.pitch,
+        bounds,
+    };
     let mut work = [0.0; ENTRY_WORK];
     let g = collector_xs::common_horizontal_collector_xs(
-        points,
-        starts,
-        counts,
-        side,
-        pitch,
-        b,
-        TapVisits(granted),
+        routes,
+        sought,
+        TapVisits(call.granted),
         &mut candidates[..LARGEST_LIST],
         &mut work[..],
     );
     search_replies::search_reply(g, candidates, xs)
 }
 
-pub fn promotion_checked(
-    points: &[f64],
-    starts: &[usize],
-    counts: &[usize],
-    role: u8,
-    pitch: f64,
-    present: bool,
-    minimum: f64,
-    desired: f64,
-    maximum: f64,
-    granted: u32,
+// Bounds that are absent are not looked at.
+fn is_collector_bounds(bounds: CollectorBounds) -> bool
+    ensures { result ≡ collector_bounds_fit bounds }
+{
+    match bounds {
+        CollectorBounds::Absent => true,
+        CollectorBounds::Between(b) => search_refusals::is_bounds(b),
+    }
+}
+
+pub fn promotion_checked<'a>(
+    call: Call<'a>,
+    bounds: CollectorBounds,
     xs: &mut [f64],
     candidates: &mut [f64],
     scratch: &mut [f64],
 ) -> SearchAnswer
-    ensures replied { Replied (promotion_number xs.old candidates.old scratch.old points.now starts.now counts.now role pitch (collector_bounds present minimum desired maximum) granted) (promotion_says (promotion_number xs.old candidates.old scratch.old points.now starts.now counts.now role pitch (collector_bounds present minimum desired maximum) granted) points.now starts.now counts.now role pitch (collector_bounds present minimum desired maximum) granted) result xs.old xs.new }
-    ensures untouched { Untouched (promotion_number xs.old candidates.old scratch.old points.now starts.now counts.now role pitch (collector_bounds present minimum desired maximum) granted) candidates.old candidates.new scratch.old scratch.new }
+    ensures replied { Replied (promotion_call xs.old candidates.old scratch.old call.entry bounds) (promotion_call_says (promotion_call xs.old candidates.old scratch.old call.entry bounds) call.entry bounds) result xs.old xs.new }
+    ensures untouched { Untouched (promotion_call xs.old candidates.old scratch.old call.entry bounds) candidates.old candidates.new scratch.old scratch.new }
 {
-    let b = Bounds {
-        minimum,
-        desired,
-        maximum,
-    };
     let room = (MOST_KEPT <= xs.len())
         & (PROMOTION_SCRATCH <= candidates.len())
         & (PROMOTION_SCRATCH <= scratch.len());
-    let accepted = search_refusals::is_bounds(b);
-    let bounds = !present | accepted;
-    let refused = search_refusals::refusal_of(
-        room, points, starts, counts, role, pitch, bounds, granted,
-    );
+    let accepted = is_collector_bounds(bounds);
+    let refused = search_refusals::refusal_of(room, call, accepted);
     if let Err(refusal) = refused {
-        return search_replies::refuse(u8::from(refusal), granted);
+        return search_replies::refuse(u8::from(refusal), call.granted);
     }
-    if !present {
+    let CollectorBounds::Between(b) = bounds else {
         return SearchAnswer {
             number: 0,
             mark: 3,
-            left: granted,
+            left: call.granted,
             count: 0,
             x: 0.0,
         };
-    }
-    let side = search_refusals::role_from(role);
+    };
+    let routes = MemberRoutes {
+        points: call.routes.points,
+        starts: call.routes.starts,
+        counts: call.routes.counts,
+    };
+    let sought = Sought {
+        role: search_refusals::role_from(call.role),
+        pitch: call.pitch,
+        bounds: b,
+    };
     let mut work = [0.0; ENTRY_WORK];
     let p = promotion::promotion_candidates(
-        points,
-        starts,
-        counts,
-        side,
-        pitch,
-        b,
-        TapVisits(granted),
+        routes,
+        sought,
+        TapVisits(call.granted),
         &mut candidates[..PROMOTION_SCRATCH],
         &mut work[..],
     );

@@ -1,13 +1,12 @@
 -- The tests of a check one after the other: run after run, tap after tap, route after route, bundle after bundle, node after node.
 -- Assumes nothing.
 use Prim.Native.Nat.{ℕ, zero, suc, ◌+◌, ◌*◌, ◌-◌, ◌≤◌, ◌<◌}
-use Rattle.std.specs.Prelude.{◌≡◌, refl, Bool, false, not, cond, length, get_or, take, drop, Float, Option, Some, None}
+use Rattle.std.specs.Prelude.{◌≡◌, refl, Bool, false, cond, length, get_or, take, drop, Float, Option, Some, None}
 use Rattle.std.proofs.Math.Path.{sym, ap, fun_ext}
 use Rattle.std.proofs.Common.{◌∙◌, add-one, drop_of_length-le, get_or-take, length-take-le}
 use mathlib.Core.List.{List, [], ◌∷◌, ◌++◌, map}
 use Rattle.std.proofs.Math.Bool.{true}
 use native.Mathlib.Omega.{arith}
-use Rattle.std.proofs.lemmas.List.{length-map}
 use Rattle.std.proofs.Math.Seq.{drop-cons}
 use borrow.Author.Tests.{eq-eqb, ne_eqb}
 use Rattle.plan.proofs.TableReads.{part_cons, part_none}
@@ -21,7 +20,6 @@ use Rattle.geometry.proofs.Clear.{apart_contact, apart_spacing}
 use Rattle.geometry.proofs.KindContact.{kind_contact}
 use Rattle.route.specs.Window.{runs_next, runs_none}
 use Rattle.route.specs.Slots.{routes_from}
-use Rattle.sorting.specs.Lists.{Every}
 use Rattle.sorting.specs.Sorted.{every_at}
 use Rattle.board.specs.declared.Options.{Options}
 use Rattle.board.specs.declared.DrawnBundle.{DrawnBundle}
@@ -30,7 +28,7 @@ use Rattle.board.specs.declared.Edge.{Edge}
 use Rattle.board.specs.Board.{Board}
 use Rattle.geometry.specs.Contact.{slanted}
 use Rattle.geometry.specs.Enters.{passes_inside}
-use Rattle.drawing.specs.Build.{seg, tap_of}
+use Rattle.drawing.specs.Build.{tap_of}
 use Rattle.drawing.specs.Check.{Test, due, barred, clean, failed, walk, own, node_tests, inside_tests, member_tests, no_edge, clash, run_tests, over_routes, drawn_tests, pair_tests, prior_tests}
 use Rattle.drawing.proofs.CleanChecks.{walk_on, walk_off}
 use Rattle.checks.specs.Purse.{charged}

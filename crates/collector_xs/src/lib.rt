@@ -2,68 +2,57 @@
 //
 // Ported from cachanova/schemweave, commit c4a1a2c60a, crates/schemweave/src/boundary_bundles.rs
 // (Apache-2.0, see NOTICE): common_horizontal_collector_xs, common_horizontal_collector_x and
-// promotion_collector_candidates. The members' routes are windows of points in one lent slice of
-// coordinates, the route of member m being counts[m] points from point starts[m] on.
+// promotion_collector_candidates.
 
 #![tactic(auto)]
 
 ghost use Rattle.std.specs.Prelude.{◌≡◌, ◌+◌, ◌*◌, ◌≤◌, ◌<◌, length};
-ghost use Rattle.search.specs.Stretches.{members, routes, Windows, runs_in};
+ghost use Rattle.search.specs.Stretches.{runs_in};
+ghost use Rattle.search.specs.Lent.{members_lent};
 ghost use Rattle.search.specs.Search.{common_xs, search_of, Lists};
 
-use geometry::Role;
-use search::{Bounds, Listed, Outcome, Searched, TapVisits};
+use search::{Listed, MemberRoutes, Outcome, Searched, Sought, TapVisits};
+
+// How many numbers the search keeps is a fact of the routes, what is sought and both slices: it is asked.
 
 // All common candidates in the order in which they are tried, at the front of xs. The runs' stretches
 // are kept at the front of scratch, and its end, as long as xs, is for sorting. What the rest of xs and
 // scratch hold afterwards is left open.
-pub fn common_horizontal_collector_xs(
-    points: &[f64],
-    starts: &[usize],
-    counts: &[usize],
-    role: Role,
-    pitch: f64,
-    b: Bounds,
+pub fn common_horizontal_collector_xs<'a>(
+    routes: MemberRoutes<'a>,
+    sought: Sought,
     granted: TapVisits,
     xs: &mut [f64],
     scratch: &mut [f64],
 ) -> Listed
-    requires windows { Windows points.now starts.now counts.now }
-    requires counts_in_bounds { runs_in (members role pitch (routes points.now starts.now counts.now)) < length xs.old }
-    requires counts_in_bounds_2 { length xs.old + 2 * runs_in (members role pitch (routes points.now starts.now counts.now)) ≤ length scratch.old }
-    ensures { Lists result xs.new (length xs.old) (common_xs role b (members role pitch (routes points.now starts.now counts.now)) granted.0) }
+    requires room { runs_in (members_lent sought.role sought.pitch routes) < length xs.old }
+    requires scratch_room { length xs.old + 2 * runs_in (members_lent sought.role sought.pitch routes) ≤ length scratch.old }
+    ensures { Lists result xs.new (length xs.old) (common_xs sought.role sought.bounds (members_lent sought.role sought.pitch routes.entry) granted.0) }
 {
     let keep = scratch.len() - xs.len();
-    let g = search_lists::gather(points, starts, counts, role, pitch, b, granted, xs, scratch);
+    let g = search_lists::gather(routes, sought, granted, xs, scratch);
     match g {
         Listed::Spent => Listed::Spent,
         Listed::All(n, left) => {
-            let k = search_lists::put_in_order(role, &mut xs[..n], &mut scratch[keep..]);
-            search_lists::try_candidates(&scratch[..], counts, left, &mut xs[..k])
+            let k = search_lists::put_in_order(sought.role, &mut xs[..n], &mut scratch[keep..]);
+            search_lists::try_candidates(&scratch[..], routes.counts, left, &mut xs[..k])
         }
     }
 }
 
 // The first of them.
-pub fn common_horizontal_collector_x(
-    points: &[f64],
-    starts: &[usize],
-    counts: &[usize],
-    role: Role,
-    pitch: f64,
-    b: Bounds,
+pub fn common_horizontal_collector_x<'a>(
+    routes: MemberRoutes<'a>,
+    sought: Sought,
     granted: TapVisits,
     xs: &mut [f64],
     scratch: &mut [f64],
 ) -> Searched
-    requires windows { Windows points.now starts.now counts.now }
-    requires counts_in_bounds { runs_in (members role pitch (routes points.now starts.now counts.now)) < length xs.old }
-    requires counts_in_bounds_2 { length xs.old + 2 * runs_in (members role pitch (routes points.now starts.now counts.now)) ≤ length scratch.old }
-    ensures { result ≡ search_of role b (members role pitch (routes points.now starts.now counts.now)) granted.0 }
+    requires room { runs_in (members_lent sought.role sought.pitch routes) < length xs.old }
+    requires scratch_room { length xs.old + 2 * runs_in (members_lent sought.role sought.pitch routes) ≤ length scratch.old }
+    ensures { result ≡ search_of sought.role sought.bounds (members_lent sought.role sought.pitch routes.entry) granted.0 }
 {
-    let g = common_horizontal_collector_xs(
-        points, starts, counts, role, pitch, b, granted, xs, scratch,
-    );
+    let g = common_horizontal_collector_xs(routes, sought, granted, xs, scratch);
     match g {
         Listed::Spent => Searched {
             outcome: Outcome::Spent,

@@ -5,7 +5,7 @@
 
 #![tactic(auto)]
 
-ghost use Rattle.std.specs.Prelude.{◌≡◌, map, ℕ, ◌≤◌, ◌<◌, get_or, take, drop};
+ghost use Rattle.std.specs.Prelude.{◌≡◌, map, ℕ, ◌≤◌, ◌<◌, length, get_or, drop};
 ghost use Rattle.limits.specs.Limits.{max_bundles};
 ghost use Rattle.binary64.specs.Accepted.{zero64};
 ghost use Rattle.search.specs.declared.Bounds.{Bounds};
@@ -22,14 +22,14 @@ use search::CollectorBounds;
 
 // ---- the bundles of a component
 
-// The bundles of a role among the first n of order, in order.
-pub fn of_role(role: Role, t: Ranges, order: &[usize], n: usize) -> Places
-    requires { (n ≤ max_bundles) × Listing order.now n max_bundles }
-    ensures { (m : ℕ) → Listing order.now n m → Chosen role (ranges_in m t) (take n order.now) m result }
+// The bundles of a role among those of a component, in order: a selection, as the definition has it.
+pub fn of_role(role: Role, t: &Ranges, order: &[usize]) -> Places
+    requires { (length order.now ≤ max_bundles) × Listing order.now max_bundles }
+    ensures { (m : ℕ) → Listing order.now m → Chosen role (ranges_in m t.now) order.now m result }
 {
     let mut rows = [0; MAX_BUNDLES];
     let mut count = 0;
-    for k in 0..n {
+    for k in 0..order.len() {
         let i = order[k];
         if plan_numbers::is_same_role(t.rows[i].bundle.role, role) {
             rows[count] = i;
@@ -73,14 +73,14 @@ fn inner(role: Role, x: f64, y: f64) -> f64
 
 // How far the bundles of a role go: inputs to the largest minimum and the largest x found, outputs to
 // the smallest maximum and the smallest x found.
-pub fn extent(role: Role, t: Ranges, which: &[usize], count: usize) -> Extent
-    requires { (0 < count) × Listing which.now count max_bundles }
-    ensures { (m : ℕ) → Listing which.now count m → result ≡ extent role (ranges_in m t) (get_or which.now 0 0) (drop 1 (take count which.now)) }
+pub fn extent(role: Role, t: &Ranges, which: &[usize]) -> Extent
+    requires { (0 < length which.now) × Listing which.now max_bundles }
+    ensures { (m : ℕ) → Listing which.now m → result ≡ extent role (ranges_in m t.now) (get_or which.now 0 0) (drop 1 which.now) }
 {
     let b = t.rows[which[0]].bounds;
     let mut bound = bound_of(role, b);
     let mut desired = desired_of(b);
-    for k in 1..count {
+    for k in 1..which.len() {
         let c = t.rows[which[k]].bounds;
         bound = inner(role, bound, bound_of(role, c));
         desired = inner(role, desired, desired_of(c));
@@ -89,12 +89,12 @@ pub fn extent(role: Role, t: Ranges, which: &[usize], count: usize) -> Extent
 }
 
 // The bundles in a list are given up.
-pub fn drop_all(which: &[usize], count: usize, p: Planning) -> Planning
-    requires { Listing which.now count max_bundles }
-    ensures { (m : ℕ) → Listing which.now count m → plan_in m result ≡ record { xs = drop_all (take count which.now) (plan_in m p).xs; left = p.left.0 } }
+pub fn drop_all(which: &[usize], p: Planning) -> Planning
+    requires { Listing which.now max_bundles }
+    ensures { (m : ℕ) → Listing which.now m → plan_in m result ≡ record { xs = drop_all which.now (plan_in m p).xs; left = p.left.0 } }
 {
     let mut rows = p.rows;
-    for k in 0..count {
+    for k in 0..which.len() {
         rows[which[k]] = Planned { x: Bound::None };
     }
     Planning { rows, left: p.left }

@@ -68,8 +68,8 @@ module _ (a : List Bool) (n : ℕ) where
 
   -- the order of a component is a list of bundles
   pub component_listed : (i count : ℕ) (order : List ℕ) (seen marks : List Bool) → i < n → count ≤ length order
-      → ◌≡◌ {A = Component} (record { order = take count order; seen = marks }) (walk (row_of a n) n seen (i ∷ [])) → Listing order count n
-  component_listed i count order seen marks h k e = below_listing order count n k (subst (λ (c : Component). Below n c.order) (sym e) (walk_below n seen (i ∷ []) (h, tt)))
+      → ◌≡◌ {A = Component} (record { order = take count order; seen = marks }) (walk (row_of a n) n seen (i ∷ [])) → Listing (take count order) n
+  component_listed i count order seen marks h k e = below_listing (take count order) n (subst (λ (c : Component). Below n c.order) (sym e) (walk_below n seen (i ∷ []) (h, tt)))
 
   module _ (at : ℕ → List ℕ) (same : (i : ℕ) → i < n → row_of a n i ≡ at i) where
     walk_same : (k : ℕ) (seen : List Bool) (pending : List ℕ) → Below n pending → walk (row_of a n) k seen pending ≡ walk at k seen pending

@@ -5,18 +5,20 @@
 
 #![tactic(auto)]
 
-ghost use Rattle.std.specs.Prelude.{◌≡◌, List, ◌≤◌, take};
+ghost use Rattle.std.specs.Prelude.{◌≡◌, List, ◌≤◌, length};
 ghost use Rattle.limits.specs.Limits.{max_bundles};
 ghost use Rattle.geometry.specs.Points.{Route};
 ghost use Rattle.board.specs.Board.{Board};
 ghost use Rattle.search.specs.Search.{search_of};
 ghost use Rattle.plan.specs.Plan.{Ranged, input_split, exceeds, split, limited, outputs_last, settle, treated};
-ghost use Rattle.plan.specs.Prepared.{Listing, Searchable, AllAmong, plan_in};
+ghost use Rattle.plan.specs.Prepared.{Listing, plan_in};
 ghost use Rattle.components.specs.Settled.{ranges_in, step_in, Known};
 
-use components::{Extent, NoRoom};
+use components::{Extent, Group, NoRoom};
 use geometry::Role;
-use plan::{Bound, Planning, Ranges, Reaches, Upper};
+use plan::layout::Layout;
+use plan::search_work::SearchWork;
+use plan::{Bound, Planning, Ranges, Upper};
 
 // ---- one component
 
@@ -29,52 +31,29 @@ fn input_split(pitch: f64, low: f64, limit: f64, deepest: f64, earliest: f64) ->
 
 // The inputs are split from the outputs if the deepest comes too near to the earliest.
 fn split(
-    points: &[f64],
-    starts: &[usize],
-    counts: &[usize],
-    rail: f64,
-    pitch: f64,
-    t: Reaches,
-    which: &[usize],
-    count: usize,
-    inputs: Extent,
+    layout: Layout,
+    inputs: Group,
     outputs: Extent,
     p: Planning,
-    xs: &mut [f64],
-    scratch: &mut [f64],
+    work: &mut SearchWork,
 ) -> Result<Planning, NoRoom>
-    requires searchable { Searchable points.now starts.now counts.now xs.old scratch.old }
-    requires all_among { AllAmong starts.now t }
-    requires listing { Listing which.now count t.count }
-    ensures { (b : Board) (given : List Route) (ranges : List Ranged) → Known b given points.now starts.now counts.now rail pitch t ranges → step_in t.count result ≡ split search_of b given ranges inputs.bound outputs.bound inputs.desired outputs.desired (take count which.now) (plan_in t.count p) }
+    requires listing { Listing inputs.bundles.now layout.reaches.now.count }
+    ensures { (b : Board) (given : List Route) (ranges : List Ranged) → Known b given layout.entry ranges → step_in layout.entry.reaches.now.count result ≡ split search_of b given ranges inputs.entry.extent.bound outputs.bound inputs.entry.extent.desired outputs.desired inputs.entry.bundles.now (plan_in layout.entry.reaches.now.count p) }
 {
-    if inputs.desired + pitch > outputs.desired {
-        if inputs.bound > outputs.bound - pitch {
+    let near = inputs.extent;
+    if near.desired + layout.pitch > outputs.desired {
+        if near.bound > outputs.bound - layout.pitch {
             return Err(NoRoom { left: p.left });
         }
         let x = input_split(
-            pitch,
-            inputs.bound,
+            layout.pitch,
+            near.bound,
             outputs.bound,
-            inputs.desired,
+            near.desired,
             outputs.desired,
         );
         let fixed = Upper::Fixed(x);
-        let q = plan_searches::search_again(
-            points,
-            starts,
-            counts,
-            rail,
-            pitch,
-            t,
-            which,
-            count,
-            Bound::None,
-            fixed,
-            p,
-            xs,
-            scratch,
-        );
+        let q = plan_searches::search_again(layout, inputs.bundles, Bound::None, fixed, p, work);
         return Ok(q);
     }
     Ok(p)
@@ -91,207 +70,85 @@ fn exceeds(r: Bound, limit: f64) -> bool
 
 // The inputs are held below the outputs' limit if what they ask lies above it.
 fn limited(
-    points: &[f64],
-    starts: &[usize],
-    counts: &[usize],
-    rail: f64,
-    pitch: f64,
-    t: Reaches,
-    which: &[usize],
-    count: usize,
+    layout: Layout,
+    inputs: &[usize],
     limit: f64,
     p: Planning,
-    xs: &mut [f64],
-    scratch: &mut [f64],
+    work: &mut SearchWork,
 ) -> Planning
-    requires searchable { Searchable points.now starts.now counts.now xs.old scratch.old }
-    requires all_among { AllAmong starts.now t }
-    requires listing { Listing which.now count t.count }
-    ensures { (b : Board) (given : List Route) (ranges : List Ranged) → Known b given points.now starts.now counts.now rail pitch t ranges → plan_in t.count result ≡ limited search_of b given ranges limit (take count which.now) (plan_in t.count p) }
+    requires listing { Listing inputs.now layout.reaches.now.count }
+    ensures { (b : Board) (given : List Route) (ranges : List Ranged) → Known b given layout.entry ranges → plan_in layout.entry.reaches.now.count result ≡ limited search_of b given ranges limit inputs.now (plan_in layout.entry.reaches.now.count p) }
 {
-    let r = plan_outputs::required_output_collector_x(
-        points, starts, counts, pitch, t, which, count, p,
-    );
+    let r = plan_outputs::required_output_collector_x(layout, inputs, p);
     if exceeds(r, limit) {
         let below = Upper::Below(limit);
-        return plan_searches::search_again(
-            points,
-            starts,
-            counts,
-            rail,
-            pitch,
-            t,
-            which,
-            count,
-            Bound::None,
-            below,
-            p,
-            xs,
-            scratch,
-        );
+        return plan_searches::search_again(layout, inputs, Bound::None, below, p, work);
     }
     p
 }
 
 // The outputs keep clear of what the inputs ask.
 fn outputs_last(
-    points: &[f64],
-    starts: &[usize],
-    counts: &[usize],
-    rail: f64,
-    pitch: f64,
-    t: Reaches,
+    layout: Layout,
     inputs: &[usize],
-    input_count: usize,
     outputs: &[usize],
-    output_count: usize,
     p: Planning,
-    xs: &mut [f64],
-    scratch: &mut [f64],
+    work: &mut SearchWork,
 ) -> Planning
-    requires searchable { Searchable points.now starts.now counts.now xs.old scratch.old }
-    requires all_among { AllAmong starts.now t }
-    requires listing { Listing inputs.now input_count t.count }
-    requires listing_2 { Listing outputs.now output_count t.count }
-    ensures { (b : Board) (given : List Route) (ranges : List Ranged) → Known b given points.now starts.now counts.now rail pitch t ranges → plan_in t.count result ≡ outputs_last search_of b given ranges (take input_count inputs.now) (take output_count outputs.now) (plan_in t.count p) }
+    requires listing { Listing inputs.now layout.reaches.now.count × Listing outputs.now layout.reaches.now.count }
+    ensures { (b : Board) (given : List Route) (ranges : List Ranged) → Known b given layout.entry ranges → plan_in layout.entry.reaches.now.count result ≡ outputs_last search_of b given ranges inputs.now outputs.now (plan_in layout.entry.reaches.now.count p) }
 {
-    let r = plan_outputs::required_output_collector_x(
-        points,
-        starts,
-        counts,
-        pitch,
-        t,
-        inputs,
-        input_count,
-        p,
-    );
-    plan_searches::search_again(
-        points,
-        starts,
-        counts,
-        rail,
-        pitch,
-        t,
-        outputs,
-        output_count,
-        r,
-        Upper::Never,
-        p,
-        xs,
-        scratch,
-    )
+    let r = plan_outputs::required_output_collector_x(layout, inputs, p);
+    plan_searches::search_again(layout, outputs, r, Upper::Never, p, work)
 }
 
 // Inputs and outputs with these extents.
 fn settle(
-    points: &[f64],
-    starts: &[usize],
-    counts: &[usize],
-    rail: f64,
-    pitch: f64,
-    t: Reaches,
+    layout: Layout,
     order: &[usize],
-    order_count: usize,
-    inputs: &[usize],
-    input_count: usize,
-    outputs: &[usize],
-    output_count: usize,
-    near: Extent,
-    far: Extent,
+    inputs: Group,
+    outputs: Group,
     p: Planning,
-    xs: &mut [f64],
-    scratch: &mut [f64],
+    work: &mut SearchWork,
 ) -> Result<Planning, NoRoom>
-    requires searchable { Searchable points.now starts.now counts.now xs.old scratch.old }
-    requires all_among { AllAmong starts.now t }
-    requires listing { Listing order.now order_count t.count }
-    requires listing_2 { Listing inputs.now input_count t.count }
-    requires listing_3 { Listing outputs.now output_count t.count }
-    ensures { (b : Board) (given : List Route) (ranges : List Ranged) → Known b given points.now starts.now counts.now rail pitch t ranges → step_in t.count result ≡ settle search_of b given ranges (take order_count order.now) near.bound far.bound near.desired far.desired (take input_count inputs.now) (take output_count outputs.now) (plan_in t.count p) }
+    requires listing { Listing order.now layout.reaches.now.count × Listing inputs.bundles.now layout.reaches.now.count × Listing outputs.bundles.now layout.reaches.now.count }
+    ensures { (b : Board) (given : List Route) (ranges : List Ranged) → Known b given layout.entry ranges → step_in layout.entry.reaches.now.count result ≡ settle search_of b given ranges order.now inputs.entry.extent.bound outputs.entry.extent.bound inputs.entry.extent.desired outputs.entry.extent.desired inputs.entry.bundles.now outputs.entry.bundles.now (plan_in layout.entry.reaches.now.count p) }
 {
-    if near.bound + pitch > far.bound {
-        let dropped = component_extents::drop_all(order, order_count, p);
+    let far = outputs.extent;
+    if inputs.extent.bound + layout.pitch > far.bound {
+        let dropped = component_extents::drop_all(order, p);
         return Ok(dropped);
     }
-    let parted = split(
-        points,
-        starts,
-        counts,
-        rail,
-        pitch,
-        t,
-        inputs,
-        input_count,
-        near,
-        far,
-        p,
-        xs,
-        scratch,
-    )?;
-    let q = limited(
-        points,
-        starts,
-        counts,
-        rail,
-        pitch,
-        t,
-        inputs,
-        input_count,
-        far.bound,
-        parted,
-        xs,
-        scratch,
-    );
-    let last = outputs_last(
-        points,
-        starts,
-        counts,
-        rail,
-        pitch,
-        t,
-        inputs,
-        input_count,
-        outputs,
-        output_count,
-        q,
-        xs,
-        scratch,
-    );
+    let parted = split(layout, inputs, far, p, work)?;
+    let q = limited(layout, inputs.bundles, far.bound, parted, work);
+    let last = outputs_last(layout, inputs.bundles, outputs.bundles, q, work);
     Ok(last)
 }
 
 // A component of one role only is left as it is.
 pub fn treat(
-    points: &[f64],
-    starts: &[usize],
-    counts: &[usize],
-    rail: f64,
-    pitch: f64,
-    t: Reaches,
-    ranges: Ranges,
+    layout: Layout,
+    ranges: &Ranges,
     order: &[usize],
-    count: usize,
     p: Planning,
-    xs: &mut [f64],
-    scratch: &mut [f64],
+    work: &mut SearchWork,
 ) -> Result<Planning, NoRoom>
-    requires searchable { Searchable points.now starts.now counts.now xs.old scratch.old }
-    requires all_among { AllAmong starts.now t }
-    requires count_le_max_bundles { (count ≤ max_bundles) × Listing order.now count t.count }
-    ensures { (b : Board) (given : List Route) → Known b given points.now starts.now counts.now rail pitch t (ranges_in t.count ranges) → step_in t.count result ≡ treated search_of b given (ranges_in t.count ranges) (take count order.now) (plan_in t.count p) }
+    requires listing { (length order.now ≤ max_bundles) × Listing order.now layout.reaches.now.count }
+    ensures { (b : Board) (given : List Route) → Known b given layout.entry (ranges_in layout.entry.reaches.now.count ranges.now) → step_in layout.entry.reaches.now.count result ≡ treated search_of b given (ranges_in layout.entry.reaches.now.count ranges.now) order.now (plan_in layout.entry.reaches.now.count p) }
 {
-    let i = component_extents::of_role(Role::Input, ranges, order, count);
+    let i = component_extents::of_role(Role::Input, ranges, order);
     if i.count == 0 {
         return Ok(p);
     }
-    let o = component_extents::of_role(Role::Output, ranges, order, count);
+    let o = component_extents::of_role(Role::Output, ranges, order);
     if o.count == 0 {
         return Ok(p);
     }
-    let near = component_extents::extent(Role::Input, ranges, &i.rows, i.count);
-    let far = component_extents::extent(Role::Output, ranges, &o.rows, o.count);
-    settle(
-        points, starts, counts, rail, pitch, t, order, count, &i.rows, i.count, &o.rows, o.count,
-        near, far, p, xs, scratch,
-    )
+    let bundles = &i.rows[..i.count];
+    let extent = component_extents::extent(Role::Input, ranges, bundles);
+    let inputs = Group { bundles, extent };
+    let bundles = &o.rows[..o.count];
+    let extent = component_extents::extent(Role::Output, ranges, bundles);
+    let outputs = Group { bundles, extent };
+    settle(layout, order, inputs, outputs, p, work)
 }

@@ -28,6 +28,13 @@ pub struct Extent {
     pub desired: f64,
 }
 
+// The bundles of one role in a component, and how far they go.
+#[derive(Clone, Copy)]
+pub struct Group<'a> {
+    pub bundles: &'a [usize],
+    pub extent: Extent,
+}
+
 // That a plan is refused, with the visits left: the clamp of the split would have its low end above its
 // high end.
 #[derive(Clone, Copy)]

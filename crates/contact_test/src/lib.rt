@@ -32,6 +32,9 @@ pub fn is_slanted(a: Point, b: Point) -> bool
     !(a.y == b.y) & !(a.x == b.x)
 }
 
+// span_across and span_upright stay apart: the coordinates that the one reads the other passes over, and a
+// point with its two exchanged would have to be made for one to serve.
+
 pub fn span_across(a: Point, b: Point) -> Span
     ensures { result ≡ across a b }
 {
@@ -220,7 +223,7 @@ pub fn is_disallowed(kind: Contact, permitted: bool) -> bool
     }
 }
 
-// The kind's number, for those who colour by it.
+// The kind's number, for those who colour by it. A function and no From: the name is public.
 pub fn contact_number(kind: Contact) -> u8
     ensures { result ≡ number kind }
 {

@@ -10,10 +10,11 @@ ghost use Rattle.crossing_rows.specs.Rows.{rows_met};
 ghost use Rattle.crossing_bytes.specs.RowBytes.{written_rows};
 
 use board::{DrawnBundles, Edges};
+use crossing_rows::Rows;
 use limits::{CROSSING_NUMBERS, MAX_CROSSINGS};
 
 // Whether there are more than 1,024 crossings (19). Where there are not, the list is written, unless
-// another refusal is due. The places and ids of the crossings are kept here, so that they are cleared
+// another refusal is due. The rows of the crossings are kept here, so that they are cleared
 // only where the list is wanted. A bool: its one caller writes a notice where it is true, as it would at an
 // Err.
 pub fn list_crossings(
@@ -30,23 +31,18 @@ pub fn list_crossings(
     ensures too_many { result ≡ ltb max_crossings (length (rows_met permitted table drawn points.now counts.now)) }
     ensures bytes { out.new ≡ sets out.old 0 (written_rows withheld (rows_met permitted table drawn points.now counts.now)) }
 {
-    let mut places = [0.0; CROSSING_NUMBERS];
-    let mut names = [0; CROSSING_NUMBERS];
-    let n = crossing_walk::sheet_crossings(
-        permitted,
-        table,
-        drawn,
-        points,
-        counts,
-        &mut places[..],
-        &mut names[..],
-    );
-    if n > MAX_CROSSINGS {
+    let mut kept = Rows {
+        places: [0.0; CROSSING_NUMBERS],
+        names: [0; CROSSING_NUMBERS],
+        count: 0,
+    };
+    crossing_walk::sheet_crossings(permitted, table, drawn, points, counts, &mut kept);
+    if kept.count > MAX_CROSSINGS {
         return true;
     }
     if withheld {
         return false;
     }
-    crossing_list::put_crossings(&places[..], &names[..], n, &mut out[..]);
+    crossing_list::put_crossings(&kept, out);
     false
 }

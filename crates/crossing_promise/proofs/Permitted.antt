@@ -1,7 +1,7 @@
 -- With crossings permitted: what bundles and routes of a sheet that is drawn share, beside its list. For every plan whose x are within 2 ^ 30. Assumes nothing.
 use Rattle.std.specs.Prelude.{ℕ, ◌<◌, ◌≡◌, refl, ◌⊎◌, Bool, true, false, length, Option, None}
-use Rattle.std.proofs.Common.{sym, ap, ◌∙◌, inl, inr, true≢false, arith}
-use mathlib.Core.List.{List, Memᴰ}
+use Rattle.std.proofs.Common.{◌∙◌, inl, inr, true≢false, arith}
+use mathlib.Core.List.{List}
 use Rattle.std.proofs.Math.ListN.{get_or}
 use Rattle.geometry.specs.declared.Point.{Point}
 use Rattle.geometry.specs.declared.Segment.{Segment}
@@ -12,7 +12,7 @@ use Rattle.geometry.specs.Contact.{contact}
 use Rattle.geometry.specs.Kind.{kind, disallowed}
 use Rattle.geometry.proofs.KindContact.{kind_contact}
 use Rattle.geometry.specs.Crossing.{crossing_place}
-use Rattle.exact.specs.Exact.{Exact, Same, exact, HasLength, Finite}
+use Rattle.exact.specs.Exact.{Exact, Same, exact, HasLength}
 use Rattle.exact.specs.Promise as exactly
 use Rattle.exact.specs.Promise.{Shared, Touches}
 use Rattle.exact.proofs.Between.{same_trans}

@@ -1,6 +1,6 @@
 -- F-7's promise, proved whole: for every job's bytes, for our plan and for any plan whose x are numbers of the format within 2 ^ 30. Assumes nothing.
-use Rattle.std.specs.Prelude.{ℕ, ◌+◌, ◌*◌, ◌/◌, ◌%◌, ◌≤◌, ◌<◌, ◌≡◌, refl, Bool, true, false, cond, List, [], ◌++◌, length, get_or, take, drop}
-use Rattle.std.proofs.Common.{sym, ◌∙◌, true≢false, arith, take_at, eq-eqb}
+use Rattle.std.specs.Prelude.{ℕ, ◌+◌, ◌*◌, ◌/◌, ◌%◌, ◌≤◌, ◌≡◌, refl, Bool, true, false, cond, List, [], ◌++◌, length, get_or, take, drop}
+use Rattle.std.proofs.Common.{◌∙◌, arith, take_at, eq-eqb}
 use Rattle.std.proofs.Math.Path.{ap, subst}
 use Rattle.std.proofs.lemmas.List.Edits.{sets, sets-eq}
 use Rattle.std.proofs.lemmas.List.{take-append-le}
@@ -29,7 +29,6 @@ use Rattle.promise.proofs.BoardDemand.{Readable, turns_fine}
 use Rattle.promise.proofs.Read.{readable}
 use Rattle.promise.proofs.Ranges.{planned_in}
 use Rattle.promise.proofs.Flags.{flags_read, no_crossings}
-use Rattle.promise.specs.Demand3.{crossing_bit}
 use Rattle.crossings.specs.List.{Crossing, crossing_list, listed}
 use Rattle.crossings.specs.Words.{ListKept}
 use Rattle.limits.specs.Limits.{max_crossings, crossing_bytes, crossings_room}

@@ -2,7 +2,6 @@
 -- Assumes nothing.
 use Rattle.std.specs.Prelude.{◌≡◌, ◌⊎◌, Bool, List, [], ℕ, ◌+◌, ◌*◌, ◌≤◌, ◌<◌, length, get_or, take, None}
 use Rattle.wire.specs.Bytes.{number}
-use Rattle.geometry.specs.declared.Segment.{Segment}
 use Rattle.geometry.specs.declared.Contact.TheVariants.{StrictCrossing}
 use Rattle.geometry.specs.Points.{Route, runs}
 use Rattle.geometry.specs.Kind.{kind}

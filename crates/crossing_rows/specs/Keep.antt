@@ -1,11 +1,11 @@
 -- Rows kept one after the other. Assumes nothing.
-use Rattle.std.specs.Prelude.{ℕ, zero, suc, ◌+◌, ◌*◌, ◌≤◌, ◌<◌, ◌≡◌, refl, List, [], ◌∷◌, ◌++◌, Bool, true, false, cond, leb, length, get_or, set, Float}
-use Rattle.std.proofs.Common.{sym, ap, ◌∙◌, subst, append_assoc, append-nil, arith, length-set, length-append, leb-true, leb-false, le-leb}
+use Rattle.std.specs.Prelude.{ℕ, zero, suc, ◌+◌, ◌*◌, ◌≤◌, ◌<◌, ◌≡◌, refl, List, [], ◌∷◌, ◌++◌, Bool, true, false, cond, leb, length, set, Float}
+use Rattle.std.proofs.Common.{sym, ap, ◌∙◌, subst, append_assoc, append-nil, arith, length-set, length-append, leb-false, le-leb}
 use Rattle.std.proofs.Math.Seq.{get_or-set_same, get_or-set_other}
 use Rattle.std.proofs.lemmas.Bool.{lt-leb}
 use Rattle.geometry.specs.declared.Point.{Point}
-use Rattle.geometry.specs.Points.{point_at, put_point}
-use Rattle.route.specs.Window.{length_put, put_other, put_here}
+use Rattle.geometry.specs.Points.{put_point}
+use Rattle.route.specs.Window.{put_other, put_here}
 use Rattle.limits.specs.Limits.{max_crossings, crossing_numbers}
 use Rattle.crossing_rows.specs.Rows.{Row, row, row_at, rows_from, capped, Kept, Grown}
 

@@ -10,7 +10,7 @@ use Rattle.board.specs.declared.DrawnBundle.{DrawnBundle}
 use Rattle.board.specs.declared.DrawnBundles.{DrawnBundles}
 use Rattle.board.specs.declared.Edges.{Edges}
 use Rattle.board.specs.declared.Edge.{Edge}
-use Rattle.limits.specs.Limits.{slot_numbers, max_crossings, crossing_numbers}
+use Rattle.limits.specs.Limits.{slot_numbers, max_crossings}
 use Rattle.route.specs.Slots.{routes_of, Held}
 
 -- an entry: "the point as two f64, the bundle id, the edge id"
@@ -75,10 +75,6 @@ pub record Kept (l : List Row) (places : List Float) (names : List ℕ) (n : ℕ
 -- a walk that met the rows new, whatever was kept before it
 abbrev pub Grown : List Float → List ℕ → ℕ → List Float → List ℕ → ℕ → List Row → Type 0
 Grown places names n places' names' n' new = (l : List Row) → Kept l places names n → Kept (l ++ new) places' names' n'
-
--- room for 1,024 rows
-abbrev pub Room : List Float → List ℕ → Type 0
-Room places names = (crossing_numbers ≤ length places) × (crossing_numbers ≤ length names)
 
 -- every route has its slot and its id
 pub record Slotted (points : List Float) (counts ids : List ℕ) : Type 0 where

@@ -1,5 +1,5 @@
 -- The walk over the sheet: run after run, route after route, bundle after bundle. Assumes nothing.
-use Rattle.std.specs.Prelude.{ℕ, zero, suc, ◌+◌, ◌*◌, ◌-◌, ◌≤◌, ◌<◌, ◌≡◌, refl, Bool, not, cond, take, set, Float, Option, None}
+use Rattle.std.specs.Prelude.{ℕ, ◌+◌, ◌*◌, ◌-◌, ◌≤◌, ◌<◌, ◌≡◌, refl, Bool, not, take, set, Float, Option, None}
 use Rattle.std.proofs.Math.Path.{sym}
 use Rattle.std.proofs.Common.{ap, ◌∙◌, subst, true≢false, add-one, get_or-take, take-suc, take-suc-set}
 use mathlib.Core.List.{List, [], ◌∷◌, ◌++◌, map, map-append}
@@ -24,9 +24,9 @@ use Rattle.board.specs.declared.DrawnBundle.{DrawnBundle}
 use Rattle.board.specs.declared.DrawnBundles.{DrawnBundles}
 use Rattle.board.specs.declared.Edge.{Edge}
 use Rattle.board.specs.declared.Edges.{Edges}
-use Rattle.limits.specs.Limits.{slot_points, slot_numbers}
+use Rattle.limits.specs.Limits.{slot_points}
 use Rattle.crossing_rows.specs.Rows.{Row, row, one_row, run_rows, route_rows, bundle_rows, sheet_rows, id_of, rows_met, rows_from, Kept, Grown}
-use Rattle.crossing_rows.specs.Keep.{grown_none, grown_then}
+use Rattle.crossing_rows.specs.Keep.{grown_then}
 
 -- ---- a run that is apart from a bus does not cross it
 

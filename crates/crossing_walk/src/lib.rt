@@ -1,206 +1,145 @@
 // The strict crossings of bundles and routes on a sheet before the last shift: F-7.
 //
 // The walk goes by bundle, then edge, then collector before spine, then run, and keeps the place and
-// the two ids of each crossing in lent slices: row i has its place at point i of places, its ids at
-// 2 i and 2 i + 1 of names. There is room for 1,024 rows; a count of 1,025 stands for any more. Most
-// runs are apart from a segment, and a few comparisons tell, as in the contact check.
+// the two ids of each crossing in the rows that it is lent. Most runs are apart from a segment, and a
+// few comparisons tell, as in the contact check.
 
 #![tactic(auto)]
 
-ghost use Rattle.std.specs.Prelude.{◌≡◌, [], ◌∷◌, map, ◌+◌, ◌*◌, ◌≤◌, length, take, None};
+ghost use Rattle.std.specs.Prelude.{◌≡◌, [], ◌∷◌, map, ◌*◌, ◌≤◌, length, take, None};
+ghost use Rattle.std.proofs.Props.{props};
 ghost use Rattle.limits.specs.Limits.{max_edges, max_bundles, slot_numbers};
 ghost use Rattle.geometry.specs.Apart.{trunk};
-ghost use Rattle.geometry.specs.Points.{points_from, runs};
+ghost use Rattle.geometry.specs.Points.{runs};
+ghost use Rattle.geometry.specs.Lent.{route_lent};
 ghost use Rattle.geometry.specs.Kind.{kind};
 ghost use Rattle.geometry.specs.Crossing.{is_strict};
 ghost use Rattle.route.specs.Slots.{routes_of, Held};
-ghost use Rattle.crossing_rows.specs.Rows.{row, one_row, run_rows, route_rows, bundle_rows, sheet_rows, id_of, rows_met, Kept, Grown, Room, Slotted};
+ghost use Rattle.crossing_rows.specs.Rows.{row, one_row, run_rows, route_rows, bundle_rows, sheet_rows, id_of, rows_met, Slotted};
+ghost use Rattle.crossing_rows.specs.Lent.{KeptIn, GrownBy};
 
 use board::{DrawnBundle, DrawnBundles, Edges};
-use geometry::{Point, Segment, Trunk};
+use crossing_rows::Rows;
+use geometry::{Point, RouteView, Segment, Trunk};
 use limits::{MAX_CROSSINGS, MAX_EDGES, SLOT_POINTS};
+
+// A bundle's segment and the trunk that it lies on.
+#[derive(Clone, Copy)]
+struct Bus {
+    segment: Segment,
+    line: Trunk,
+    ghost known: { line ≡ trunk segment },
+}
+
+// A drawn bundle and the trunks of its segments, worked out once for all routes.
+#[derive(Clone, Copy)]
+struct Walked {
+    row: DrawnBundle,
+    collector: Trunk,
+    spine: Trunk,
+    ghost collector_known: { collector ≡ trunk row.collector },
+    ghost spine_known: { spine ≡ trunk row.spine },
+}
+
+// The present routes in their slots, and the ids of their edges.
+#[derive(Clone, Copy)]
+struct NamedRoutes<'a> {
+    points: &'a [f64],
+    counts: &'a [usize],
+    ids: &'a [u64],
+    ghost slotted: { Slotted points.now counts.now ids.now } by { Prim.hlevel props },
+}
 
 // ---- the walk
 
 // One row more, where there is room.
-fn keep(places: &mut [f64], names: &mut [u64], n: usize, p: Point, bundle: u64, edge: u64) -> usize
-    requires { Room places.old names.old }
-    ensures { Grown places.old names.old n places.new names.new result (row p bundle edge ∷ []) }
+fn keep(kept: &mut Rows, p: Point, bundle: u64, edge: u64)
+    ensures { GrownBy kept.old kept.new (row p bundle edge ∷ []) }
 {
+    let n = kept.count;
     if n >= MAX_CROSSINGS {
-        return MAX_CROSSINGS + 1;
+        kept.count = MAX_CROSSINGS + 1;
+        return;
     }
-    route_views::put_point(&mut places[..], n, p);
-    names[2 * n] = bundle;
-    names[2 * n + 1] = edge;
-    n + 1
+    route_views::put_point(&mut kept.places[..], n, p);
+    kept.names[2 * n] = bundle;
+    kept.names[2 * n + 1] = edge;
+    kept.count = n + 1;
 }
 
-// Whether a bus, whose trunk is t, and a run cross strictly.
-fn is_crossing(bus: Segment, t: Trunk, run: Segment) -> bool
-    requires { t ≡ trunk bus }
-    ensures { result ≡ is_strict (kind bus run.start run.end None) }
+// Whether a bus and a run cross strictly.
+#[tactic(auto, using(crossing_rows::specs::Walk::apart_crosses))]
+fn is_crossing(bus: Bus, run: Segment) -> bool
+    ensures { result ≡ is_strict (kind bus.segment run.start run.end None) }
 {
-    if contact_test::is_apart(t, 0.0, run.start, run.end) {
+    if contact_test::is_apart(bus.line, 0.0, run.start, run.end) {
         return false;
     }
-    let k = contact_test::contact_kind(bus, run.start, run.end, None);
+    let k = contact_test::contact_kind(bus.segment, run.start, run.end, None);
     contact_test::is_strict_crossing(k)
 }
 
-fn walk_run(
-    bus: Segment,
-    t: Trunk,
-    bundle: u64,
-    edge: u64,
-    run: Segment,
-    places: &mut [f64],
-    names: &mut [u64],
-    n: usize,
-) -> usize
-    requires { (t ≡ trunk bus) × Room places.old names.old }
-    ensures { Grown places.old names.old n places.new names.new result (one_row bus bundle edge run) }
+fn walk_run(bus: Bus, bundle: u64, edge: u64, run: Segment, kept: &mut Rows)
+    ensures { GrownBy kept.old kept.new (one_row bus.segment bundle edge run) }
 {
-    if is_crossing(bus, t, run) {
-        let p = contact_test::crossing_point(bus, run.start);
-        return keep(&mut places[..], &mut names[..], n, p, bundle, edge);
+    if is_crossing(bus, run) {
+        let p = contact_test::crossing_point(bus.segment, run.start);
+        keep(kept, p, bundle, edge);
     }
-    n
 }
 
-// The runs of a route of long points from point start on.
-fn walk_runs(
-    bus: Segment,
-    t: Trunk,
-    bundle: u64,
-    edge: u64,
-    points: &[f64],
-    start: usize,
-    long: usize,
-    places: &mut [f64],
-    names: &mut [u64],
-    n: usize,
-) -> usize
-    requires { (t ≡ trunk bus) × (2 * (start + long) ≤ length points.now) × Room places.old names.old }
-    ensures { Grown places.old names.old n places.new names.new result (run_rows bus bundle edge (runs (points_from points.now start long))) }
+// The runs of a route.
+fn walk_runs(bus: Bus, bundle: u64, edge: u64, route: RouteView, kept: &mut Rows)
+    ensures { GrownBy kept.old kept.new (run_rows bus.segment bundle edge (runs (route_lent route.entry))) }
 {
-    let mut k = n;
-    for i in 0..long.saturating_sub(1) {
-        let run = route_views::route_run(points, start, long, i);
-        k = walk_run(
-            bus,
-            t,
-            bundle,
-            edge,
-            run,
-            &mut places[..],
-            &mut names[..],
-            k,
-        );
+    for i in 0..route.count.saturating_sub(1) {
+        walk_run(bus, bundle, edge, route_views::view_run(route, i), kept);
     }
-    k
 }
 
-// A route against the collector, then against the spine; c and s are their trunks.
-fn walk_route(
-    d: DrawnBundle,
-    c: Trunk,
-    s: Trunk,
-    edge: u64,
-    points: &[f64],
-    start: usize,
-    long: usize,
-    places: &mut [f64],
-    names: &mut [u64],
-    n: usize,
-) -> usize
-    requires { (c ≡ trunk d.collector) × (s ≡ trunk d.spine) × (2 * (start + long) ≤ length points.now) × Room places.old names.old }
-    ensures { Grown places.old names.old n places.new names.new result (route_rows d edge (points_from points.now start long)) }
+// A route against the collector, then against the spine.
+fn walk_route(d: Walked, edge: u64, route: RouteView, kept: &mut Rows)
+    ensures { GrownBy kept.old kept.new (route_rows d.row edge (route_lent route.entry)) }
 {
-    let k = walk_runs(
-        d.collector,
-        c,
-        d.id,
-        edge,
-        points,
-        start,
-        long,
-        &mut places[..],
-        &mut names[..],
-        n,
-    );
-    walk_runs(
-        d.spine,
-        s,
-        d.id,
-        edge,
-        points,
-        start,
-        long,
-        &mut places[..],
-        &mut names[..],
-        k,
-    )
+    let collector = Bus {
+        segment: d.row.collector,
+        line: d.collector,
+    };
+    let spine = Bus {
+        segment: d.row.spine,
+        line: d.spine,
+    };
+    walk_runs(collector, d.row.id, edge, route, kept);
+    walk_runs(spine, d.row.id, edge, route, kept);
 }
 
-// Every route against a bundle; ids has the ids of the edges.
-fn walk_bundle(
-    d: DrawnBundle,
-    ids: &[u64],
-    points: &[f64],
-    counts: &[usize],
-    places: &mut [f64],
-    names: &mut [u64],
-    n: usize,
-) -> usize
-    requires { Slotted points.now counts.now ids.now × Room places.old names.old }
-    ensures { Grown places.old names.old n places.new names.new result (bundle_rows d ids.now (routes_of points.now counts.now) 0) }
+// Every route against a bundle.
+fn walk_bundle(row: DrawnBundle, routes: NamedRoutes, kept: &mut Rows)
+    ensures { GrownBy kept.old kept.new (bundle_rows row routes.entry.ids.now (routes_of routes.entry.points.now routes.entry.counts.now) 0) }
 {
-    let c = contact_test::trunk_of(d.collector);
-    let s = contact_test::trunk_of(d.spine);
-    let mut k = n;
-    for (e, count) in counts.iter().enumerate() {
-        k = walk_route(
-            d,
-            c,
-            s,
-            ids[e],
-            points,
-            SLOT_POINTS * e,
-            *count,
-            &mut places[..],
-            &mut names[..],
-            k,
-        );
+    let d = Walked {
+        row,
+        collector: contact_test::trunk_of(row.collector),
+        spine: contact_test::trunk_of(row.spine),
+    };
+    for (e, count) in routes.counts.iter().enumerate() {
+        let route = RouteView {
+            points: routes.points,
+            start: SLOT_POINTS * e,
+            count: *count,
+        };
+        walk_route(d, routes.ids[e], route, kept);
     }
-    k
 }
 
 // Every bundle in job order.
-fn walk_bundles(
-    drawn: DrawnBundles,
-    ids: &[u64],
-    points: &[f64],
-    counts: &[usize],
-    places: &mut [f64],
-    names: &mut [u64],
-) -> usize
-    requires { (drawn.count ≤ max_bundles) × Slotted points.now counts.now ids.now × Room places.old names.old }
-    ensures { Kept (sheet_rows (take drawn.count drawn.rows) ids.now (routes_of points.now counts.now)) places.new names.new result }
+fn walk_bundles(drawn: DrawnBundles, routes: NamedRoutes, kept: &mut Rows)
+    requires { drawn.count ≤ max_bundles }
+    ensures { GrownBy kept.old kept.new (sheet_rows (take drawn.count drawn.rows) routes.entry.ids.now (routes_of routes.entry.points.now routes.entry.counts.now)) }
 {
-    let mut k = 0;
     for i in 0..drawn.count {
-        k = walk_bundle(
-            drawn.rows[i],
-            ids,
-            points,
-            counts,
-            &mut places[..],
-            &mut names[..],
-            k,
-        );
+        walk_bundle(drawn.rows[i], routes, kept);
     }
-    k
 }
 
 // The ids of the edges.
@@ -214,32 +153,29 @@ fn edge_ids(table: Edges, ids: &mut [u64])
 }
 
 // Every bundle in job order, where crossings are permitted; where they are not there are none, and
-// none is looked for. The answer is how many crossings there are, 1,025 standing for any number above
-// 1,024; then what the slices hold says nothing.
+// none is looked for. What was kept before goes.
 pub fn sheet_crossings(
     permitted: bool,
     table: Edges,
     drawn: DrawnBundles,
     points: &[f64],
     counts: &[usize],
-    places: &mut [f64],
-    names: &mut [u64],
-) -> usize
-    requires count_le_max_edges { (table.count ≤ max_edges) × (drawn.count ≤ max_bundles) × Room places.old names.old }
-    requires counts_len { (length counts.now ≡ table.count) × (slot_numbers * length counts.now ≤ length points.now) × Held counts.now }
-    ensures { Kept (rows_met permitted table drawn points.now counts.now) places.new names.new result }
+    kept: &mut Rows,
+)
+    requires few { (table.count ≤ max_edges) × (drawn.count ≤ max_bundles) }
+    requires slots { (length counts.now ≡ table.count) × (slot_numbers * length counts.now ≤ length points.now) × Held counts.now }
+    ensures { KeptIn (rows_met permitted table drawn points.now counts.now) kept.new }
 {
+    kept.count = 0;
     if !permitted {
-        return 0;
+        return;
     }
     let mut ids = [0; MAX_EDGES];
     edge_ids(table, &mut ids[..]);
-    walk_bundles(
-        drawn,
-        &ids[..table.count],
+    let routes = NamedRoutes {
         points,
         counts,
-        &mut places[..],
-        &mut names[..],
-    )
+        ids: &ids[..table.count],
+    };
+    walk_bundles(drawn, routes, kept);
 }

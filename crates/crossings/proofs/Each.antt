@@ -1,5 +1,5 @@
 -- The list has a crossing for each strict crossing, and nothing else. Assumes nothing.
-use Prim.Native.Nat.{ℕ, zero, suc, ◌+◌, ◌≤◌, ◌<◌}
+use Prim.Native.Nat.{ℕ, zero, suc, ◌+◌, ◌<◌}
 use Rattle.std.specs.Prelude.{◌≡◌, refl, ◌⊎◌, Bool, cond, get_or, Option}
 use Rattle.std.proofs.Common.{sym, ◌∙◌, inl, inr, true≢false}
 use Rattle.std.proofs.Math.Path.{ap, subst}
@@ -10,12 +10,10 @@ use Rattle.std.proofs.Math.ListN.{length}
 use Rattle.geometry.specs.declared.Point.{Point}
 use Rattle.geometry.specs.declared.Segment.{Segment}
 use Rattle.geometry.specs.Points.{Route, runs}
-use Rattle.geometry.specs.declared.Contact.{Contact}
 use Rattle.geometry.specs.declared.Contact.TheVariants.{StrictCrossing}
 use Rattle.geometry.specs.Kind.{kind}
 use Rattle.geometry.specs.Crossing.{is_strict, crossing_place}
 use Rattle.geometry.proofs.AnyTap.{is_strict→}
-use Rattle.sorting.specs.Sort.{sorted}
 use Rattle.sorting.specs.Lists.{In, Every}
 use Rattle.sorting.specs.Sorted.{every_sorted, in_left, in_sorted}
 use Rattle.drawing.specs.Build.{Drawn, tap_of, route_at, no_drawn}

@@ -1,16 +1,16 @@
 -- The keys of places are in the order of y, then x. Assumes nothing.
-use Rattle.std.specs.Prelude.{◌≡◌, ◌⊎◌, ℕ, zero, suc, ◌+◌, ◌*◌, ◌^◌, ◌≤◌, ◌<◌, Bool, ◌&&◌, ◌||◌, cond, ℤ, pos, negsuc, ltb, Float}
+use Rattle.std.specs.Prelude.{◌≡◌, ◌⊎◌, ℕ, zero, suc, ◌+◌, ◌*◌, ◌^◌, ◌≤◌, ◌<◌, Bool, ◌&&◌, ◌||◌, cond, ltb, Float}
 use Rattle.std.proofs.Math.Path.{refl, subst}
-use Rattle.std.proofs.Common.{sym, ap, ◌∙◌, inl, inr, mul-pos, mul_comm, zero-lt-suc, arith, true≢false, ltb→lt, nltb→le}
+use Rattle.std.proofs.Common.{sym, ◌∙◌, inl, inr, mul-pos, zero-lt-suc, arith, true≢false, ltb→lt, nltb→le}
 use Rattle.std.proofs.Math.Bool.{true, false, not}
 use Rattle.std.proofs.Math.Dec.{T}
-use Rattle.std.specs.Float.{nan, inf, fin, binary64}
-use Rattle.std.specs.Float.Ieee.{up, lt, le, eq, fits}
+use Rattle.std.specs.Float.{nan, inf, fin}
+use Rattle.std.specs.Float.Ieee.{up, lt, eq, fits}
 use Rattle.std.specs.Float.Ieee.Positive.{den, den_pos}
 use Rattle.std.specs.Float.Ieee.Scale.{finite}
 use Rattle.binary64.specs.Accepted.{zero64, plus_zero}
 use Rattle.binary64.specs.Order.{total_key}
-use Rattle.binary64.specs.Value.{le_refl_finite, le_antisymm_finite, eq→same, same→eq, over, under}
+use Rattle.binary64.specs.Value.{le_refl_finite, le_antisymm_finite, eq→same, same→eq}
 use Rattle.binary64.proofs.Total.{negative, before, key→before, total_key_injective}
 use Rattle.binary64.specs.Rational.{value}
 use Rattle.binary64.proofs.Fraction.{eq→Sameℚ, Sameℚ→eq, lt→Belowℚ, Belowℚ→lt}

@@ -1,6 +1,6 @@
 -- The list is in order, and each crossing stands there once. Assumes nothing.
-use Rattle.std.specs.Prelude.{ℕ, zero, suc, ◌+◌, ◌≤◌, ◌<◌, ◌≡◌, refl, ◌⊎◌, List, [], ◌∷◌, ◌++◌, Bool, true, false, cond, leb, Option}
-use Rattle.std.proofs.Common.{sym, ap, ◌∙◌, subst, inl, inr, arith, leb-true, leb-false}
+use Rattle.std.specs.Prelude.{ℕ, suc, ◌+◌, ◌≤◌, ◌<◌, ◌≡◌, refl, ◌⊎◌, List, [], ◌∷◌, ◌++◌, Bool, true, false, cond, leb, Option}
+use Rattle.std.proofs.Common.{sym, ap, ◌∙◌, inl, inr, arith, leb-true, leb-false}
 use Rattle.geometry.specs.declared.Point.{Point}
 use Rattle.geometry.specs.declared.Segment.{Segment}
 use Rattle.geometry.specs.Points.{Route, runs}
@@ -14,7 +14,7 @@ use Rattle.crossings.specs.List.{Crossing, crossing_of, run_crossings, route_cro
 use Rattle.place_order.specs.Order.{place_key}
 use Rattle.crossings.specs.Words.{rank, Sooner, by_bundle, by_edge, by_segment, by_run, Ahead, by_place, by_name, InOrder, SamePair, Once, IsCrossing}
 use Rattle.crossings.proofs.Keys.{RealPoint, place_below, place_level}
-use Rattle.crossings.proofs.Each.{RunAt, RouteAt, BundleAt, SheetAt, runs_only, route_only, bundle_only, sheet_only, listed_only}
+use Rattle.crossings.proofs.Each.{runs_only, route_only, bundle_only, sheet_only, listed_only}
 
 -- ---- the names rise
 

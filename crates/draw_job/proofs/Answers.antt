@@ -1,13 +1,12 @@
 -- The answer that is written from the tables after the last shift is the one that is told.
 -- Assumes nothing.
-use Prim.Native.Nat.{ℕ, zero, suc, ◌+◌, ◌*◌, ◌≤◌, ◌<◌}
+use Prim.Native.Nat.{ℕ, zero, suc, ◌+◌, ◌≤◌, ◌<◌}
 use mathlib.Core.Path.{◌≡◌, refl, sym, ap, ◌∙◌, subst}
 use mathlib.Core.List.{List, [], ◌∷◌, map}
 use native.Mathlib.Omega.{arith}
 use lib.ListN.{length, get_or, take, drop}
 use lib.Seq.{get_or-take, length-take-le}
 use lib.Ieee.{Float}
-use Rattle.geometry.specs.declared.Point.{Point}
 use Rattle.geometry.specs.Points.{point_at}
 use Rattle.board.specs.declared.Edge.{Edge}
 use Rattle.board.specs.declared.Edges.{Edges}
@@ -19,9 +18,8 @@ use Rattle.board.specs.declared.DrawnTaps.{DrawnTaps}
 use Rattle.board.specs.Board.{window}
 use Rattle.plan.specs.declared.Planning.{Planning}
 use Rattle.plan.specs.BoardTables.{no_bundle}
-use Rattle.planner.specs.Members.{member_at, edge_row}
+use Rattle.planner.specs.Members.{member_at}
 use Rattle.planner.proofs.MemberTurns.{window_cons}
-use Rattle.drawing.specs.Build.{TapOn}
 use Rattle.drawing.specs.Check.{no_edge}
 use Rattle.checks.specs.CheckRows.{taps_from, drawn_of}
 use Rattle.checks.specs.MemberSlices.{Row}

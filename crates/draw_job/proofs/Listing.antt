@@ -1,11 +1,9 @@
 -- The list of a sheet in the tables and slices, as list_crossings leaves it, is the finished job's.
 -- Assumes nothing.
-use Prim.Native.Nat.{ℕ, zero, suc, ◌≤◌, ◌<◌}
-use mathlib.Core.Path.{◌≡◌, refl, sym, ap, ◌∙◌, subst}
-use mathlib.Core.Bool.{Bool, true, false, true≢false, not, ◌&&◌, ◌||◌, cond}
+use Prim.Native.Nat.{ℕ}
+use mathlib.Core.Path.{◌≡◌, refl, sym, ap, ◌∙◌}
+use mathlib.Core.Bool.{Bool, true, false, ◌&&◌, ◌||◌, cond}
 use mathlib.Core.List.{List, [], ◌∷◌, map}
-use mathlib.Core.Logic.{◌⊎◌, inl, inr}
-use native.Mathlib.Omega.{arith}
 use lib.Dec.{ltb}
 use lib.ListN.{length, take}
 use lib.Seq.{sets}
@@ -20,9 +18,8 @@ use Rattle.plan.specs.declared.Planning.{Planning}
 use Rattle.checks.specs.CheckRows.{drawn_of}
 use Rattle.turns.specs.TurnTables.{Rows}
 use Rattle.promise.specs.Stage.{Finished}
-use Rattle.crossings.specs.List.{listed}
 use Rattle.limits.specs.Limits.{max_crossings}
-use Rattle.crossing_rows.specs.Rows.{Row, rows_met}
+use Rattle.crossing_rows.specs.Rows.{rows_met}
 use Rattle.crossing_bytes.specs.Bytes.{list_bytes}
 use Rattle.crossing_bytes.specs.RowBytes.{row_key, rows_bytes, written_rows}
 use Rattle.crossing_bytes.proofs.Link.{rows_many, bytes_same}

@@ -1,14 +1,13 @@
 -- The phases of the stage, from what its functions' callees ensure to what is told and written.
 -- Assumes nothing.
-use Prim.Native.Nat.{ℕ, ◌*◌, ◌≤◌, ◌<◌}
-use mathlib.Core.Path.{◌≡◌, refl, sym, ap, ◌∙◌, subst}
+use Prim.Native.Nat.{ℕ, ◌*◌, ◌≤◌}
+use mathlib.Core.Path.{◌≡◌, sym, ap, ◌∙◌, subst}
 use mathlib.Core.Bool.{Bool, true, false, not, ◌&&◌, cond}
 use mathlib.Core.List.{List, [], map}
 use mathlib.Core.Logic.{◌⊎◌, inl, inr}
 use native.Mathlib.Omega.{arith}
 use lib.ListN.{length, take}
 use lib.Seq.{sets, length-take-le}
-use borrow.Author.Tests.{eq-eqb, ne_eqb}
 use lib.Ieee.{Float}
 use Rattle.limits.specs.Limits.{max_edges, max_members, answer_room, id_columns, tap_numbers, slot_numbers}
 use Rattle.route.specs.Slots.{routes_of, Held}
@@ -18,8 +17,7 @@ use Rattle.board.specs.declared.DrawnTaps.{DrawnTaps}
 use Rattle.geometry.specs.Points.{Route}
 use Rattle.job.specs.declared.Job as code
 use Rattle.job.specs.Job.{read_job, given_routes}
-use Rattle.job.specs.Job as job
-use Rattle.job.specs.AllTables.{JobTold, told_job}
+use Rattle.job.specs.AllTables.{JobTold}
 use Rattle.plan.specs.BoardTables as tables
 use Rattle.plan.specs.declared.Planning.{Planning}
 use Rattle.plan.specs.Depths.{offsets_of}
@@ -219,16 +217,16 @@ pub ended_refused : (r : Result ⊤ Refusal) (n m : ℕ) (e : Refusal) → m ≡
 ended_refused r n m e h is = ap (λ (z : Result ⊤ Refusal). told z n) is ∙ ap (λ (k : ℕ). failed k n) (sym h)
 
 -- what was in the slots does not matter
-pub lent_as : (j : code.Job) (edges lanes : List ℕ) (taps points points' : List Float) (counts : List ℕ) (mask : List Bool) (scratch : List Float) → length points' ≡ length points → Lent j edges lanes taps points counts mask scratch → Lent j edges lanes taps points' counts mask scratch
-lent_as j edges lanes taps points points' counts mask scratch e lent = record {
+pub lent_as : (j : code.Job) (edges lanes : List ℕ) (taps points points' : List Float) (counts : List ℕ) → length points' ≡ length points → Lent j edges lanes taps points counts → Lent j edges lanes taps points' counts
+lent_as j edges lanes taps points points' counts e lent = record {
   edges_long = lent.edges_long;
   lanes_long = lent.lanes_long;
   counts_long = lent.counts_long;
-  room = record { places = lent.room.places; slots = omega (arith, lent.room.slots, e); masked = lent.room.masked; spare = lent.room.spare };
+  room = record { places = lent.room.places; slots = omega (arith, lent.room.slots, e); masked = lent.room.masked };
 }
 
 -- the sheet after the last turn, all bundles drawn
-module _ (j : code.Job) (buffer : List Float) (from : Came j buffer) (sizes : Sizes j) (edges lanes : List ℕ) (taps points : List Float) (counts : List ℕ) (mask : List Bool) (scratch : List Float) (lent : Lent j edges lanes taps points counts mask scratch)
+module _ (j : code.Job) (buffer : List Float) (from : Came j buffer) (sizes : Sizes j) (edges lanes : List ℕ) (taps points : List Float) (counts : List ℕ) (lent : Lent j edges lanes taps points counts)
     (v : Verdict) (ds : DrawnBundles) (edges' lanes' : List ℕ) (taps' points' : List Float) (counts' : List ℕ) (taps_kept : length taps' ≡ length taps) (Points-kept : length points' ≡ length points) (counts_kept : length counts' ≡ length counts) where
   pub on_sheet : (q : GeometryVisits) → v ≡ Clean q → Listed edges' lanes' j.members.rows j.members.count → Rows (take ds.count j.bundles.rows) (take ds.count ds.rows) → Full v ds.count j.bundles.count → Held counts'
       → OnSheet j edges' ds points' counts' taps'
@@ -254,9 +252,8 @@ sheet_room t f s room e is h = rw is (rw e at h)
 pub told_room : (s t : Told) (room : ℕ) → s ≡ t → length (told_bytes s) ≤ room → length (told_bytes t) ≤ room
 told_room s t room e h = subst (λ (z : Told). length (told_bytes z) ≤ room) e h
 
-pub room_for : (members n : ℕ) (taps points : List Float) (counts : List ℕ) (mask : List Bool) (scratch : List Float) → members ≤ max_members → n ≤ max_edges → length taps ≡ tap_numbers → slot_numbers * n ≤ length points → length counts ≡ n → length mask ≡ max_edges → length scratch ≡ slot_numbers
-    → Room members taps points counts mask scratch
-room_for members n taps points counts mask scratch hm hn t p c m s = record { places = omega arith; slots = omega arith; masked = omega arith; spare = omega arith }
+pub room_for : (members n : ℕ) (taps points : List Float) (counts : List ℕ) → members ≤ max_members → n ≤ max_edges → length taps ≡ tap_numbers → slot_numbers * n ≤ length points → length counts ≡ n → Room members taps points counts
+room_for members n taps points counts hm hn t p c = record { places = omega arith; slots = omega arith; masked = omega arith }
 
 -- ---- the answer
 

@@ -25,8 +25,44 @@ use job::Job;
 use limits::{MAX_MEMBERS, SEARCH_WORK};
 use outputs::Wants;
 use plan::Planning;
+use plan::tables::BoardTables;
 use refusal::Refusal;
 use search::TapVisits;
+use turns::TurnWork;
+
+// What a sheet is drawn in, lent, beside the slots of the present routes: of each member its edge, its
+// tap lane and its tap as x and y, of each route how many points it has, and what a turn works in.
+#[derive(Drop)]
+pub struct SheetWork<'a> {
+    pub edges: &'a mut [usize],
+    pub lanes: &'a mut [u32],
+    pub taps: &'a mut [f64],
+    pub counts: &'a mut [usize],
+    pub turn_work: &'a mut TurnWork,
+}
+
+// The same, for a board of so many members and routes.
+pub fn work_for<'a>(work: SheetWork<'a>, members: usize, routes: usize) -> SheetWork<'a>
+    requires { (members ≤ length work.edges.now) × (members ≤ length work.lanes.now) × (routes ≤ length work.counts.now) }
+    ensures members { (length result.edges.now ≡ members) × (length result.lanes.now ≡ members) }
+    ensures routes { length result.counts.now ≡ routes }
+    ensures taps { length result.taps.now ≡ length work.entry.taps.now }
+{
+    let SheetWork {
+        edges,
+        lanes,
+        taps,
+        counts,
+        turn_work,
+    } = work;
+    SheetWork {
+        edges: &mut edges[..members],
+        lanes: &mut lanes[..members],
+        taps,
+        counts: &mut counts[..routes],
+        turn_work,
+    }
+}
 
 // ---- the sheet (10, 11, 12, 14) and the answer
 
@@ -60,21 +96,17 @@ fn own_plan(s: Result<Planning, NoRoom>) -> Result<Planning, Refusal>
 
 // The plan, one that is given (17, 18) or our own (13), the sheet of it and the last shift, in lent
 // slices; the answer, the page and the list of crossings, or the notice of a refusal. One function for
-// all of it: a table that is handed on is copied. The search keeps its stretches and sorts in the slots
-// of the present routes: nothing is in them before the sheet.
+// all of it: a table that is handed on by value is copied. The three outputs stay apart: of a struct that
+// lends them each contract would have to say besides that it still lends the same memory. The search
+// keeps its stretches and sorts in the slots of the present routes: nothing is in them before the sheet.
 pub fn draw_in(
     wants: Wants,
     j: Job,
     plan: &[u8],
     given: &[f64],
     sorted: &mut [f64],
-    edges: &mut [usize],
-    lanes: &mut [u32],
-    taps: &mut [f64],
+    work: SheetWork,
     points: &mut [f64],
-    counts: &mut [usize],
-    mask: &mut [bool],
-    scratch: &mut [f64],
     answer: &mut [u8],
     page: &mut [u8],
     crossings: &mut [u8],
@@ -82,22 +114,24 @@ pub fn draw_in(
     requires came { Came j given.now × (6 ≤ length answer.old) × (lacks wants.page (length page.old) page_room ≡ false) × (lacks wants.crossings (length crossings.old) crossings_room ≡ false) }
     requires plan_in_bounds { length (told_bytes (after_taking (job_in j given.now) (plan_phase wants.plan (job_in j given.now) plan.now))) ≤ length answer.old }
     requires search_work_in_bounds { (search_work ≤ length points.old) × (length sorted.old ≡ candidate_room) }
-    requires lent { Lent j edges.old lanes.old taps.old points.old counts.old mask.old scratch.old }
+    requires lent { Lent j work.edges.now work.lanes.now work.taps.now points.old work.counts.now }
     ensures { Writes (record { answer = answer.old; page = page.old; crossings = crossings.old }) (record { answer = answer.new; page = page.new; crossings = crossings.new }) result (outputs_told wants (after_all wants (after_taking (job_in j given.now) (plan_phase wants.plan (job_in j given.now) plan.now)))) }
 {
-    let offsets = plan_depths::corridor_depth_offsets(
-        j.options, j.nodes, j.ports, j.bundles, j.members,
-    );
+    // A literal at each of its callers: a function for it would promise an equation for each field.
+    let board = BoardTables {
+        options: j.options,
+        nodes: &j.nodes,
+        ports: &j.ports,
+        edges: &j.edges,
+        bundles: &j.bundles,
+        members: &j.members,
+    };
+    let offsets = plan_depths::corridor_depth_offsets(board);
     let p = if wants.plan {
         plan_reader::read_plan(plan, j.bundles.count, j.grants.tap_visits, j.flags.on_grid)
     } else {
         own_plan(planner::plan_interior_collectors(
-            j.options,
-            j.nodes,
-            j.ports,
-            j.edges,
-            j.bundles,
-            j.members,
+            board,
             offsets,
             given,
             j.flags.separates_collectors,
@@ -111,14 +145,16 @@ pub fn draw_in(
         Err(r) => return answer::write_notice(answer, u8::from(r)),
     };
     let mut visits = GeometryVisits(j.grants.geometry_visits);
+    let SheetWork {
+        edges,
+        lanes,
+        taps,
+        counts,
+        turn_work,
+    } = work;
     let d = turns::draw_sheet(
-        j.options,
+        board,
         j.flags.permits_crossings,
-        j.nodes,
-        j.ports,
-        j.edges,
-        j.bundles,
-        j.members,
         made.rows,
         offsets,
         given,
@@ -127,58 +163,41 @@ pub fn draw_in(
         taps,
         points,
         counts,
-        mask,
-        scratch,
+        turn_work,
         &mut visits,
     );
     match d.ended {
-        Err(r) => answer::write_notice(answer, u8::from(r)),
-        Ok(()) => {
-            let off_grid = wants.page & !j.flags.on_grid;
-            if wants.crossings {
-                let too_many = crossing_output::list_crossings(
-                    j.flags.permits_crossings,
-                    off_grid,
-                    j.edges,
-                    d.drawn,
-                    points,
-                    counts,
-                    crossings,
-                );
-                if too_many {
-                    return answer::write_notice(answer, u8::from(Refusal::TooManyCrossings));
-                }
-            }
-            if off_grid {
-                return answer::write_notice(answer, u8::from(Refusal::PageOffGrid));
-            }
-            let l = normalize::normalize_layout(
-                j.nodes,
-                d.drawn,
-                points,
-                counts,
-                taps,
-                j.members.count,
-            );
-            let t = tap_rows(j.edges, j.members, taps);
-            if wants.page {
-                page_writer::put_page(page, l.drawn);
-            }
-            answer::write_answer(
-                answer,
-                Frame {
-                    tap_visits: made.left.0,
-                    geometry_visits: visits.0,
-                    width: l.width,
-                    height: l.height,
-                },
-                l.nodes,
-                j.edges,
-                points,
-                counts,
-                l.drawn,
-                t,
-            )
+        Ok(()) => (),
+        Err(refusal) => return answer::write_notice(answer, u8::from(refusal)),
+    }
+    let off_grid = wants.page & !j.flags.on_grid;
+    if wants.crossings {
+        let too_many = crossing_output::list_crossings(
+            j.flags.permits_crossings,
+            off_grid,
+            j.edges,
+            d.drawn,
+            points,
+            counts,
+            crossings,
+        );
+        if too_many {
+            return answer::write_notice(answer, u8::from(Refusal::TooManyCrossings));
         }
     }
+    if off_grid {
+        return answer::write_notice(answer, u8::from(Refusal::PageOffGrid));
+    }
+    let l = normalize::normalize_layout(j.nodes, d.drawn, points, counts, taps, j.members.count);
+    let t = tap_rows(j.edges, j.members, taps);
+    if wants.page {
+        page_writer::put_page(page, l.drawn);
+    }
+    let frame = Frame {
+        tap_visits: made.left.0,
+        geometry_visits: visits.0,
+        width: l.width,
+        height: l.height,
+    };
+    answer::write_answer(answer, frame, l.nodes, j.edges, points, counts, l.drawn, t)
 }

@@ -1,11 +1,11 @@
 -- A point of a segment lies between its ends in each coordinate. Assumes nothing.
-use Rattle.std.specs.Prelude.{◌≡◌, refl, ◌⊎◌, ℕ, zero, suc, ◌+◌, ◌*◌, ◌≤◌, ◌<◌, Bool, true, false, not, ℤ, pos, negsuc, neg_ℤ, ◌+ℤ◌, ◌-ℤ◌, ◌*ℤ◌, T, leb}
-use Rattle.std.proofs.Common.{sym, ap, ◌∙◌, subst, inl, inr, le_refl, le_trans, le_of_eq, mul_comm, mul_assoc, mul_left_comm, add-mul, mul-zero, mul-pos, mul-le-mul_right, zero-lt-suc, arith, leb→le}
+use Rattle.std.specs.Prelude.{◌≡◌, refl, ◌⊎◌, ℕ, suc, ◌+◌, ◌*◌, ◌≤◌, ◌<◌, Bool, true, false, not, ℤ, pos, negsuc, ◌-ℤ◌, ◌*ℤ◌, T, leb}
+use Rattle.std.proofs.Common.{sym, ap, ◌∙◌, inl, inr, mul_comm, mul_assoc, mul_left_comm, add-mul, mul-zero, mul-le-mul_right, arith, leb→le}
 use Rattle.std.proofs.Math.Dec.{nleb→lt}
-use Rattle.binary64.specs.Integers.{by_parts, add_parts, sub_parts_ℤ, neg_plus, neg_less, mul_pos_plus, mul_pos_less}
-use Rattle.binary64.specs.Rational.{plus, less, AtMostℤ, Belowℤ, Fraction, cross, AtMostℚ, Belowℚ, Sameℚ}
+use Rattle.binary64.specs.Integers.{add_parts, sub_parts_ℤ, neg_plus, neg_less, mul_pos_plus, mul_pos_less}
+use Rattle.binary64.specs.Rational.{plus, less, Fraction, cross, AtMostℚ, Belowℚ, Sameℚ}
 use Rattle.binary64.proofs.Fraction.{cross_plus, cross_less, at_most_trans, at_most_antisymm}
-use Rattle.exact.specs.Exact.{nought, unit, plusℚ, minusℚ, timesℚ, Exact, Same, on_the_way, OnSegment}
+use Rattle.exact.specs.Exact.{nought, unit, Exact, on_the_way, OnSegment}
 
 -- ---- the order of fractions
 pub at_most_refl : (p : Fraction) → AtMostℚ p p

@@ -1,14 +1,14 @@
 -- A point that a bus and a run share is the one that `meet` finds, where they do not overlap. Assumes nothing.
-use Rattle.std.specs.Prelude.{◌≡◌, refl, ◌⊎◌, ℕ, ◌+◌, ◌*◌, ◌≤◌, ◌<◌, Bool, true, false, not, ◌&&◌, ◌||◌, cond, T, Float}
-use Rattle.std.proofs.Common.{sym, ap, ◌∙◌, subst, inl, inr, arith, T_not}
+use Rattle.std.specs.Prelude.{◌⊎◌, Bool, true, false, not, ◌&&◌, ◌||◌, cond, T, Float}
+use Rattle.std.proofs.Common.{sym, inl, inr, T_not}
 use Rattle.std.specs.Float.Ieee.{lt, le, eq}
-use Rattle.std.specs.Float.Ieee.Fits.{and_i, and_l, and_r}
+use Rattle.std.specs.Float.Ieee.Fits.{and_i}
 use Rattle.std.specs.Float.Ieee.Scale.{finite}
 use Rattle.binary64.specs.Bools.{or_split}
 use Rattle.binary64.specs.Order.{least, greatest}
 use Rattle.binary64.specs.Value.{least_finite, greatest_finite, least_le_left, least_le_right, le_greatest_left, le_greatest_right, not_lt→le}
 use Rattle.binary64.proofs.Fraction.{at_most_trans, at_most_antisymm, lt→Belowℚ, le→AtMostℚ, AtMostℚ→le, eq→Sameℚ, Sameℚ→eq}
-use Rattle.binary64.specs.Rational.{Fraction, AtMostℚ, Belowℚ, Sameℚ, value}
+use Rattle.binary64.specs.Rational.{Fraction, AtMostℚ, Sameℚ, value}
 use Rattle.geometry.specs.declared.Point.{Point}
 use Rattle.geometry.specs.declared.Segment.{Segment}
 use Rattle.exact.specs.Exact.{Exact, Same, exact, OnSegment, Finite}

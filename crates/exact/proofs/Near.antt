@@ -1,14 +1,13 @@
 -- A number is as near to an exact fraction as to a number with that value: the exact difference rounds to the same magnitude. Assumes nothing.
-use Rattle.std.specs.Prelude.{◌≡◌, refl, ℕ, zero, suc, ◌+◌, ◌*◌, ◌≤◌, ◌<◌, Bool, true, false, not, ◌&&◌, cond, ℤ, pos, negsuc, nat_abs, neg_ℤ, ◌+ℤ◌, ◌-ℤ◌, ◌*ℤ◌, T, Float}
-use Rattle.std.proofs.Common.{sym, ap, ◌∙◌, subst, mul_comm, mul_assoc, mul_left_comm, add-mul, mul-pos, arith}
+use Rattle.std.specs.Prelude.{◌≡◌, refl, ℕ, ◌+◌, ◌*◌, ◌<◌, Bool, true, false, ℤ, pos, negsuc, nat_abs, ◌*ℤ◌, T, Float}
+use Rattle.std.proofs.Common.{sym, ap, ◌∙◌, mul_comm, mul_assoc, mul_left_comm, add-mul, mul-pos, arith}
 use Rattle.std.specs.Float.{nan, inf, fin, binary64}
-use Rattle.std.specs.Float.Ieee.{round, add, sub, neg, le, of_bits}
-use Rattle.std.specs.Float.Ieee.Positive.{den, den_pos}
+use Rattle.std.specs.Float.Ieee.{round, add, sub, neg, le}
 use Rattle.std.specs.Float.Ieee.Scale.{finite, round_same}
-use Rattle.binary64.specs.Integers.{sub_parts_ℤ, mul_pos_plus, mul_pos_less}
-use Rattle.binary64.specs.Rational.{plus, less, Fraction, cross, Sameℚ, value}
+use Rattle.binary64.specs.Integers.{sub_parts_ℤ}
+use Rattle.binary64.specs.Rational.{plus, less, Fraction, Sameℚ, value}
 use Rattle.binary64.specs.Order.{magnitude, near, tolerance}
-use Rattle.binary64.specs.Value.{over, under, neg_finite, neg_over, neg_under, neg_den}
+use Rattle.binary64.specs.Value.{neg_finite, neg_over, neg_under, neg_den}
 use Rattle.binary64.specs.Range.{round_neg}
 use Rattle.binary64.specs.Monotone.{plus_of, less_of, Rounded, add_rounded}
 use Rattle.binary64.proofs.Fraction.{cross_plus, cross_less, value_plus, value_less, value_den}

@@ -1,12 +1,11 @@
 -- No exact point of a run that does not enter a node lies inside it. Assumes nothing.
-use Rattle.std.specs.Prelude.{◌≡◌, refl, Bool, true, false, not, ◌&&◌, ◌||◌, cond, T, Float}
-use Rattle.std.proofs.Common.{sym, ap, ◌∙◌, subst, true≢false, T_not}
-use Rattle.std.specs.Float.{binary64}
-use Rattle.std.specs.Float.Ieee.{lt, eq, add}
+use Rattle.std.specs.Prelude.{◌≡◌, Bool, true, false, not, ◌&&◌, ◌||◌, cond, T, Float}
+use Rattle.std.proofs.Common.{true≢false}
+use Rattle.std.specs.Float.Ieee.{lt, eq}
 use Rattle.std.specs.Float.Ieee.Fits.{and_i}
 use Rattle.std.specs.Float.Ieee.Scale.{finite}
-use Rattle.binary64.proofs.Fraction.{at_most_trans, Belowℚ→lt}
-use Rattle.binary64.specs.Rational.{Fraction, AtMostℚ, Belowℚ, Sameℚ, value}
+use Rattle.binary64.proofs.Fraction.{Belowℚ→lt}
+use Rattle.binary64.specs.Rational.{Fraction, Belowℚ, value}
 use Rattle.geometry.specs.declared.Point.{Point}
 use Rattle.geometry.specs.declared.Node.{Node}
 use Rattle.geometry.specs.declared.Span.{Span}

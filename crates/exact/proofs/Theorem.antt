@@ -1,17 +1,17 @@
 -- Where `contact` finds nothing, a bus and a run that has length share at most one exact point: the tap, at an end of the run, or, where that is permitted, a strict crossing.
 -- Assumes nothing.
-use Rattle.std.specs.Prelude.{◌≡◌, refl, ◌⊎◌, Bool, not, ◌&&◌, ◌||◌, cond, T, Float, Option, Some, None}
-use Rattle.std.proofs.Common.{sym, ap, ◌∙◌, subst, true≢false, T_not}
+use Rattle.std.specs.Prelude.{◌≡◌, ◌⊎◌, Bool, not, ◌&&◌, ◌||◌, cond, T, Option, Some, None}
+use Rattle.std.proofs.Common.{sym, subst, true≢false, T_not}
 use Rattle.std.proofs.Math.Logic.{inl, inr}
 use Rattle.std.proofs.Math.Bool.{true, false}
 use Rattle.std.specs.Bool.{beq}
 use Rattle.std.specs.Float.Ieee.{eq}
 use Rattle.std.specs.Float.Ieee.Fits.{and_l, and_r}
 use Rattle.binary64.proofs.Fraction.{eq→Sameℚ}
-use Rattle.binary64.specs.Rational.{Sameℚ, value}
+use Rattle.binary64.specs.Rational.{value}
 use Rattle.geometry.specs.declared.Point.{Point}
 use Rattle.geometry.specs.declared.Segment.{Segment}
-use Rattle.exact.specs.Exact.{Exact, Same, exact, OnSegment, SamePlace, same_place, Finite, HasLength}
+use Rattle.exact.specs.Exact.{Exact, Same, SamePlace, Finite, HasLength}
 use Rattle.geometry.specs.declared.Meet.{Meet}
 use Rattle.geometry.specs.declared.Meet.TheVariants.{Apart, Overlap, One}
 use Rattle.geometry.specs.Contact.{matches, coincide, level, slanted, meet, at_tap, perpendicular, strict, meeting_disallowed, contact}

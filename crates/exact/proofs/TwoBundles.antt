@@ -1,6 +1,6 @@
 -- Two bundles have no tap: where `contact` finds nothing, they share nothing, or, where that is permitted, only strict crossings.
 -- Assumes nothing.
-use Rattle.std.specs.Prelude.{◌≡◌, ◌⊎◌, true, false, None}
+use Rattle.std.specs.Prelude.{◌≡◌, true, false, None}
 use Rattle.std.proofs.Math.Logic.{inl, inr}
 use Rattle.geometry.specs.declared.Point.{Point}
 use Rattle.geometry.specs.declared.Segment.{Segment}

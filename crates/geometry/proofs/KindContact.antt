@@ -7,7 +7,7 @@ use Rattle.geometry.specs.declared.Meet.{Meet}
 use Rattle.geometry.specs.declared.Meet.TheVariants as meeting
 use Rattle.geometry.specs.Contact.{matches, coincide, slanted, meet, at_tap, perpendicular, meeting_disallowed, contact}
 use Rattle.geometry.specs.declared.Contact.{Contact}
-use Rattle.geometry.specs.declared.Contact.TheVariants.{Apart, TouchAtTap, StrictCrossing, TouchElsewhere, Overlap, Slanted}
+use Rattle.geometry.specs.declared.Contact.TheVariants.{Apart, TouchAtTap, StrictCrossing, TouchElsewhere, Slanted}
 use Rattle.geometry.specs.Kind.{kind_of, kind, disallowed}
 
 -- at the tap t and at an end (m, n) of the run, or not

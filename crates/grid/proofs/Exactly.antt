@@ -11,7 +11,7 @@ use Rattle.std.specs.Float.Ieee.Bits.{is_true}
 use Rattle.binary64.specs.Value.{over, under}
 use Rattle.binary64.proofs.Fraction.{cross_plus, cross_less, value_plus, value_less, value_den}
 use Rattle.binary64.specs.ExactOnGrid.{At}
-use Rattle.binary64.specs.Rational.{plus, less, Fraction, Sameℚ, cross, value}
+use Rattle.binary64.specs.Rational.{plus, less, Sameℚ, cross, value}
 use Rattle.binary64.specs.Integers.{by_parts}
 use Rattle.binary64.specs.ExactOnGrid.{at_size}
 use Rattle.grid.specs.On.{on, over_128, Even}

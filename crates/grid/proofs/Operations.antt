@@ -11,7 +11,7 @@ use Rattle.std.specs.Float.Ieee.Fits.{and_r, eq→eqb, up_pos, down_pos}
 use Rattle.std.specs.Float.Ieee.Positive.{den, den_pos}
 use Rattle.std.specs.Float.Ieee.Scale.{finite}
 use Rattle.binary64.specs.Order.{least, greatest, magnitude, total_key}
-use Rattle.binary64.specs.Value.{under, side, same→eq, lt_not_le, le_total_finite, le_antisymm_finite, eq→same}
+use Rattle.binary64.specs.Value.{side, same→eq, lt_not_le, le_total_finite, le_antisymm_finite, eq→same}
 use Rattle.binary64.proofs.Total.{total_key_injective, negative, before, key→before}
 use Rattle.binary64.proofs.Plain.{Plain, add_plain, sub_plain}
 use Rattle.binary64.specs.ExactOnGrid.{At}

@@ -8,12 +8,12 @@ use Rattle.std.proofs.Math.Dec.{nleb→lt}
 use Rattle.std.specs.Float.{nan, inf, fin, binary64}
 use Rattle.std.specs.Float.Ieee.{up, down, round, add, sub, neg, le, eq, fits}
 use Rattle.std.specs.Float.Ieee.Fits.{and_i, and_l, and_r, eq→eqb, down_pos, add-fits}
-use Rattle.std.specs.Float.Ieee.Positive.{num, den, den_pos}
+use Rattle.std.specs.Float.Ieee.Positive.{den, den_pos}
 use Rattle.std.specs.Float.Ieee.Scale.{finite}
 use Rattle.std.specs.Float.Ieee.Bits.{is_true}
 use Rattle.binary64.specs.Bools.{as_one}
 use Rattle.binary64.proofs.Kind.{finite_between}
-use Rattle.binary64.specs.Value.{over, under, num_parts, le_trans_finite, le→at_most, at_most→le, eq→same, le_total_finite, le_antisymm_finite}
+use Rattle.binary64.specs.Value.{over, under, le_trans_finite, le→at_most, at_most→le, eq→same, le_total_finite, le_antisymm_finite}
 use Rattle.binary64.specs.Monotone.{plus_of, less_of, add_rounded, add_mono}
 use Rattle.binary64.specs.ExactOnGrid.{At}
 use Rattle.binary64.specs.Accepted.{two_to}

@@ -7,18 +7,12 @@ use Rattle.std.specs.Prelude.{Bool, cond, ℤ, Float, Option, Some, None}
 use Rattle.std.proofs.Math.Bool.{true, false}
 use mathlib.Core.List.{List, [], ◌∷◌, ◌++◌}
 use Rattle.binary64.specs.Order.{least}
-use Rattle.geometry.specs.declared.Point.{Point}
 use Rattle.geometry.specs.declared.Role.{Role}
 use Rattle.geometry.specs.declared.Role.TheVariants.{Input, Output}
-use Rattle.geometry.specs.Points.{Route}
-use Rattle.search.specs.declared.Bounds.{Bounds}
 use Rattle.search.specs.declared.CollectorBounds.TheVariants.{Absent, Between}
 use Rattle.search.specs.Search.{Tried, held, lacked, unpaid, after, or_else, falls}
-use Rattle.search.specs.Stretches as T
-use Rattle.plan.specs.Depths as L
 use Rattle.plan.specs.Bounds as M
 use Rattle.grid_plan.specs.Board as Z
-use Rattle.grid_plan.specs.Depths as D
 use Rattle.grid_plan.specs.Search as S
 use Rattle.grid_plan.specs.Bounds as B
 use Rattle.grid_plan.specs.Plan as P

@@ -20,7 +20,6 @@ use Rattle.geometry.specs.Points.{Route}
 use Rattle.board.specs.declared.Bundle.{Bundle}
 use Rattle.board.specs.declared.Member.{Member}
 use Rattle.board.specs.Board.{rail_depth}
-use Rattle.search.specs.declared.Bounds.{Bounds}
 use Rattle.search.specs.declared.CollectorBounds.TheVariants.{Absent}
 use Rattle.search.specs.Stretches as T
 use Rattle.plan.specs.declared.Bound.{Bound}

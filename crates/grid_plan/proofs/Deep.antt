@@ -27,7 +27,7 @@ use Rattle.plan.specs.Depths.{same_role, lane_count, number}
 use Rattle.grid_plan.specs.Board as Z
 use Rattle.grid_plan.specs.Depths as D
 use Rattle.grid_plan.proofs.Sized.{zero_sized, wider, sized_add, sized_sub, pick, pick_larger, sized_lanes, lanes_are}
-use Rattle.grid_plan.specs.Image.{point, node, placed, port, options, board, bound}
+use Rattle.grid_plan.specs.Image.{point, node, placed, port, board, bound}
 use Rattle.grid_plan.specs.InnerImage.{used}
 use Rattle.binary64.specs.Accepted.{zero64}
 use Rattle.binary64.specs.Rational.{less}

@@ -5,15 +5,10 @@ use Rattle.std.proofs.Math.Path.{refl, ap}
 use Rattle.std.proofs.Common.{sym, ◌∙◌, subst, arith}
 use Rattle.std.proofs.Math.Bool.{true, not, cond}
 use mathlib.Core.List.{List, [], ◌∷◌, map}
-use Rattle.std.specs.Float.Ieee as Ieee
 use Rattle.std.specs.Float.{binary64}
 use Rattle.std.specs.Float.Ieee.{lt, add, sub, div}
 use Rattle.binary64.specs.Order.{least}
 use Rattle.geometry.specs.declared.Role.TheVariants.{Input, Output}
-use Rattle.geometry.specs.Points.{Route}
-use Rattle.geometry.specs.Stretch as G
-use Rattle.search.specs.declared.Bounds.{Bounds}
-use Rattle.search.specs.declared.Outcome.TheVariants as O
 use Rattle.search.specs.Search.{search_of}
 use Rattle.plan.specs.declared.Bound.{Bound}
 use Rattle.plan.specs.declared.Bound.TheVariants as bounded
@@ -23,12 +18,10 @@ use Rattle.plan.specs.Bounds as M
 use Rattle.plan.specs.Plan as K
 use Rattle.plan.specs.Plan.{Step, going, refused, then, Component}
 use Rattle.grid_plan.specs.Board as Z
-use Rattle.grid_plan.specs.Depths as D
 use Rattle.grid_plan.specs.Search as S
-use Rattle.grid_plan.specs.Bounds as B
 use Rattle.grid_plan.specs.Plan as P
 use Rattle.grid_plan.proofs.Sized.{zero_sized, wider, sized_sub, pick_smaller}
-use Rattle.grid_plan.specs.Image.{board, bound, bounds, ranged, plan}
+use Rattle.grid_plan.specs.Image.{board, bound, ranged, plan}
 use Rattle.grid_plan.proofs.Searching.{Held}
 use Rattle.grid_plan.proofs.Deep.{pitch_on, pitch_sized}
 use Rattle.sorting.specs.Lists.{Every}

@@ -7,20 +7,15 @@ use Rattle.std.proofs.Math.Bool.{true, false, cond}
 use mathlib.Core.List.{List, [], ◌∷◌, map}
 use Rattle.std.proofs.Math.ListN.{get_or, set, get_or-map}
 use Rattle.std.proofs.lemmas.List.{length-map}
-use Rattle.std.specs.Float.Ieee as Ieee
 use Rattle.std.specs.Float.{binary64}
 use Rattle.std.specs.Float.Ieee.{add}
 use Rattle.binary64.specs.Order.{greatest}
-use Rattle.geometry.specs.declared.Point.{Point}
 use Rattle.geometry.specs.declared.Role.{Role}
 use Rattle.geometry.specs.Points.{Route}
 use Rattle.geometry.specs.Stretch as G
 use Rattle.board.specs.declared.Bundle.{Bundle}
 use Rattle.board.specs.declared.Member.{Member}
-use Rattle.search.specs.declared.Bounds.{Bounds}
 use Rattle.search.specs.declared.CollectorBounds.{CollectorBounds}
-use Rattle.search.specs.declared.Outcome.{Outcome}
-use Rattle.search.specs.declared.Outcome.TheVariants as O
 use Rattle.search.specs.declared.Searched.{Searched}
 use Rattle.search.specs.Search.{search_of}
 use Rattle.plan.specs.declared.Bound.{Bound}
@@ -37,7 +32,7 @@ use Rattle.grid_plan.specs.Search as S
 use Rattle.grid_plan.specs.Bounds as B
 use Rattle.grid_plan.specs.Plan as P
 use Rattle.grid_plan.proofs.Sized.{wider, pick_larger}
-use Rattle.grid_plan.specs.Image.{point, board, route, bound, bounds, collector, stretch, ranged, plan, first_pass}
+use Rattle.grid_plan.specs.Image.{point, board, route, bound, bounds, collector, ranged, plan, first_pass}
 use Rattle.grid_plan.specs.InnerImage.{outcome, searched}
 use Rattle.grid_plan.proofs.Searching.{Suits, stretch_on, holds_on, Held, search_on, OfStretch, OfBounds}
 use Rattle.grid_plan.proofs.Deep.{pitch_on, pitch_sized, further_of}

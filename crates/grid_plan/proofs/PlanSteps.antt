@@ -3,29 +3,19 @@
 use Rattle.std.specs.Prelude.{◌≡◌, refl, ℕ, zero, suc, ◌+◌, ◌≤◌, Bool, false, not, cond, List, [], ◌∷◌, ◌++◌, map, ℤ, pos, negsuc, nat_abs, ◌+ℤ◌, ◌-ℤ◌, T, leb, set, Float, Option, Some, None}
 use Rattle.std.proofs.Common.{sym, ap, ◌∙◌, subst, arith, ltb→lt, nltb→le}
 use Rattle.std.proofs.Math.ListN.{get_or-map}
-use Rattle.std.specs.Float.Ieee as Ieee
 use Rattle.std.specs.Float.{binary64}
 use Rattle.std.specs.Float.Ieee.{le, sub}
 use Rattle.binary64.specs.Order.{least, greatest, magnitude, tolerance}
 use Rattle.geometry.specs.declared.Role.{Role}
 use Rattle.geometry.specs.declared.Role.TheVariants.{Input, Output}
-use Rattle.geometry.specs.Stretch as G
-use Rattle.search.specs.declared.Bounds.{Bounds}
-use Rattle.search.specs.declared.Outcome.{Outcome}
-use Rattle.search.specs.declared.Outcome.TheVariants as O
 use Rattle.plan.specs.declared.Bound.TheVariants as bounded
-use Rattle.plan.specs.Depths as L
 use Rattle.plan.specs.Depths.{same_role}
-use Rattle.plan.specs.Bounds as M
 use Rattle.plan.specs.Plan as K
 use Rattle.plan.specs.Plan.{Walk, Component, walk, push_all}
-use Rattle.grid_plan.specs.Board as Z
-use Rattle.grid_plan.specs.Depths as D
 use Rattle.grid_plan.specs.Search as S
-use Rattle.grid_plan.specs.Bounds as B
 use Rattle.grid_plan.specs.Plan as P
 use Rattle.grid_plan.proofs.Sized.{pick_smaller, pick_larger}
-use Rattle.grid_plan.specs.Image.{bound, bounds, collector, ranged}
+use Rattle.grid_plan.specs.Image.{bound, collector, ranged}
 use Rattle.grid_plan.specs.InnerImage.{outcome, lanes}
 use Rattle.binary64.specs.Accepted.{zero64}
 use Rattle.binary64.specs.Rational.{plus, less}

@@ -5,13 +5,10 @@ use Rattle.std.proofs.Math.Path.{refl, ap}
 use Rattle.std.proofs.Common.{◌∙◌, arith}
 use mathlib.Core.List.{List, [], ◌∷◌, map}
 use Rattle.std.proofs.lemmas.List.{length-map}
-use Rattle.std.specs.Float.Ieee as Ieee
 use Rattle.std.specs.Float.{binary64}
 use Rattle.std.specs.Float.Ieee.{add, sub}
 use Rattle.geometry.specs.declared.Role.{Role}
 use Rattle.geometry.specs.declared.Role.TheVariants.{Input, Output}
-use Rattle.geometry.specs.Points.{Route}
-use Rattle.geometry.specs.Stretch as G
 use Rattle.board.specs.declared.Bundle.{Bundle}
 use Rattle.search.specs.declared.Bounds.{Bounds}
 use Rattle.search.specs.declared.Outcome.TheVariants as O
@@ -24,18 +21,17 @@ use Rattle.plan.specs.Bounds as M
 use Rattle.plan.specs.Plan as K
 use Rattle.plan.specs.Plan.{Step, going, then}
 use Rattle.grid_plan.specs.Board as Z
-use Rattle.grid_plan.specs.Depths as D
 use Rattle.grid_plan.specs.Search as S
 use Rattle.grid_plan.specs.Bounds as B
 use Rattle.grid_plan.specs.Plan as P
-use Rattle.grid_plan.specs.Image.{board, bound, bounds, collector, ranged, plan, first_pass}
-use Rattle.grid_plan.specs.InnerImage.{outcome, searched, lanes}
+use Rattle.grid_plan.specs.Image.{board, bound, bounds, collector, ranged, plan}
+use Rattle.grid_plan.specs.InnerImage.{searched, lanes}
 use Rattle.grid_plan.proofs.Searching.{Held, OfBounds}
 use Rattle.grid_plan.proofs.Deep.{pitch_on, pitch_sized, pitch_length}
 use Rattle.grid_plan.proofs.Bounding.{found_small}
 use Rattle.sorting.specs.Lists.{Every}
 use Rattle.grid.specs.On.{on}
-use Rattle.grid_plan.proofs.PlanSteps.{lanes_on, largest_of, smallest_of}
+use Rattle.grid_plan.proofs.PlanSteps.{lanes_on}
 use Rattle.grid_plan.proofs.PlanSearches.{Fine, look_on, pitch}
 use Rattle.grid_plan.proofs.PlanComponents.{less_pitch, plus_pitch}
 use Rattle.grid_plan.proofs.BoundSteps.{clamped_on, clamped_of}

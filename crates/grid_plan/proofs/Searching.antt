@@ -1,14 +1,13 @@
 -- The search of binary64 on numbers of the grid is the search in whole numbers: same candidates, same order, same outcome, same visits.
 -- Assumes nothing.
-use Rattle.std.specs.Prelude.{◌≡◌, refl, Bool, true, false, not, cond, ℤ, nat_abs, ◌+ℤ◌, ◌-ℤ◌, T, Float, Option, Some, None}
+use Rattle.std.specs.Prelude.{◌≡◌, refl, Bool, true, false, not, cond, ℤ, nat_abs, ◌+ℤ◌, ◌-ℤ◌, Float, Option, Some, None}
 use Rattle.std.proofs.Common.{sym, ap, ◌∙◌}
 use Prim.Native.Nat.{ℕ, zero, suc, ◌^◌, ◌≤◌}
 use mathlib.Core.List.{List, [], ◌∷◌, ◌++◌, map}
-use Rattle.geometry.specs.declared.Point.{Point}
 use Rattle.geometry.specs.declared.Segment.{Segment}
 use Rattle.geometry.specs.declared.Role.{Role}
 use Rattle.geometry.specs.declared.Role.TheVariants.{Input, Output}
-use Rattle.geometry.specs.Points.{Route, runs}
+use Rattle.geometry.specs.Points.{runs}
 use Rattle.geometry.specs.Stretch as G
 use Rattle.search.specs.declared.Candidate.{Candidate}
 use Rattle.search.specs.declared.Candidate.TheVariants as C

@@ -12,12 +12,10 @@ use Rattle.board.specs.Board.{Board}
 use Rattle.search.specs.declared.Bounds.{Bounds}
 use Rattle.search.specs.declared.CollectorBounds.{CollectorBounds}
 use Rattle.search.specs.declared.CollectorBounds.TheVariants.{Absent, Between}
-use Rattle.search.specs.declared.Outcome.TheVariants as O
 use Rattle.plan.specs.declared.Bound.{Bound}
 use Rattle.plan.specs.declared.Bound.TheVariants as bounded
 use Rattle.plan.specs.Plan.{Ranged, Plan, FirstPass}
 use Rattle.grid_plan.specs.Board as Z
-use Rattle.grid_plan.specs.Depths as D
 use Rattle.grid_plan.specs.Search as S
 use Rattle.grid_plan.specs.Plan as P
 use Rattle.grid.specs.On.{on}

@@ -6,7 +6,6 @@ use Rattle.search.specs.declared.Outcome.TheVariants as O
 use Rattle.search.specs.declared.Searched.{Searched}
 use Rattle.plan.specs.declared.Used.{Used}
 use Rattle.plan.specs.Plan.{Lanes}
-use Rattle.grid_plan.specs.Board as Z
 use Rattle.grid_plan.specs.Depths as D
 use Rattle.grid_plan.specs.Search as S
 use Rattle.grid_plan.specs.Plan as P

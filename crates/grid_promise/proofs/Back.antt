@@ -13,11 +13,9 @@ use Rattle.board.specs.declared.Port.{Port}
 use Rattle.board.specs.declared.Edge.{Edge}
 use Rattle.board.specs.declared.Bundle.{Bundle}
 use Rattle.board.specs.declared.Member.{Member}
-use Rattle.board.specs.Board as board
 use Rattle.board.specs.Board.{routes_of}
 use Rattle.wire.proofs.All.{All}
 use Rattle.job.specs.Job.{Job, given_routes}
-use Rattle.job.specs.Job as job
 use Rattle.job.proofs.Sound.{Sound}
 use Rattle.sorting.specs.Sorted.{every_map}
 use Rattle.grid_plan.specs.Board as Z

@@ -1,8 +1,6 @@
 -- Jobs with bit 2 set, from their bytes to the bytes written: one that is accepted, one that gets 15, and the same bytes with bit 2 clear.
 -- Assumes nothing.
-use Rattle.std.specs.Prelude.{◌≡◌, refl, List, [], ◌∷◌, ◌++◌, ℕ, ◌<◌, length, get_or, replicate}
-use Rattle.std.proofs.Common.{sym, ap, ◌∙◌, arith}
-use Rattle.std.specs.Float.{binary64}
+use Rattle.std.specs.Prelude.{◌≡◌, refl, [], ◌∷◌, replicate}
 use Rattle.std.specs.Float.Ieee.{of_bits, to_bits, lt, le, eq, ne}
 use Rattle.limits.specs.Limits.{answer_room}
 use Rattle.binary64.specs.Accepted.{minus_zero, plus_zero, accepted}

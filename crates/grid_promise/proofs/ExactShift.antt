@@ -2,17 +2,14 @@
 use Rattle.std.specs.Prelude.{◌≡◌, ℕ, ◌^◌, ◌≤◌, Bool, true, false, List, [], ◌∷◌, map, ℤ, nat_abs, Float, Option}
 use Rattle.std.proofs.Math.Path.{sym}
 use Rattle.std.proofs.Common.{ap, ◌∙◌, subst, arith, true≢false}
-use Rattle.geometry.specs.declared.Point.{Point}
 use Rattle.geometry.specs.Points.{Route}
 use Rattle.board.specs.declared.PlacedNode.{PlacedNode}
 use Rattle.board.specs.Board.{Board}
 use Rattle.job.specs.Job.{Job, given_routes, read_job}
 use Rattle.job.specs.Job as job
 use Rattle.job.proofs.Sound.{accepted_sound}
-use Rattle.plan.specs.declared.Bound.{Bound}
 use Rattle.plan.specs.Plan as K
 use Rattle.drawing.specs.Sheet as S
-use Rattle.drawing.specs.Build.{Drawn}
 use Rattle.drawing.specs.Normal.{sheet_after}
 use Rattle.sorting.specs.Lists.{Every}
 use Rattle.ranges.specs.Coordinates.{OfPoint, OfTap, OfDrawn, OfPlaced}

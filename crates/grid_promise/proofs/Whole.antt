@@ -11,7 +11,6 @@ use Rattle.job.proofs.Sound.{Sound}
 use Rattle.answer.specs.Answer.{answer_bytes}
 use Rattle.plan.specs.Plan as plan
 use Rattle.plan.specs.Plan.{plan_of}
-use Rattle.drawing.specs.Sheet as drawing
 use Rattle.drawing.specs.Normal as N
 use Rattle.promise.specs.Order.{drawn_of}
 use Rattle.promise.specs.Stage as stage
@@ -27,7 +26,6 @@ use Rattle.grid_sheet.specs.Image as M
 use Rattle.grid_sheet.proofs.Drawing.{OfOutcome}
 use Rattle.grid_sheet.specs.Whole as Z2
 use Rattle.grid_sheet.proofs.WholeSheet.{drawing_on, drawing_of, normalized_on}
-use Rattle.grid_promise.specs.Grid as statement
 use Rattle.grid_promise.specs.Grid.{whole_board, given, whole_plan, whole_sheet_from, whole_job_from, whole_sheet, whole_job, as_told_from, as_told, as_bytes, WholeJob}
 use Rattle.grid_promise.proofs.Back.{board_back, routes_back, on_grid}
 

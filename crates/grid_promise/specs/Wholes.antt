@@ -6,11 +6,8 @@ use Rattle.geometry.specs.Points.{Route}
 use Rattle.board.specs.declared.Options.{Options}
 use Rattle.board.specs.declared.PlacedNode.{PlacedNode}
 use Rattle.board.specs.declared.Port.{Port}
-use Rattle.board.specs.Board as board
 use Rattle.board.specs.Board.{Board}
-use Rattle.job.specs.Job as job
 use Rattle.grid_plan.specs.Board as Z
-use Rattle.grid_plan.specs.Image as I
 use Rattle.grid.specs.DraftingGrid.{units}
 
 abbrev pub point : Point → Z.Point

@@ -8,27 +8,16 @@ use mathlib.Core.List.{List, [], ◌∷◌, map}
 use Rattle.std.specs.Float.Ieee.{binary64, le, eq, add, sub, mul, div}
 use Rattle.binary64.specs.Order.{magnitude}
 use Rattle.geometry.specs.declared.Point.{Point}
-use Rattle.geometry.specs.declared.Segment.{Segment}
-use Rattle.geometry.specs.Contact as C
-use Rattle.geometry.specs.Spacing as G
-use Rattle.geometry.specs.Enters as E
-use Rattle.geometry.specs.Points.{Route}
-use Rattle.route.specs.Rewrite as F
 use Rattle.board.specs.declared.Bundle.{Bundle}
 use Rattle.board.specs.declared.Member.{Member}
 use Rattle.board.specs.Board.{rail_depth}
 use Rattle.plan.specs.Depths as L
 use Rattle.plan.specs.Depths.{lane_count, number}
 use Rattle.drawing.specs.Build as D
-use Rattle.drawing.specs.Rewrite as Q
-use Rattle.drawing.specs.Check as K
-use Rattle.drawing.specs.Sheet as S
 use Rattle.grid_plan.specs.Board as Z
-use Rattle.grid_plan.specs.Image.{point, segment, options, board, route}
+use Rattle.grid_plan.specs.Image.{point, segment, board, route}
 use Rattle.grid_plan.proofs.Deep.{pitch_on, pitch_sized, rail_sized, endpoint_on, endpoint_sized, members_lanes, inward_on, inward_sized}
 use Rattle.grid_plan.proofs.Deep as P
-use Rattle.grid_sheet.specs.Touch as Y
-use Rattle.grid_sheet.specs.Reroute as R
 use Rattle.grid_sheet.specs.Draw as W
 use Rattle.grid_sheet.specs.Image as M
 use Rattle.grid_sheet.specs.Image.{tap_on, drawn}

@@ -11,17 +11,10 @@ use mathlib.Core.List.{List, [], ◌∷◌, ◌++◌, map}
 use Rattle.std.proofs.Math.IntN.{nat_abs}
 use Rattle.std.proofs.lemmas.List.{length-map}
 use Rattle.std.specs.Float.Ieee.{binary64, add}
-use Rattle.geometry.specs.declared.Point.{Point}
 use Rattle.geometry.specs.declared.Role.{Role}
 use Rattle.geometry.specs.declared.Role.TheVariants.{Input, Output}
-use Rattle.geometry.specs.Contact as C
-use Rattle.geometry.specs.Spacing as G
-use Rattle.geometry.specs.Enters as E
-use Rattle.geometry.specs.Points.{Route, runs}
-use Rattle.route.specs.Rewrite as F
+use Rattle.geometry.specs.Points.{Route}
 use Rattle.board.specs.declared.Member.{Member}
-use Rattle.board.specs.declared.PlacedNode.{PlacedNode}
-use Rattle.plan.specs.Depths as L
 use Rattle.drawing.specs.Verdict.{Verdict, Clean, Refused}
 use Rattle.drawing.specs.Build as D
 use Rattle.drawing.specs.Rewrite as Q
@@ -31,14 +24,10 @@ use Rattle.drawing.specs.Sheet as S
 use Rattle.sorting.specs.Sorted.{every_map, every_last}
 use Rattle.grid_plan.specs.Board as Z
 use Rattle.grid_plan.proofs.Sized.{lanes_are}
-use Rattle.grid_plan.specs.Image.{point, placed, options, board, route}
+use Rattle.grid_plan.specs.Image.{point, placed, board, route}
 use Rattle.grid_plan.proofs.Searching.{runs_on}
 use Rattle.grid_plan.proofs.Deep.{pitch_on, pitch_length, members_lanes}
-use Rattle.grid_plan.proofs.Deep as P
-use Rattle.grid_sheet.specs.Touch as Y
-use Rattle.grid_sheet.specs.Reroute as R
 use Rattle.grid_sheet.specs.Draw as W
-use Rattle.grid_sheet.specs.Image as M
 use Rattle.grid_sheet.specs.Image.{tap_on, drawn, turn, progress, outcome}
 use Rattle.grid_sheet.proofs.Rerouting.{OfRoute, input_trunk_on, output_trunk_on, input_route_on, output_route_on, input_trunk_of, output_trunk_of, input_route_of, output_route_of}
 use Rattle.sorting.specs.Lists.{Every}

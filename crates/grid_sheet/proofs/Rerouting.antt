@@ -13,7 +13,7 @@ use Rattle.geometry.specs.declared.Role.TheVariants.{Input, Output}
 use Rattle.geometry.specs.Contact as C
 use Rattle.geometry.specs.Line as L
 use Rattle.geometry.specs.Stretch as G
-use Rattle.geometry.specs.Points.{Route, runs}
+use Rattle.geometry.specs.Points.{Route}
 use Rattle.route.specs.Intersection as I
 use Rattle.route.specs.Push as P
 use Rattle.route.specs.Rewrite as F
@@ -30,7 +30,8 @@ use Rattle.grid.specs.On.{on}
 use Rattle.grid.proofs.Operations.{eq_on, add_on, sub_on, add_size, subtract_size}
 use Rattle.grid_plan.proofs.PlanSteps.{map_append}
 use Rattle.grid_sheet.specs.Sizes.{Kept, Within, Lies}
-use Rattle.grid_sheet.specs.InnerImage.{crossing, hit, option_route}
+use Rattle.grid_sheet.specs.Image.{tap}
+use Rattle.grid_sheet.specs.InnerImage.{crossing, option_route}
 
 abbrev pub Pitch : ℤ → Type 0
 Pitch p = nat_abs p ≤ 2 ^ 27
@@ -48,47 +49,47 @@ runs_every Q (a ∷ []) h = tt
 runs_every Q (a ∷ b ∷ r) h = ((h.0, h.1.0), runs_every Q (b ∷ r) h.1)
 
 -- ---- first and last
-abbrev pub OfCrossing : (Z.Point → Type 0) → R.Crossing → Type 0
-OfCrossing Q R.Nowhere = Unit {0}
-OfCrossing Q (R.On i p) = Q p
+abbrev pub OfCrossing : (Z.Point → Type 0) → Option (ℕ × Z.Point) → Type 0
+OfCrossing Q None = Unit {0}
+OfCrossing Q (Some (i, p)) = Q p
 
 abbrev OfPoint : (Z.Point → Type 0) → Option Z.Point → Type 0
 OfPoint Q None = Unit {0}
 OfPoint Q (Some p) = Q p
 
-met_at_on : (i : ℕ) (o : Option Z.Point) → I.met_at i (hit o) ≡ crossing (R.met_at i o)
+met_at_on : (i : ℕ) (o : Option Z.Point) → I.met_at i (tap o) ≡ crossing (R.met_at i o)
 met_at_on i None = refl
 met_at_on i (Some p) = refl
 
-or_else_on : (a b : R.Crossing) → I.or_else (crossing a) (crossing b) ≡ crossing (R.or_else a b)
+or_else_on : (a b : Option (ℕ × Z.Point)) → I.or_else (crossing a) (crossing b) ≡ crossing (R.or_else a b)
 unfolding I.or_else R.or_else
-or_else_on R.Nowhere b = refl
-or_else_on (R.On i p) b = refl
+or_else_on None b = refl
+or_else_on (Some (i, p)) b = refl
 
 met_at_of : (Q : Z.Point → Type 0) (i : ℕ) (o : Option Z.Point) → OfPoint Q o → OfCrossing Q (R.met_at i o)
 met_at_of Q i None h = tt
 met_at_of Q i (Some p) h = h
 
-or_else_of : (Q : Z.Point → Type 0) (a b : R.Crossing) → OfCrossing Q a → OfCrossing Q b → OfCrossing Q (R.or_else a b)
+or_else_of : (Q : Z.Point → Type 0) (a b : Option (ℕ × Z.Point)) → OfCrossing Q a → OfCrossing Q b → OfCrossing Q (R.or_else a b)
 unfolding R.or_else
-or_else_of Q R.Nowhere b h k = k
-or_else_of Q (R.On i p) b h k = h
+or_else_of Q None b h k = k
+or_else_of Q (Some (i, p)) b h k = h
 
 module _ (f : Segment → Option Point) (g : Z.Segment → Option Z.Point) where
-  first_met_on : (i : ℕ) (ss : List Z.Segment) → Every (λ (s : Z.Segment). f (segment s) ≡ hit (g s)) ss → I.first_met f i (map segment ss) ≡ crossing (R.first_met g i ss)
+  first_met_on : (i : ℕ) (ss : List Z.Segment) → Every (λ (s : Z.Segment). f (segment s) ≡ tap (g s)) ss → I.first_met f i (map segment ss) ≡ crossing (R.first_met g i ss)
   unfolding I.first_met R.first_met
   first_met_on i [] h = refl
   first_met_on i (s ∷ ss) h =
       ap (λ (o : Option Point). I.or_else (I.met_at i o) (I.first_met f (suc i) (map segment ss))) h.0
-      ∙ ap (I.or_else (I.met_at i (hit (g s)))) (first_met_on (suc i) ss h.1)
+      ∙ ap (I.or_else (I.met_at i (tap (g s)))) (first_met_on (suc i) ss h.1)
       ∙ ap (λ (c : Option (ℕ × Point)). I.or_else c (crossing (R.first_met g (suc i) ss))) (met_at_on i (g s)) ∙ or_else_on (R.met_at i (g s)) (R.first_met g (suc i) ss)
 
-  last_met_on : (i : ℕ) (ss : List Z.Segment) → Every (λ (s : Z.Segment). f (segment s) ≡ hit (g s)) ss → I.last_met f i (map segment ss) ≡ crossing (R.last_met g i ss)
+  last_met_on : (i : ℕ) (ss : List Z.Segment) → Every (λ (s : Z.Segment). f (segment s) ≡ tap (g s)) ss → I.last_met f i (map segment ss) ≡ crossing (R.last_met g i ss)
   unfolding I.last_met R.last_met
   last_met_on i [] h = refl
   last_met_on i (s ∷ ss) h =
       ap (λ (o : Option Point). I.or_else (I.last_met f (suc i) (map segment ss)) (I.met_at i o)) h.0
-      ∙ ap (λ (c : Option (ℕ × Point)). I.or_else c (I.met_at i (hit (g s)))) (last_met_on (suc i) ss h.1)
+      ∙ ap (λ (c : Option (ℕ × Point)). I.or_else c (I.met_at i (tap (g s)))) (last_met_on (suc i) ss h.1)
       ∙ ap (I.or_else (crossing (R.last_met g (suc i) ss))) (met_at_on i (g s)) ∙ or_else_on (R.last_met g (suc i) ss) (R.met_at i (g s))
 
 module _ (Q : Z.Point → Type 0) (g : Z.Segment → Option Z.Point) where
@@ -103,7 +104,7 @@ module _ (Q : Z.Point → Type 0) (g : Z.Segment → Option Z.Point) where
   last_met_of i (s ∷ ss) h = or_else_of Q (R.last_met g (suc i) ss) (R.met_at i (g s)) (last_met_of (suc i) ss h.1) (met_at_of Q i (g s) h.0)
 
 -- ---- the four intersections
-vertical_all : (e : Bool) (x : ℤ) (ss : List Z.Segment) → Every (λ (s : Z.Segment). L.on_line e (on x) (point s.start) (point s.end) ≡ hit (Y.on_line e x s.start s.end)) ss
+vertical_all : (e : Bool) (x : ℤ) (ss : List Z.Segment) → Every (λ (s : Z.Segment). L.on_line e (on x) (point s.start) (point s.end) ≡ tap (Y.on_line e x s.start s.end)) ss
 vertical_all e x [] = tt
 vertical_all e x (s ∷ ss) = (on_line_on e x s.start s.end, vertical_all e x ss)
 
@@ -115,7 +116,7 @@ last_vertical_on : (r : Z.Route) (x : ℤ) → I.last_vertical_line_intersection
 unfolding I.last_vertical_line_intersection
 last_vertical_on r x = ap (I.last_met (λ s. L.on_line true (on x) s.start s.end) 0) (runs_on r) ∙ last_met_on (λ s. L.on_line true (on x) s.start s.end) (λ s. Y.on_line true x s.start s.end) 0 (Z.runs r) (vertical_all true x (Z.runs r))
 
-trunk_all : (role : Role) (p x : ℤ) (ss : List Z.Segment) → Pitch p → Every (λ (s : Z.Segment). Kept s.start × Kept s.end) ss → Every (λ (s : Z.Segment). G.on_trunk role (on p) (on x) (point s.start) (point s.end) ≡ hit (Y.on_trunk role p x s.start s.end)) ss
+trunk_all : (role : Role) (p x : ℤ) (ss : List Z.Segment) → Pitch p → Every (λ (s : Z.Segment). Kept s.start × Kept s.end) ss → Every (λ (s : Z.Segment). G.on_trunk role (on p) (on x) (point s.start) (point s.end) ≡ tap (Y.on_trunk role p x s.start s.end)) ss
 trunk_all role p x [] h k = tt
 trunk_all role p x (s ∷ ss) h k = (on_trunk_on role p x s.start s.end (let a = k.0.0.0 in omega arith) (let a = k.0.1.0 in omega arith), trunk_all role p x ss h k.1)
 
@@ -248,9 +249,9 @@ module _ (r : Z.Route) (kr : Every Kept r) (t : Z.Point) (kt : Kept t) where
   unfolding F.rewrite_input_shared_trunk
   input_trunk_on p h = ap (λ (c : Option (ℕ × Point)). F.where_met c (λ i q. cond (C.matches q (point t)) (F.pushed (point t ∷ drop (suc i) (route r))) None)) (first_trunk_on r t.x Input p h kr) ∙ go (R.first_shared_trunk_intersection r t.x Input p) (first_trunk_of r t.x Input p kr)
     where
-      go : (c : R.Crossing) → OfCrossing (At t.x) c → F.where_met (crossing c) (λ i q. cond (C.matches q (point t)) (F.pushed (point t ∷ drop (suc i) (route r))) None) ≡ option_route (R.where_met c (λ i q. cond (Y.matches q t) (R.pushed (t ∷ drop (suc i) r)) None))
-      go R.Nowhere k = unfold F.where_met R.where_met in refl
-      go (R.On i q) k =
+      go : (c : Option (ℕ × Z.Point)) → OfCrossing (At t.x) c → F.where_met (crossing c) (λ i q. cond (C.matches q (point t)) (F.pushed (point t ∷ drop (suc i) (route r))) None) ≡ option_route (R.where_met c (λ i q. cond (Y.matches q t) (R.pushed (t ∷ drop (suc i) r)) None))
+      go None k = unfold F.where_met R.where_met in refl
+      go (Some (i, q)) k =
           unfold F.where_met R.where_met in
           ap (λ (b : Bool). cond b (F.pushed (point t ∷ drop (suc i) (route r))) None) (matches_on q t (kept_lies q (subst Within (sym k.0) kt.0, k.1)) (kept_lies t kt))
           ∙ if_at_tap q (Y.matches q t) (point t ∷ drop (suc i) (route r)) (t ∷ drop (suc i) r) (ap (λ (l : Route). point t ∷ l) (map_drop (suc i) r)) (kt, drop_of (suc i) r kr)
@@ -259,9 +260,9 @@ module _ (r : Z.Route) (kr : Every Kept r) (t : Z.Point) (kt : Kept t) where
   unfolding F.rewrite_output_shared_trunk
   output_trunk_on p h = ap (λ (c : Option (ℕ × Point)). F.where_met c (λ i q. cond (C.matches q (point t)) (F.pushed (take (suc i) (route r) ++ (point t ∷ []))) None)) (last_trunk_on r t.x Output p h kr) ∙ go (R.last_shared_trunk_intersection r t.x Output p) (last_trunk_of r t.x Output p kr)
     where
-      go : (c : R.Crossing) → OfCrossing (At t.x) c → F.where_met (crossing c) (λ i q. cond (C.matches q (point t)) (F.pushed (take (suc i) (route r) ++ (point t ∷ []))) None) ≡ option_route (R.where_met c (λ i q. cond (Y.matches q t) (R.pushed (take (suc i) r ++ (t ∷ []))) None))
-      go R.Nowhere k = unfold F.where_met R.where_met in refl
-      go (R.On i q) k =
+      go : (c : Option (ℕ × Z.Point)) → OfCrossing (At t.x) c → F.where_met (crossing c) (λ i q. cond (C.matches q (point t)) (F.pushed (take (suc i) (route r) ++ (point t ∷ []))) None) ≡ option_route (R.where_met c (λ i q. cond (Y.matches q t) (R.pushed (take (suc i) r ++ (t ∷ []))) None))
+      go None k = unfold F.where_met R.where_met in refl
+      go (Some (i, q)) k =
           unfold F.where_met R.where_met in
           ap (λ (b : Bool). cond b (F.pushed (take (suc i) (route r) ++ (point t ∷ []))) None) (matches_on q t (kept_lies q (subst Within (sym k.0) kt.0, k.1)) (kept_lies t kt))
           ∙ if_at_tap q (Y.matches q t) (take (suc i) (route r) ++ (point t ∷ [])) (take (suc i) r ++ (t ∷ [])) (ap (λ (l : Route). l ++ (point t ∷ [])) (map_take (suc i) r) ∙ sym (map_append point (take (suc i) r) (t ∷ []))) (append_of Kept (take (suc i) r) (t ∷ []) (take_of (suc i) r kr) (kt, tt))
@@ -283,9 +284,9 @@ module _ (r : Z.Route) (kr : Every Kept r) (t : Z.Point) (kt : Kept t) where
       ∙ ap (λ (c : Option (ℕ × Point)). F.where_met c (λ i q. F.pushed (point t ∷ point (R.corner (t.x +ℤ d) t) ∷ q ∷ drop (suc i) (route r)))) (first_vertical_on r (t.x +ℤ d))
       ∙ go (R.first_vertical_line_intersection r (t.x +ℤ d)) (first_met_of Kept (λ s. Y.on_line false (t.x +ℤ d) s.start s.end) 0 (Z.runs r) (lines_of false (t.x +ℤ d) r (corridor_in d h) kr))
     where
-      go : (c : R.Crossing) → OfCrossing Kept c → F.where_met (crossing c) (λ i q. F.pushed (point t ∷ point (R.corner (t.x +ℤ d) t) ∷ q ∷ drop (suc i) (route r))) ≡ option_route (R.where_met c (λ i q. R.pushed (t ∷ R.corner (t.x +ℤ d) t ∷ q ∷ drop (suc i) r)))
-      go R.Nowhere k = unfold F.where_met R.where_met in refl
-      go (R.On i q) k =
+      go : (c : Option (ℕ × Z.Point)) → OfCrossing Kept c → F.where_met (crossing c) (λ i q. F.pushed (point t ∷ point (R.corner (t.x +ℤ d) t) ∷ q ∷ drop (suc i) (route r))) ≡ option_route (R.where_met c (λ i q. R.pushed (t ∷ R.corner (t.x +ℤ d) t ∷ q ∷ drop (suc i) r)))
+      go None k = unfold F.where_met R.where_met in refl
+      go (Some (i, q)) k =
           unfold F.where_met R.where_met in
           pushed_on (t ∷ R.corner (t.x +ℤ d) t ∷ q ∷ drop (suc i) r) (point t ∷ point (R.corner (t.x +ℤ d) t) ∷ point q ∷ drop (suc i) (route r)) (ap (λ (l : Route). point t ∷ point (R.corner (t.x +ℤ d) t) ∷ point q ∷ l) (map_drop (suc i) r)) (kt, ((corridor_in d h, kt.1), (k, drop_of (suc i) r kr)))
 
@@ -296,9 +297,9 @@ module _ (r : Z.Route) (kr : Every Kept r) (t : Z.Point) (kt : Kept t) where
       ∙ ap (λ (c : Option (ℕ × Point)). F.where_met c (λ i q. F.pushed (take (suc i) (route r) ++ (q ∷ point (R.corner (t.x -ℤ d) t) ∷ point t ∷ [])))) (last_vertical_on r (t.x -ℤ d))
       ∙ go (R.last_vertical_line_intersection r (t.x -ℤ d)) (last_met_of Kept (λ s. Y.on_line true (t.x -ℤ d) s.start s.end) 0 (Z.runs r) (lines_of true (t.x -ℤ d) r (corridor_out d h) kr))
     where
-      go : (c : R.Crossing) → OfCrossing Kept c → F.where_met (crossing c) (λ i q. F.pushed (take (suc i) (route r) ++ (q ∷ point (R.corner (t.x -ℤ d) t) ∷ point t ∷ []))) ≡ option_route (R.where_met c (λ i q. R.pushed (take (suc i) r ++ (q ∷ R.corner (t.x -ℤ d) t ∷ t ∷ []))))
-      go R.Nowhere k = unfold F.where_met R.where_met in refl
-      go (R.On i q) k =
+      go : (c : Option (ℕ × Z.Point)) → OfCrossing Kept c → F.where_met (crossing c) (λ i q. F.pushed (take (suc i) (route r) ++ (q ∷ point (R.corner (t.x -ℤ d) t) ∷ point t ∷ []))) ≡ option_route (R.where_met c (λ i q. R.pushed (take (suc i) r ++ (q ∷ R.corner (t.x -ℤ d) t ∷ t ∷ []))))
+      go None k = unfold F.where_met R.where_met in refl
+      go (Some (i, q)) k =
           unfold F.where_met R.where_met in
           pushed_on (take (suc i) r ++ (q ∷ R.corner (t.x -ℤ d) t ∷ t ∷ [])) (take (suc i) (route r) ++ (point q ∷ point (R.corner (t.x -ℤ d) t) ∷ point t ∷ []))
           (ap (λ (l : Route). l ++ (point q ∷ point (R.corner (t.x -ℤ d) t) ∷ point t ∷ [])) (map_take (suc i) r) ∙ sym (map_append point (take (suc i) r) (q ∷ R.corner (t.x -ℤ d) t ∷ t ∷ [])))
@@ -312,27 +313,27 @@ module _ (r : Z.Route) (kr : Every Kept r) (t : Z.Point) (kt : Kept t) where
   pub input_trunk_of : (p : ℤ) → OfRoute (R.rewrite_input_shared_trunk r t p)
   input_trunk_of p = go (R.first_shared_trunk_intersection r t.x Input p)
     where
-      go : (c : R.Crossing) → OfRoute (R.where_met c (λ i q. cond (Y.matches q t) (R.pushed (t ∷ drop (suc i) r)) None))
-      go R.Nowhere = unfold R.where_met in tt
-      go (R.On i q) = unfold R.where_met in if_of (Y.matches q t) (t ∷ drop (suc i) r) (kt, drop_of (suc i) r kr)
+      go : (c : Option (ℕ × Z.Point)) → OfRoute (R.where_met c (λ i q. cond (Y.matches q t) (R.pushed (t ∷ drop (suc i) r)) None))
+      go None = unfold R.where_met in tt
+      go (Some (i, q)) = unfold R.where_met in if_of (Y.matches q t) (t ∷ drop (suc i) r) (kt, drop_of (suc i) r kr)
 
   pub output_trunk_of : (p : ℤ) → OfRoute (R.rewrite_output_shared_trunk r t p)
   output_trunk_of p = go (R.last_shared_trunk_intersection r t.x Output p)
     where
-      go : (c : R.Crossing) → OfRoute (R.where_met c (λ i q. cond (Y.matches q t) (R.pushed (take (suc i) r ++ (t ∷ []))) None))
-      go R.Nowhere = unfold R.where_met in tt
-      go (R.On i q) = unfold R.where_met in if_of (Y.matches q t) (take (suc i) r ++ (t ∷ [])) (append_of Kept (take (suc i) r) (t ∷ []) (take_of (suc i) r kr) (kt, tt))
+      go : (c : Option (ℕ × Z.Point)) → OfRoute (R.where_met c (λ i q. cond (Y.matches q t) (R.pushed (take (suc i) r ++ (t ∷ []))) None))
+      go None = unfold R.where_met in tt
+      go (Some (i, q)) = unfold R.where_met in if_of (Y.matches q t) (take (suc i) r ++ (t ∷ [])) (append_of Kept (take (suc i) r) (t ∷ []) (take_of (suc i) r kr) (kt, tt))
 
   pub input_route_of : (d : ℤ) → Reach d → OfRoute (R.rewrite_input_route r t d)
   input_route_of d h = go (R.first_vertical_line_intersection r (t.x +ℤ d)) (first_met_of Kept (λ s. Y.on_line false (t.x +ℤ d) s.start s.end) 0 (Z.runs r) (lines_of false (t.x +ℤ d) r (corridor_in d h) kr))
     where
-      go : (c : R.Crossing) → OfCrossing Kept c → OfRoute (R.where_met c (λ i q. R.pushed (t ∷ R.corner (t.x +ℤ d) t ∷ q ∷ drop (suc i) r)))
-      go R.Nowhere k = unfold R.where_met in tt
-      go (R.On i q) k = unfold R.where_met in push_points_of Kept [] (t ∷ R.corner (t.x +ℤ d) t ∷ q ∷ drop (suc i) r) tt (kt, ((corridor_in d h, kt.1), (k, drop_of (suc i) r kr)))
+      go : (c : Option (ℕ × Z.Point)) → OfCrossing Kept c → OfRoute (R.where_met c (λ i q. R.pushed (t ∷ R.corner (t.x +ℤ d) t ∷ q ∷ drop (suc i) r)))
+      go None k = unfold R.where_met in tt
+      go (Some (i, q)) k = unfold R.where_met in push_points_of Kept [] (t ∷ R.corner (t.x +ℤ d) t ∷ q ∷ drop (suc i) r) tt (kt, ((corridor_in d h, kt.1), (k, drop_of (suc i) r kr)))
 
   pub output_route_of : (d : ℤ) → Reach d → OfRoute (R.rewrite_output_route r t d)
   output_route_of d h = go (R.last_vertical_line_intersection r (t.x -ℤ d)) (last_met_of Kept (λ s. Y.on_line true (t.x -ℤ d) s.start s.end) 0 (Z.runs r) (lines_of true (t.x -ℤ d) r (corridor_out d h) kr))
     where
-      go : (c : R.Crossing) → OfCrossing Kept c → OfRoute (R.where_met c (λ i q. R.pushed (take (suc i) r ++ (q ∷ R.corner (t.x -ℤ d) t ∷ t ∷ []))))
-      go R.Nowhere k = unfold R.where_met in tt
-      go (R.On i q) k = unfold R.where_met in push_points_of Kept [] (take (suc i) r ++ (q ∷ R.corner (t.x -ℤ d) t ∷ t ∷ [])) tt (append_of Kept (take (suc i) r) (q ∷ R.corner (t.x -ℤ d) t ∷ t ∷ []) (take_of (suc i) r kr) (k, ((corridor_out d h, kt.1), (kt, tt))))
+      go : (c : Option (ℕ × Z.Point)) → OfCrossing Kept c → OfRoute (R.where_met c (λ i q. R.pushed (take (suc i) r ++ (q ∷ R.corner (t.x -ℤ d) t ∷ t ∷ []))))
+      go None k = unfold R.where_met in tt
+      go (Some (i, q)) k = unfold R.where_met in push_points_of Kept [] (take (suc i) r ++ (q ∷ R.corner (t.x -ℤ d) t ∷ t ∷ [])) tt (append_of Kept (take (suc i) r) (q ∷ R.corner (t.x -ℤ d) t ∷ t ∷ []) (take_of (suc i) r kr) (k, ((corridor_out d h, kt.1), (kt, tt))))

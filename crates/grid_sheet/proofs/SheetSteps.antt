@@ -7,32 +7,21 @@ use Rattle.geometry.specs.declared.Point.{Point}
 use Rattle.geometry.specs.declared.Segment.{Segment}
 use Rattle.geometry.specs.declared.Role.{Role}
 use Rattle.geometry.specs.declared.Role.TheVariants.{Input, Output}
-use Rattle.geometry.specs.Contact as C
 use Rattle.geometry.specs.Kind.{disallowed}
 use Rattle.geometry.specs.Spacing as G
-use Rattle.geometry.specs.Enters as E
-use Rattle.geometry.specs.Points.{Route, runs}
-use Rattle.route.specs.Rewrite as F
+use Rattle.geometry.specs.Points.{Route}
 use Rattle.board.specs.declared.Edge.{Edge}
 use Rattle.board.specs.declared.Member.{Member}
-use Rattle.board.specs.declared.PlacedNode.{PlacedNode}
-use Rattle.board.specs.declared.Options.{Options}
-use Rattle.plan.specs.Depths as L
 use Rattle.drawing.specs.Build as D
-use Rattle.drawing.specs.Rewrite as Q
 use Rattle.drawing.specs.Check as K
 use Rattle.drawing.specs.Check.{Test, due, barred, own, every_route}
-use Rattle.drawing.specs.Sheet as S
 use Rattle.sorting.specs.Sorted.{every_map, every_get_d}
 use Rattle.grid_plan.specs.Board as Z
 use Rattle.grid_plan.proofs.Sized.{pick_smaller, pick_larger}
 use Rattle.grid_plan.specs.Image.{segment, placed, options, route}
 use Rattle.grid_plan.proofs.Searching.{runs_on}
-use Rattle.grid_plan.proofs.Deep as P
 use Rattle.grid_sheet.specs.Touch as Y
-use Rattle.grid_sheet.specs.Reroute as R
 use Rattle.grid_sheet.specs.Draw as W
-use Rattle.grid_sheet.specs.Image as M
 use Rattle.grid_sheet.specs.Image.{tap, tap_on, drawn}
 use Rattle.grid_sheet.proofs.Touching.{slanted_on, kind_on, too_close_on, passes_on}
 use Rattle.grid_sheet.proofs.Rerouting.{kept_lies, runs_every, OfCrossing, At, first_trunk_on, last_trunk_on, first_trunk_of, last_trunk_of, Pitch}
@@ -133,21 +122,21 @@ unfolding W.trunk_met
 trunk_met_of Input p x r k = first_trunk_of r x Input p k
 trunk_met_of Output p x r k = last_trunk_of r x Output p k
 
-tap_then_on : (c : R.Crossing) (i : ℕ) (o : Option (List W.TapOn)) → D.tap_then (crossing c) i (option_taps o) ≡ option_taps (W.tap_then c i o)
+tap_then_on : (c : Option (ℕ × Z.Point)) (i : ℕ) (o : Option (List W.TapOn)) → D.tap_then (crossing c) i (option_taps o) ≡ option_taps (W.tap_then c i o)
 unfolding D.tap_then W.tap_then
-tap_then_on R.Nowhere i o = refl
-tap_then_on (R.On k p) i None = refl
-tap_then_on (R.On k p) i (Some ts) = refl
+tap_then_on None i o = refl
+tap_then_on (Some (k, p)) i None = refl
+tap_then_on (Some (k, p)) i (Some ts) = refl
 
 abbrev pub OfTaps : Option (List W.TapOn) → Type 0
 OfTaps None = Unit {0}
 OfTaps (Some ts) = Every Tapped ts
 
-tap_then_of : (x : ℤ) (c : R.Crossing) (i : ℕ) (o : Option (List W.TapOn)) → Near x → OfCrossing (At x) c → OfTaps o → OfTaps (W.tap_then c i o)
+tap_then_of : (x : ℤ) (c : Option (ℕ × Z.Point)) (i : ℕ) (o : Option (List W.TapOn)) → Near x → OfCrossing (At x) c → OfTaps o → OfTaps (W.tap_then c i o)
 unfolding W.tap_then
-tap_then_of x R.Nowhere i o n h k = tt
-tap_then_of x (R.On j p) i None n h k = tt
-tap_then_of x (R.On j p) i (Some ts) n h k = ((subst (λ (z : ℤ). nat_abs z ≤ 2 ^ 30) (sym h.0) (omega arith), h.1), k)
+tap_then_of x None i o n h k = tt
+tap_then_of x (Some (j, p)) i None n h k = tt
+tap_then_of x (Some (j, p)) i (Some ts) n h k = ((subst (λ (z : ℤ). nat_abs z ≤ 2 ^ 30) (sym h.0) (omega arith), h.1), k)
 
 pub trunk_taps_on : (role : Role) (p x : ℤ) (ms : List Member) (rs : List Z.Route) → Pitch p → KeptRoutes rs → D.trunk_taps role (on p) (on x) ms (map route rs) ≡ option_taps (W.trunk_taps role p x ms rs)
 unfolding D.trunk_taps W.trunk_taps

@@ -6,9 +6,6 @@ use Rattle.std.specs.Bool.{beq}
 use Rattle.std.specs.Float.{binary64}
 use Rattle.std.specs.Float.Ieee.{lt, le, eq, add}
 use Rattle.binary64.specs.Order.{greatest, magnitude, near}
-use Rattle.geometry.specs.declared.Point.{Point}
-use Rattle.geometry.specs.declared.Segment.{Segment}
-use Rattle.geometry.specs.declared.Node.{Node}
 use Rattle.geometry.specs.declared.Role.{Role}
 use Rattle.geometry.specs.declared.Span.{Span}
 use Rattle.geometry.specs.declared.Meet.{Meet}
@@ -34,7 +31,7 @@ use Rattle.grid.proofs.Operations.{lt_on, le_on, eq_on, least_on, greatest_on, a
 use Rattle.grid.proofs.SamePlace.{near_on}
 use Rattle.grid_plan.specs.Sizes.{Fit}
 use Rattle.grid_sheet.specs.Sizes.{OfTap, Lies, Sides, LiesOn, Tame}
-use Rattle.grid_sheet.specs.InnerImage.{hit, span, meeting}
+use Rattle.grid_sheet.specs.InnerImage.{span, meeting}
 
 pub matches_on : (p q : Z.Point) → Lies p → Lies q → C.matches (point p) (point q) ≡ Y.matches p q
 matches_on p q h k = ap (λ (t : Bool). t && near (on p.y) (on q.y)) (near_on p.x q.x (let a = h.0 in let b = k.0 in omega arith)) ∙ ap (λ (t : Bool). same p.x q.x && t) (near_on p.y q.y (let a = h.1 in let b = k.1 in omega arith))
@@ -208,23 +205,23 @@ passes_on a b n h =
     test l s u fx fy = cond l (E.inside s (on n.corner.y) fy (on n.corner.x) fx) (E.inside u (on n.corner.x) fx (on n.corner.y) fy)
 
 -- ---- where a vertical line meets a run
-pub on_line_on : (prefer_end : Bool) (x : ℤ) (a b : Z.Point) → L.on_line prefer_end (on x) (point a) (point b) ≡ hit (Y.on_line prefer_end x a b)
+pub on_line_on : (prefer_end : Bool) (x : ℤ) (a b : Z.Point) → L.on_line prefer_end (on x) (point a) (point b) ≡ tap (Y.on_line prefer_end x a b)
 on_line_on prefer_end x a b =
     rw (least_on a.x b.x, greatest_on a.x b.x, eq_on a.y b.y, le_on (smaller a.x b.x) x, le_on x (larger a.x b.x), eq_on a.x x, eq_on b.x x)
     (go (Y.on_level x a b) (Y.on_upright x a b) prefer_end)
   where
-    go : (s t e : Bool) → cond s (Some (record { x = on x; y = on a.y })) (cond t (cond e (Some (point b)) (Some (point a))) None) ≡ hit (cond s (Some (record { x = x; y = a.y })) (cond t (cond e (Some b) (Some a)) None))
+    go : (s t e : Bool) → cond s (Some (record { x = on x; y = on a.y })) (cond t (cond e (Some (point b)) (Some (point a))) None) ≡ tap (cond s (Some (record { x = x; y = a.y })) (cond t (cond e (Some b) (Some a)) None))
     go true t e = refl
     go false true true = refl
     go false true false = refl
     go false false e = refl
 
-pub on_trunk_on : (role : Role) (p x : ℤ) (a b : Z.Point) → Fit a.x p → Fit b.x p → G.on_trunk role (on p) (on x) (point a) (point b) ≡ hit (Y.on_trunk role p x a b)
+pub on_trunk_on : (role : Role) (p x : ℤ) (a b : Z.Point) → Fit a.x p → Fit b.x p → G.on_trunk role (on p) (on x) (point a) (point b) ≡ tap (Y.on_trunk role p x a b)
 on_trunk_on role p x a b h k =
     ap (λ (s : Option (Float × Float)). cond (G.holds (on x) s) (Some (record { x = on x; y = on a.y })) None) (stretch_on role p a b h k)
     ∙ ap (λ (t : Bool). cond t (Some (record { x = on x; y = on a.y })) None) (holds_on x (S.stretch role p a b))
     ∙ go (S.holds x (S.stretch role p a b))
   where
-    go : (t : Bool) → cond t (Some (record { x = on x; y = on a.y })) None ≡ hit (cond t (Some (record { x = x; y = a.y })) None)
+    go : (t : Bool) → cond t (Some (record { x = on x; y = on a.y })) None ≡ tap (cond t (Some (record { x = x; y = a.y })) None)
     go true = refl
     go false = refl

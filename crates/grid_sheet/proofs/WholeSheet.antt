@@ -3,21 +3,16 @@
 use Rattle.std.specs.Prelude.{◌≡◌, refl, ℕ, ◌^◌, Bool, ℤ, Float, Option, Some, None}
 use Rattle.std.proofs.Common.{ap, ◌∙◌, arith}
 use mathlib.Core.List.{List, [], ◌∷◌, map}
-use Rattle.geometry.specs.Points.{Route}
 use Rattle.board.specs.declared.Bundle.{Bundle}
-use Rattle.board.specs.Board.{Board}
 use Rattle.plan.specs.Depths as L
-use Rattle.plan.specs.Plan as K
 use Rattle.drawing.specs.Sheet as S
 use Rattle.drawing.specs.Normal as N
 use Rattle.sorting.specs.Sorted.{every_map}
 use Rattle.grid_plan.specs.Board as Z
 use Rattle.grid_plan.specs.Depths as D
-use Rattle.grid_plan.specs.Plan as P
 use Rattle.grid_plan.specs.Image.{placed, board, route, bound}
 use Rattle.grid_plan.proofs.Deep.{offsets_on, offsets_sized}
 use Rattle.grid_sheet.specs.Draw as W
-use Rattle.grid_sheet.specs.Page as X
 use Rattle.grid_sheet.specs.Image as M
 use Rattle.grid_sheet.specs.Image.{turn, outcome, page}
 use Rattle.grid_sheet.proofs.Drawing.{OfOutcome, sheet_on, sheet_of_of}

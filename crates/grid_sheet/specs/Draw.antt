@@ -12,7 +12,7 @@ use Rattle.drawing.specs.Verdict.{Verdict, Clean, Refused}
 use Rattle.drawing.specs.Check.{Test, due, barred, walk, among, own, no_edge, every_route}
 use Rattle.grid_plan.specs.Board.{Point, Segment, PlacedNode, Options, Board, Route, runs, rail_depth, endpoint_of, members_in, pitch_of, inward}
 use Rattle.grid_sheet.specs.Touch.{slanted, kind, too_close, passes_inside}
-use Rattle.grid_sheet.specs.Reroute.{Crossing, Nowhere, On, first_shared_trunk_intersection, last_shared_trunk_intersection, rewrite_input_shared_trunk, rewrite_output_shared_trunk, rewrite_input_route, rewrite_output_route}
+use Rattle.grid_sheet.specs.Reroute.{first_shared_trunk_intersection, last_shared_trunk_intersection, rewrite_input_shared_trunk, rewrite_output_shared_trunk, rewrite_input_route, rewrite_output_route}
 use Rattle.grid.specs.On.{at_most, same, smaller, larger, half_of}
 
 abbrev pub pt : ℤ → ℤ → Point
@@ -42,14 +42,14 @@ tap_of [] i = None
 tap_of (t ∷ ts) i = cond (eqb t.edge i) (Some t.place) (tap_of ts i)
 
 -- ---- at the planned x
-unfoldable pub trunk_met : Role → ℤ → ℤ → Route → Crossing
+unfoldable pub trunk_met : Role → ℤ → ℤ → Route → Option (ℕ × Point)
 trunk_met Input pitch x r = first_shared_trunk_intersection r x Input pitch
 trunk_met Output pitch x r = last_shared_trunk_intersection r x Output pitch
 
-unfoldable pub tap_then : Crossing → ℕ → Option (List TapOn) → Option (List TapOn)
-tap_then Nowhere i later = None
-tap_then (On k p) i None = None
-tap_then (On k p) i (Some ts) = Some (record { edge = i; place = p } ∷ ts)
+unfoldable pub tap_then : Option (ℕ × Point) → ℕ → Option (List TapOn) → Option (List TapOn)
+tap_then None i later = None
+tap_then (Some (k, p)) i None = None
+tap_then (Some (k, p)) i (Some ts) = Some (record { edge = i; place = p } ∷ ts)
 
 -- each member's tap at x, if every member's route has one
 unfoldable pub trunk_taps : Role → ℤ → ℤ → List Member → List Route → Option (List TapOn)

@@ -1,22 +1,18 @@
 -- What a sheet in whole numbers is in binary64, n being n / 128. Definitions only.
 -- Assumes nothing.
-use Rattle.std.specs.Prelude.{map, ℤ, Float, Option, Some, None}
+use Rattle.std.specs.Prelude.{map, ℤ, Float, Option, option_map}
 use Rattle.geometry.specs.declared.Point.{Point}
-use Rattle.geometry.specs.declared.Meet.TheVariants as M
 use Rattle.drawing.specs.Build as D
 use Rattle.drawing.specs.Sheet as S
 use Rattle.drawing.specs.Normal as N
 use Rattle.grid_plan.specs.Board as Z
 use Rattle.grid_plan.specs.Image.{point, segment, placed, route}
-use Rattle.grid_sheet.specs.Touch as Y
-use Rattle.grid_sheet.specs.Reroute as R
 use Rattle.grid_sheet.specs.Draw as W
 use Rattle.grid_sheet.specs.Page as X
 use Rattle.grid.specs.On.{on}
 
 abbrev pub tap : Option Z.Point → Option Point
-tap None = None
-tap (Some p) = Some (point p)
+tap o = option_map point o
 
 abbrev pub tap_on : W.TapOn → D.TapOn
 tap_on t = record { edge = t.edge; place = point t.place }
@@ -25,8 +21,7 @@ abbrev pub drawn : W.Drawn → D.Drawn
 drawn d = record { collector = segment d.collector; spine = segment d.spine; taps = map tap_on d.taps; interior = d.interior }
 
 abbrev pub number : Option ℤ → Option Float
-number None = None
-number (Some z) = Some (on z)
+number o = option_map on o
 
 abbrev pub turn : W.Turn → S.Turn
 turn t = record { bundle = t.bundle; planned = number t.planned; offset = on t.offset }

@@ -9,42 +9,38 @@ use Rattle.grid_sheet.specs.Touch.{matches, on_line, on_trunk}
 use Rattle.grid.specs.On.{same}
 
 -- a run's place in its route, and the point met
-pub data Crossing : Type 0 where
-  Nowhere : Crossing
-  On : ℕ → Point → Crossing
+abbrev pub met_at : ℕ → Option Point → Option (ℕ × Point)
+met_at i None = None
+met_at i (Some p) = Some (i, p)
 
-abbrev pub met_at : ℕ → Option Point → Crossing
-met_at i None = Nowhere
-met_at i (Some p) = On i p
-
-unfoldable pub or_else : Crossing → Crossing → Crossing
-or_else Nowhere c = c
-or_else (On i p) c = On i p
+unfoldable pub or_else : Option (ℕ × Point) → Option (ℕ × Point) → Option (ℕ × Point)
+or_else None c = c
+or_else (Some (i, p)) c = Some (i, p)
 
 -- .enumerate().find_map(..): the first of the runs that is met, counted from i on
-unfoldable pub first_met : (Segment → Option Point) → ℕ → List Segment → Crossing
-first_met f i [] = Nowhere
+unfoldable pub first_met : (Segment → Option Point) → ℕ → List Segment → Option (ℕ × Point)
+first_met f i [] = None
 first_met f i (s ∷ ss) = or_else (met_at i (f s)) (first_met f (suc i) ss)
 
 -- .enumerate().rev().find_map(..): the last of them
-unfoldable pub last_met : (Segment → Option Point) → ℕ → List Segment → Crossing
-last_met f i [] = Nowhere
+unfoldable pub last_met : (Segment → Option Point) → ℕ → List Segment → Option (ℕ × Point)
+last_met f i [] = None
 last_met f i (s ∷ ss) = or_else (last_met f (suc i) ss) (met_at i (f s))
 
 -- first_vertical_line_intersection
-abbrev pub first_vertical_line_intersection : Route → ℤ → Crossing
+abbrev pub first_vertical_line_intersection : Route → ℤ → Option (ℕ × Point)
 first_vertical_line_intersection r x = first_met (λ s. on_line false x s.start s.end) 0 (runs r)
 
 -- last_vertical_line_intersection
-abbrev pub last_vertical_line_intersection : Route → ℤ → Crossing
+abbrev pub last_vertical_line_intersection : Route → ℤ → Option (ℕ × Point)
 last_vertical_line_intersection r x = last_met (λ s. on_line true x s.start s.end) 0 (runs r)
 
 -- first_shared_trunk_intersection
-abbrev pub first_shared_trunk_intersection : Route → ℤ → Role → ℤ → Crossing
+abbrev pub first_shared_trunk_intersection : Route → ℤ → Role → ℤ → Option (ℕ × Point)
 first_shared_trunk_intersection r x role minimum_length = first_met (λ s. on_trunk role minimum_length x s.start s.end) 0 (runs r)
 
 -- last_shared_trunk_intersection
-abbrev pub last_shared_trunk_intersection : Route → ℤ → Role → ℤ → Crossing
+abbrev pub last_shared_trunk_intersection : Route → ℤ → Role → ℤ → Option (ℕ × Point)
 last_shared_trunk_intersection r x role minimum_length = last_met (λ s. on_trunk role minimum_length x s.start s.end) 0 (runs r)
 
 -- ---- push_point
@@ -68,9 +64,9 @@ push_points r [] = r
 push_points r (p ∷ ps) = push_points (push_point r p) ps
 
 -- ---- the four rewritings
-unfoldable pub where_met : Crossing → (ℕ → Point → Option Route) → Option Route
-where_met Nowhere k = None
-where_met (On i p) k = k i p
+unfoldable pub where_met : Option (ℕ × Point) → (ℕ → Point → Option Route) → Option Route
+where_met None k = None
+where_met (Some (i, p)) k = k i p
 
 -- where the corridor of a tap stands, its depth away from the tap
 abbrev pub corridor_x : Role → Point → ℤ → ℤ

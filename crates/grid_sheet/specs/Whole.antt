@@ -1,18 +1,10 @@
 -- A job on the drafting grid from its board to its page in whole numbers: document 01's order, as crate promise's Stage has it in binary64. Definitions only.
 -- Assumes nothing.
 use Rattle.std.specs.Prelude.{ℕ, Bool, List, ℤ, Option}
-use Rattle.geometry.specs.Points.{Route}
-use Rattle.board.specs.Board.{Board}
-use Rattle.plan.specs.Depths as L
-use Rattle.plan.specs.Plan as K
-use Rattle.drawing.specs.Sheet as S
-use Rattle.drawing.specs.Normal as N
 use Rattle.grid_plan.specs.Board as Z
 use Rattle.grid_plan.specs.Depths as D
-use Rattle.grid_plan.specs.Plan as P
 use Rattle.grid_sheet.specs.Draw as W
 use Rattle.grid_sheet.specs.Page as X
-use Rattle.grid_sheet.specs.Image as M
 
 -- what a job comes to: a number, or a page with the tap visits and the geometry visits left
 pub data Told : Type 0 where

@@ -1,6 +1,6 @@
 -- What every step of a reading keeps, its end keeps; and what each looking up gives, all of them give. Assumes nothing.
 use Prim.Native.Nat.{ℕ, zero, suc, ◌+◌, ◌-◌, ◌*◌, ◌≤◌, ◌<◌}
-use Rattle.std.specs.Prelude.{◌≡◌, refl, Bool, true, false, cond, eqb, leb, length, take, drop, get_or}
+use Rattle.std.specs.Prelude.{◌≡◌, refl, Bool, true, false, cond, eqb, leb, length, take, drop, get_or, Option, Some, None}
 use Rattle.std.proofs.Math.Path.{sym, ap, subst}
 use Rattle.std.proofs.Common.{◌∙◌, arith, length-append, length-drop, eqb-true, leb-true}
 use mathlib.Core.List.{List, [], ◌∷◌, ◌++◌, map, append-nil, append_assoc, map-append}
@@ -8,7 +8,7 @@ use Rattle.binary64.specs.Bools.{both_true}
 use Rattle.wire.specs.Bytes.{number}
 use Rattle.wire.specs.Read.{refused, got, Reader, field, many}
 use Rattle.wire.proofs.All.{All, all_one_more}
-use Rattle.job.specs.Keys.{Key, same, Known, unknown, known, known_then, place_from, each}
+use Rattle.job.specs.Keys.{Key, same, known_then, place_from, each}
 use Rattle.job.specs.LoopSteps.{Came, came, got_both}
 use Rattle.job.specs.Job.{push}
 
@@ -85,15 +85,15 @@ field_takes w s n t e = go (leb w (length s)) refl e
     go false q h = let z : ◌≡◌ {A = ℕ} 0 1 = cc in absurd (omega arith)
 
 -- ---- looking up
-pub known_came : {A B : Type 0} (x : Known A) (f : A → Known B) (b : B) → known_then x f ≡ known b → (a : A) × (x ≡ known a) × (f a ≡ known b)
+pub known_came : {A B : Type 0} (x : Option A) (f : A → Option B) (b : B) → known_then x f ≡ Some b → (a : A) × (x ≡ Some a) × (f a ≡ Some b)
 unfolding known_then
-known_came unknown f b e = let z : ◌≡◌ {A = ℕ} 0 1 = cc in absurd (omega arith)
-known_came (known a) f b e = (a, refl, e)
+known_came None f b e = let z : ◌≡◌ {A = ℕ} 0 1 = cc in absurd (omega arith)
+known_came (Some a) f b e = (a, refl, e)
 
-module _ {A B : Type 0} (f : A → Known B) where
+module _ {A B : Type 0} (f : A → Option B) where
   -- what each one gives
-  pub each_all : (P : A → Type 0) (Q : B → Type 0) → ((a : A) (b : B) → P a → f a ≡ known b → Q b)
-      → (l : List A) (out r : List B) → All P l → All Q out → each f l out ≡ known r → All Q r
+  pub each_all : (P : A → Type 0) (Q : B → Type 0) → ((a : A) (b : B) → P a → f a ≡ Some b → Q b)
+      → (l : List A) (out r : List B) → All P l → All Q out → each f l out ≡ Some r → All Q r
   unfolding each All
   each_all P Q step [] out r h k e =
       let x : out ≡ r = cc in
@@ -103,8 +103,8 @@ module _ {A B : Type 0} (f : A → Known B) where
       each_all P Q step l (out ++ (c.0 ∷ [])) r h.1 (all_one_more Q out c.0 k (step a c.0 h.0 c.1)) c.2
 
   -- what each one keeps
-  pub each_map : {C : Type 0} (g : B → C) (h : A → C) → ((a : A) (b : B) → f a ≡ known b → g b ≡ h a)
-      → (l : List A) (out r : List B) → each f l out ≡ known r → map g r ≡ map g out ++ map h l
+  pub each_map : {C : Type 0} (g : B → C) (h : A → C) → ((a : A) (b : B) → f a ≡ Some b → g b ≡ h a)
+      → (l : List A) (out r : List B) → each f l out ≡ Some r → map g r ≡ map g out ++ map h l
   unfolding each
   each_map g h step [] out r e =
       let x : out ≡ r = cc in
@@ -117,21 +117,21 @@ module _ {A B : Type 0} (f : A → Known B) where
       ∙ ap (λ z. map g out ++ (z ∷ map h l)) (step a c.0 c.1)
 
 -- a place is one of the list, and the key stands there
-pub place_inside : (j : ℕ) (k : Key) (ks : List Key) (i : ℕ) → place_from j k ks ≡ known i → (j ≤ i) × (i < j + length ks)
+pub place_inside : (j : ℕ) (k : Key) (ks : List Key) (i : ℕ) → place_from j k ks ≡ Some i → (j ≤ i) × (i < j + length ks)
 unfolding place_from
 place_inside j k [] i e = let z : ◌≡◌ {A = ℕ} 0 1 = cc in absurd (omega arith)
 place_inside j k (l ∷ ks) i e = go (same l k) (λ h. place_inside (suc j) k ks i h) e
   where
-    go : (b : Bool) → (place_from (suc j) k ks ≡ known i → (suc j ≤ i) × (i < suc j + length ks)) → cond b (known j) (place_from (suc j) k ks) ≡ known i → (j ≤ i) × (i < j + suc (length ks))
+    go : (b : Bool) → (place_from (suc j) k ks ≡ Some i → (suc j ≤ i) × (i < suc j + length ks)) → cond b (Some j) (place_from (suc j) k ks) ≡ Some i → (j ≤ i) × (i < j + suc (length ks))
     go true f h = let x : j ≡ i = cc in (omega arith, omega arith)
     go false f h = let r = f h in (omega arith, omega arith)
 
-pub place_hits : (j : ℕ) (k : Key) (ks : List Key) (i : ℕ) (d : Key) → place_from j k ks ≡ known i → get_or ks (i - j) d ≡ k
+pub place_hits : (j : ℕ) (k : Key) (ks : List Key) (i : ℕ) (d : Key) → place_from j k ks ≡ Some i → get_or ks (i - j) d ≡ k
 unfolding place_from
 place_hits j k [] i d e = let z : ◌≡◌ {A = ℕ} 0 1 = cc in absurd (omega arith)
 place_hits j k (l ∷ ks) i d e = go (same l k) refl (λ h. place_hits (suc j) k ks i d h) e
   where
-    go : (b : Bool) → same l k ≡ b → (place_from (suc j) k ks ≡ known i → get_or ks (i - suc j) d ≡ k) → cond b (known j) (place_from (suc j) k ks) ≡ known i → get_or (l ∷ ks) (i - j) d ≡ k
+    go : (b : Bool) → same l k ≡ b → (place_from (suc j) k ks ≡ Some i → get_or ks (i - suc j) d ≡ k) → cond b (Some j) (place_from (suc j) k ks) ≡ Some i → get_or (l ∷ ks) (i - j) d ≡ k
     go true q f h =
         let x : i - j ≡ 0 = let y : j ≡ i = cc in omega arith in
         let r = both_true (eqb l.0 k.0) (eqb l.1 k.1) q in

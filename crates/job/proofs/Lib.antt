@@ -3,6 +3,7 @@ pub mod Claims
 pub mod GoodRecords
 pub mod GoodTables
 pub mod Kept
+pub mod KeyColumns
 pub mod Lookups
 pub mod Sound
 pub mod Steps

@@ -1,5 +1,5 @@
 -- What holds of every accepted job: its numbers, its places, its windows, its totals, its ids, and the bytes it has. Assumes nothing.
-use Rattle.std.specs.Prelude.{ℕ, ◌+◌, ◌-◌, ◌≤◌, ◌<◌, Bool, true, false, cond, eqb, length, drop, get_or}
+use Rattle.std.specs.Prelude.{ℕ, ◌+◌, ◌-◌, ◌≤◌, ◌<◌, Bool, true, false, cond, eqb, length, drop, get_or, Option, Some, None}
 use Rattle.std.proofs.Math.Path.{◌≡◌, refl, ap, subst}
 use Rattle.std.proofs.Common.{sym, ◌∙◌, arith, length-append, length-drop}
 use mathlib.Core.List.{List, [], ◌∷◌, ◌++◌, map}
@@ -21,7 +21,7 @@ use Rattle.job.specs.declared.RawPort.{RawPort}
 use Rattle.job.specs.declared.RawEdge.{RawEdge}
 use Rattle.job.specs.declared.RawBundle.{RawBundle}
 use Rattle.job.specs.declared.RawMember.{RawMember}
-use Rattle.job.specs.Keys.{Key, twice, Known, unknown, known, place, each}
+use Rattle.job.specs.Keys.{Key, twice, place, each}
 use Rattle.job.proofs.Kept.{field_takes, known_came, each_all, each_map, place_inside, place_hits}
 use Rattle.job.specs.Job.{options, grants, counts, header, node, port, Tables, tables, node_key, port_key, edge_key, bundle_key, some_twice, port_of, edge_of, bundle_of, member_of, resolved, Job, Outcome, refusal, or_nine, settled, outcome, fields, version, lengths_fit, read_job}
 use Rattle.job.specs.Job as job
@@ -30,57 +30,57 @@ use Rattle.job.proofs.GoodRecords.{GoodNumber, GoodPoint, GoodOptions, GoodNode,
 use Rattle.job.proofs.GoodTables.{sum, starts, RawGoodEdge, RawGoodBundle, GoodGrants, GoodHeader, header_good, RawSound, tables_good}
 
 -- ---- ids looked up
-known_value : {A : Type 0} (a b : A) → known a ≡ known b → a ≡ b
+known_value : {A : Type 0} (a b : A) → Some a ≡ Some b → a ≡ b
 known_value a b h = cc
 
 pub record PortFrom (nodes : List Key) (p : RawPort) (q : Port) : Type 0 where
-  pub found : place (p.node, 0) nodes ≡ known q.node
+  pub found : place (p.node, 0) nodes ≡ Some q.node
   pub id : q.id ≡ p.id
   pub offset : q.offset ≡ p.offset
 
-port_from : (nodes : List Key) (p : RawPort) (q : Port) → port_of nodes p ≡ known q → PortFrom nodes p q
+port_from : (nodes : List Key) (p : RawPort) (q : Port) → port_of nodes p ≡ Some q → PortFrom nodes p q
 unfolding port_of
 port_from nodes p q e =
     let c = known_came (place (p.node, 0) nodes) _ q e in
     let r = known_value (record { node = c.0; id = p.id; side = p.side; offset = p.offset }) q c.2 in
-    record { found = c.1 ∙ ap (λ (x : Port). known x.node) r; id = sym (ap (λ (x : Port). x.id) r); offset = sym (ap (λ (x : Port). x.offset) r) }
+    record { found = c.1 ∙ ap (λ (x : Port). Some x.node) r; id = sym (ap (λ (x : Port). x.id) r); offset = sym (ap (λ (x : Port). x.offset) r) }
 
 pub record EdgeFrom (nodes : List Key) (p : RawEdge) (q : Edge) : Type 0 where
-  pub source : place (p.source, 0) nodes ≡ known q.source
-  pub target : place (p.target, 0) nodes ≡ known q.target
+  pub source : place (p.source, 0) nodes ≡ Some q.source
+  pub target : place (p.target, 0) nodes ≡ Some q.target
   pub id : q.id ≡ p.id
   pub first : q.first ≡ p.first
   pub count : q.count ≡ p.count
 
-edge_from : (nodes : List Key) (p : RawEdge) (q : Edge) → edge_of nodes p ≡ known q → EdgeFrom nodes p q
+edge_from : (nodes : List Key) (p : RawEdge) (q : Edge) → edge_of nodes p ≡ Some q → EdgeFrom nodes p q
 unfolding edge_of
 edge_from nodes p q e =
     let c = known_came (place (p.source, 0) nodes) _ q e in
     let d = known_came (place (p.target, 0) nodes) _ q c.2 in
     let r = known_value (record { id = p.id; source = c.0; target = d.0; first = p.first; count = p.count }) q d.2 in
     record {
-      source = c.1 ∙ ap (λ (x : Edge). known x.source) r;
-      target = d.1 ∙ ap (λ (x : Edge). known x.target) r;
+      source = c.1 ∙ ap (λ (x : Edge). Some x.source) r;
+      target = d.1 ∙ ap (λ (x : Edge). Some x.target) r;
       id = sym (ap (λ (x : Edge). x.id) r);
       first = sym (ap (λ (x : Edge). x.first) r);
       count = sym (ap (λ (x : Edge). x.count) r);
     }
 
 pub record BundleFrom (ports : List Key) (p : RawBundle) (q : Bundle) : Type 0 where
-  pub port : place (p.node, p.port) ports ≡ known q.port
+  pub port : place (p.node, p.port) ports ≡ Some q.port
   pub id : q.id ≡ p.id
   pub role : q.role ≡ p.role
   pub first : q.first ≡ p.first
   pub count : q.count ≡ p.count
 
-bundle_from : (nodes ports : List Key) (p : RawBundle) (q : Bundle) → bundle_of nodes ports p ≡ known q → BundleFrom ports p q
+bundle_from : (nodes ports : List Key) (p : RawBundle) (q : Bundle) → bundle_of nodes ports p ≡ Some q → BundleFrom ports p q
 unfolding bundle_of
 bundle_from nodes ports p q e =
     let c = known_came (place (p.node, 0) nodes) _ q e in
     let d = known_came (place (p.node, p.port) ports) _ q c.2 in
     let r = known_value (record { id = p.id; port = d.0; role = p.role; width = p.width; first = p.first; count = p.count }) q d.2 in
     record {
-      port = d.1 ∙ ap (λ (x : Bundle). known x.port) r;
+      port = d.1 ∙ ap (λ (x : Bundle). Some x.port) r;
       id = sym (ap (λ (x : Bundle). x.id) r);
       role = sym (ap (λ (x : Bundle). x.role) r);
       first = sym (ap (λ (x : Bundle). x.first) r);
@@ -88,15 +88,15 @@ bundle_from nodes ports p q e =
     }
 
 pub record MemberFrom (edges : List Key) (p : RawMember) (q : Member) : Type 0 where
-  pub edge : place (p.edge, 0) edges ≡ known q.edge
+  pub edge : place (p.edge, 0) edges ≡ Some q.edge
   pub lane : q.tap_lane ≡ p.tap_lane
 
-member_from : (edges : List Key) (p : RawMember) (q : Member) → member_of edges p ≡ known q → MemberFrom edges p q
+member_from : (edges : List Key) (p : RawMember) (q : Member) → member_of edges p ≡ Some q → MemberFrom edges p q
 unfolding member_of
 member_from edges p q e =
     let c = known_came (place (p.edge, 0) edges) _ q e in
     let r = known_value (record { edge = c.0; tap_lane = p.tap_lane }) q c.2 in
-    record { edge = c.1 ∙ ap (λ (x : Member). known x.edge) r; lane = sym (ap (λ (x : Member). x.tap_lane) r) }
+    record { edge = c.1 ∙ ap (λ (x : Member). Some x.edge) r; lane = sym (ap (λ (x : Member). x.tap_lane) r) }
 
 -- ---- the whole
 -- the id of the node at a place, 0 past the end
@@ -140,7 +140,7 @@ pub record Sound (j : Job) : Type 0 where
   -- an edge stands once among the members of one role's bundles
   pub member_edges : twice (claims (map claim_of j.board.bundles) (map (λ (m : Member). edge_at j.board.edges m.edge) j.board.members)) ≡ false
 
-each_count : {A B : Type 0} (f : A → Known B) (l : List A) (out r : List B) → each f l out ≡ known r → length r ≡ length out + length l
+each_count : {A B : Type 0} (f : A → Option B) (l : List A) (out r : List B) → each f l out ≡ Some r → length r ≡ length out + length l
 unfolding each
 each_count f [] out r e =
     let x : out ≡ r = cc in
@@ -152,10 +152,10 @@ each_count f (a ∷ l) out r e =
     let y : length (out ++ (c.0 ∷ [])) ≡ length out + 1 = simp length-append in
     omega arith
 
-inside : (k : Key) (ks : List Key) (i n : ℕ) → place k ks ≡ known i → length ks ≡ n → i < n
+inside : (k : Key) (ks : List Key) (i n : ℕ) → place k ks ≡ Some i → length ks ≡ n → i < n
 inside k ks i n e h = let r = place_inside 0 k ks i e in omega (arith, r.1, h)
 
-first_of : (ks : List Key) (i x : ℕ) → place (x, 0) ks ≡ known i → (get_or ks i (0, 0)).0 ≡ x
+first_of : (ks : List Key) (i x : ℕ) → place (x, 0) ks ≡ Some i → (get_or ks i (0, 0)).0 ≡ x
 first_of ks i x e =
     let z : i - 0 ≡ i = omega arith in
     ap (λ (m : ℕ). (get_or ks m (0, 0)).0) (sym z) ∙ ap (λ (k : Key). k.0) (place_hits 0 (x, 0) ks i (0, 0) e)
@@ -180,8 +180,8 @@ module _ (h : Header) (size : ℕ) (t : Tables) (g : GoodHeader h) (r : RawSound
   job_with b = record { flags = h.flags; grants = h.grants; board = b; points = t.edges.points }
 
   module _ (ps : List Port) (es : List Edge) (bs : List Bundle) (ms : List Member)
-      (kp : each (port_of node_keys) t.ports [] ≡ known ps) (ke : each (edge_of node_keys) t.edges.edges [] ≡ known es)
-      (kb : each (bundle_of node_keys port_keys) t.bundles.bundles [] ≡ known bs) (km : each (member_of edge_keys) t.bundles.members [] ≡ known ms)
+      (kp : each (port_of node_keys) t.ports [] ≡ Some ps) (ke : each (edge_of node_keys) t.edges.edges [] ≡ Some es)
+      (kb : each (bundle_of node_keys port_keys) t.bundles.bundles [] ≡ Some bs) (km : each (member_of edge_keys) t.bundles.members [] ≡ Some ms)
       (once : some_twice t ≡ false) where
     board_sound : Sound (job_with (record { options = h.options; nodes = t.nodes; ports = ps; edges = es; bundles = bs; members = ms }))
     unfolding some_twice All
@@ -256,7 +256,7 @@ module _ (h : Header) (size : ℕ) (t : Tables) (g : GoodHeader h) (r : RawSound
               ∙ r.claimed) ∙ o3.1;
         }
 
-  resolved_sound : (b : Board) → some_twice t ≡ false → resolved h.options t ≡ known b → Sound (job_with b)
+  resolved_sound : (b : Board) → some_twice t ≡ false → resolved h.options t ≡ Some b → Sound (job_with b)
   unfolding resolved
   resolved_sound b q u =
       let c = known_came (each (port_of node_keys) t.ports []) _ b u in
@@ -266,10 +266,10 @@ module _ (h : Header) (size : ℕ) (t : Tables) (g : GoodHeader h) (r : RawSound
       let v = known_value (record { options = h.options; nodes = t.nodes; ports = c.0; edges = d.0; bundles = e.0; members = f.0 }) b f.2 in
       subst (λ (x : Board). Sound (job_with x)) v (board_sound c.0 d.0 e.0 f.0 c.1 d.1 e.1 f.1 q)
 
-  nine_sound : (k : Known Board) (j : Job) → some_twice t ≡ false → resolved h.options t ≡ k → or_nine k h t.edges.points ≡ job.accepted j → Sound j
+  nine_sound : (k : Option Board) (j : Job) → some_twice t ≡ false → resolved h.options t ≡ k → or_nine k h t.edges.points ≡ job.accepted j → Sound j
   unfolding or_nine
-  nine_sound unknown j q u w = let z : ◌≡◌ {A = ℕ} 0 1 = cc in absurd (omega arith)
-  nine_sound (known b) j q u w =
+  nine_sound None j q u w = let z : ◌≡◌ {A = ℕ} 0 1 = cc in absurd (omega arith)
+  nine_sound (Some b) j q u w =
       let v : job_with b ≡ j = accepted_value (job_with b) j w in
       subst Sound v (resolved_sound b q u)
     where

@@ -1,5 +1,5 @@
 -- The whole reader, step by step: what the outcome is once this much has been read. Assumes nothing.
-use Rattle.std.specs.Prelude.{ℕ, ◌-◌, ◌≤◌, ◌<◌, ◌≡◌, Bool, ◌&&◌, ◌||◌, List, [], map, take, drop, get_or, replicate, Result, Ok, Err}
+use Rattle.std.specs.Prelude.{ℕ, ◌-◌, ◌≤◌, ◌<◌, ◌≡◌, Bool, ◌&&◌, ◌||◌, List, [], take, drop, get_or, Result, Ok, Err, Some}
 use Rattle.std.proofs.Math.Path.{refl}
 use Rattle.std.proofs.Common.{ap, ◌∙◌, arith}
 use Rattle.std.proofs.Math.Bool.{true, false}
@@ -7,7 +7,6 @@ use Rattle.std.proofs.Math.ListN.{length, length-drop}
 use borrow.Author.Tests.{le-leb, lt-leb, eq-eqb, ne_eqb}
 use Rattle.refusal.specs.declared.Refusal.{Refusal}
 use Rattle.refusal.specs.Refusal.{refusal_number}
-use Rattle.limits.specs.Limits.{key_room}
 use Rattle.wire.specs.Bytes.{number}
 use Rattle.wire.proofs.BytesLaws.{number_one}
 use Rattle.wire.specs.Read.{Read, refused, got, after, many}
@@ -21,11 +20,9 @@ use Rattle.board.specs.Board.{Board}
 use Rattle.job.specs.declared.Counts.{Counts}
 use Rattle.job.specs.declared.Header.{Header}
 use Rattle.job.specs.declared.RawPort.{RawPort}
-use Rattle.job.specs.Keys.{Key, twice, known, known_then, each}
-use Rattle.job.specs.Job.{Tables, EdgeList, BundleList, Outcome, refusal, accepted, push, node, port, next_edge, next_bundle, ended, tables, some_twice, resolved, or_nine, settled, outcome, fields, version, lengths_fit, read_job, header, port_of, edge_of, bundle_of, member_of, port_key, member_key}
-use Rattle.job.specs.LoopSteps.{keys_alone}
-use Rattle.job.specs.Heads.{Limits}
-use Rattle.job.specs.Reads.{TableTold, ended_as, known_as, first_keys, node_id, edge_id, bundle_id}
+use Rattle.job.specs.Keys.{Key, twice, known_then, each}
+use Rattle.job.specs.Job.{Tables, EdgeList, BundleList, Outcome, refusal, accepted, push, node, port, next_edge, next_bundle, ended, tables, some_twice, resolved, or_nine, settled, outcome, fields, version, lengths_fit, read_job, header, port_of, edge_of, bundle_of, member_of}
+use Rattle.job.specs.Reads.{TableTold, ended_as, known_as}
 use Rattle.job.specs.AllTables.{Keyed}
 
 -- ---- answers of the tables
@@ -78,21 +75,6 @@ module _ (grid : Bool) (c : Counts) (s : List ℕ) (g : Tables → List ℕ → 
               rw (en, ep, ee, eb, eq-eqb (length (drop at w)) 0 k)
 
 -- ---- 8 and 9
--- the keys of tables whose columns are whole, ids that stand alone having zeros beside them
-pub keyed_tables : (t : Tables) (c : Counts) (total : ℕ) (nodes port_nodes port_ids edges bundles member_edges member_roles : List ℕ)
-    → Limits c → length nodes ≡ key_room → length edges ≡ key_room → length bundles ≡ key_room
-    → take c.nodes nodes ≡ map node_id t.nodes → first_keys port_nodes port_ids c.ports ≡ map port_key t.ports → take c.edges edges ≡ map edge_id t.edges.edges
-    → take c.bundles bundles ≡ map bundle_id t.bundles.bundles → first_keys member_edges member_roles total ≡ map member_key t.bundles.members
-    → Keyed (first_keys nodes (replicate key_room 0) c.nodes) (first_keys port_nodes port_ids c.ports) (first_keys edges (replicate key_room 0) c.edges) (first_keys bundles (replicate key_room 0) c.bundles)
-    (first_keys member_edges member_roles total) t
-keyed_tables t c total nodes port_nodes port_ids edges bundles member_edges member_roles l ln le lb kn kp ke kb km = record {
-  of_nodes = keys_alone node_id nodes t.nodes c.nodes key_room (omega (arith, l.nodes)) (omega (arith, l.nodes, ln)) kn;
-  of_ports = kp;
-  of_edges = keys_alone edge_id edges t.edges.edges c.edges key_room l.edges (omega (arith, l.edges, le)) ke;
-  of_bundles = keys_alone bundle_id bundles t.bundles.bundles c.bundles key_room (omega (arith, l.bundles)) (omega (arith, l.bundles, lb)) kb;
-  of_members = km;
-}
-
 module _ (h : Header) (t : Tables) (nk pk ek bk mk : List Key) (r : Keyed nk pk ek bk mk t) (x : Bool) (found : x ≡ (twice nk || (twice pk || (twice ek || (twice bk || twice mk))))) where
   twice_is : some_twice t ≡ x
   unfolding some_twice
@@ -109,7 +91,7 @@ module _ (h : Header) (t : Tables) (nk pk ek bk mk : List Key) (r : Keyed nk pk 
     board = record { options = h.options; nodes = t.nodes; ports = ps; edges = es; bundles = bs; members = ms }
 
     all_of : (a b c d : Bool) → known_then (known_as a ps) (λ ports. known_then (known_as b es) (λ edges. known_then (known_as c bs) (λ bundles. known_then (known_as d ms) (λ members.
-        known (record { options = h.options; nodes = t.nodes; ports = ports; edges = edges; bundles = bundles; members = members }))))) ≡ known_as (a && (b && (c && d))) board
+        Some (record { options = h.options; nodes = t.nodes; ports = ports; edges = edges; bundles = bundles; members = members }))))) ≡ known_as (a && (b && (c && d))) board
     unfolding known_then known_as
     all_of true true true true = refl
     all_of true true true false = refl

@@ -3,55 +3,37 @@
 #![tactic(auto)]
 
 ghost use Rattle.std.specs.Prelude.{◌≡◌, ◌<◌, ◌≤◌, length};
-ghost use Rattle.limits.specs.Limits.{max_bundles, key_room};
-ghost use Rattle.job.specs.Reads.{first_keys, BundlesTold};
+ghost use Rattle.limits.specs.Limits.{max_bundles, max_members};
+ghost use Rattle.job.specs.Reads.{BundlesTold};
 
-use board::{Bundle, Bundles, Member, Members};
-use geometry::Role;
+use board::{Bundle, Bundles, Member, Members, NO_BUNDLE};
 use job::BundlesRead;
-use limits::{KEY_ROOM, MAX_BUNDLES, MAX_MEMBERS};
+use job_keys::TableKeys;
+use limits::{MAX_BUNDLES, MAX_MEMBERS};
 use refusal::Refusal;
 
 // ---- tables
 //
-// The keys of a table's rows go to lent columns, one number to a row. Where an id stands alone the
-// second column is one of zeros. An id is looked up in the columns of the tables before.
+// The bundles' keys go to a lent slice, which has one place for each bundle, and their members' keys,
+// an edge and its role, to the front of another. An id is looked up in the keys of the tables before.
 
-pub fn read_bundles(
+pub fn read_bundles<'a>(
     s: &[u8],
     from: usize,
-    count: usize,
-    node_ids: &[u64; KEY_ROOM],
-    n: usize,
-    port_nodes: &[u64; KEY_ROOM],
-    port_ids: &[u64; KEY_ROOM],
-    p: usize,
-    edge_ids: &[u64; KEY_ROOM],
-    e: usize,
-    zeros: &[u64; KEY_ROOM],
-    ids: &mut [u64],
-    edges: &mut [u64],
-    roles: &mut [u64],
+    tables: TableKeys<'a>,
+    keys: &mut [(u64, u64)],
+    member_keys: &mut [(u64, u64)],
 ) -> Result<BundlesRead, Refusal>
-    requires from_bound { (from < 60000) × (count ≤ max_bundles) × (n ≤ key_room) × (p ≤ key_room) × (e ≤ key_room) }
-    requires node_ids_len { (length node_ids.now ≡ key_room) × (length port_nodes.now ≡ key_room) × (length port_ids.now ≡ key_room) × (length edge_ids.now ≡ key_room) × (length zeros.now ≡ key_room) }
-    requires ids_len { (length ids.old ≡ key_room) × (length edges.old ≡ key_room) × (length roles.old ≡ key_room) }
-    ensures { BundlesTold s.now from count (first_keys node_ids.now zeros.now n) (first_keys port_nodes.now port_ids.now p) (first_keys edge_ids.now zeros.now e) ids.new edges.new roles.new result }
+    requires { (from < 60000) × (length keys.old ≤ max_bundles) × (length member_keys.old ≡ max_members) }
+    ensures { BundlesTold s.now from (length keys.old) tables.entry.nodes.now tables.entry.ports.now tables.entry.edges.now keys.new member_keys.new result }
 {
-    let none = Bundle {
-        id: 0,
-        port: 0,
-        role: Role::Input,
-        width: 0,
-        first: 0,
-        count: 0,
-    };
     let nobody = Member {
         edge: 0,
         tap_lane: 0,
     };
-    let mut rows = [none; MAX_BUNDLES];
+    let mut rows = [NO_BUNDLE; MAX_BUNDLES];
     let mut member_rows = [nobody; MAX_MEMBERS];
+    let count = keys.len();
     let mut known = true;
     let mut members_known = true;
     let mut at = from;
@@ -61,18 +43,17 @@ pub fn read_bundles(
         let role_key = job_records::number_of_role(b.role);
         for j in 0..b.count {
             let x = job_records::member_at(s, at + 19 + 6 * j, b.role)?;
-            let f = job_keys::find(edge_ids, zeros, 0, e, x.edge, 0);
+            let f = job_keys::find(tables.edges, 0, (x.edge, 0));
             members_known = members_known & f.is_some();
             member_rows[total] = Member {
                 edge: f.unwrap_or(0),
                 tap_lane: x.tap_lane,
             };
-            edges[total] = x.edge;
-            roles[total] = role_key;
+            member_keys[total] = (x.edge, role_key);
             total += 1;
         }
-        let f = job_keys::find(node_ids, zeros, 0, n, b.node, 0);
-        let g = job_keys::find(port_nodes, port_ids, 0, p, b.node, b.port);
+        let f = job_keys::find(tables.nodes, 0, (b.node, 0));
+        let g = job_keys::find(tables.ports, 0, (b.node, b.port));
         known = known & (f.is_some() & g.is_some());
         rows[i] = Bundle {
             id: b.id,
@@ -82,7 +63,7 @@ pub fn read_bundles(
             first: b.first,
             count: b.count,
         };
-        ids[i] = b.id;
+        keys[i] = (b.id, 0);
         at += 19 + 6 * b.count;
     }
     Ok(BundlesRead {

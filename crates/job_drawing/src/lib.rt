@@ -7,15 +7,21 @@
 #![tactic(auto)]
 
 ghost use Rattle.std.specs.Prelude.{◌≡◌, false, ◌≤◌, length};
-ghost use Rattle.limits.specs.Limits.{max_edges, max_members, answer_room, page_room, crossings_room, point_numbers, tap_numbers, slot_numbers, candidate_room};
+ghost use Rattle.limits.specs.Limits.{max_edges, max_members, answer_room, page_room, crossings_room, point_numbers, tap_numbers, candidate_room};
 ghost use Rattle.plan_stage.specs.Entries.{told_with};
 ghost use Rattle.outputs.specs.Outputs.{lacks, after_all, outputs_told};
 ghost use Rattle.draw_job.specs.JobTables.{Writes};
 
+use draw_job::SheetWork;
 use limits::{ALL_SLOT_NUMBERS, FEW_ROUTES, FEW_SLOT_NUMBERS};
 use outputs::Wants;
 
 // ---- the sheet (10, 11, 12, 14) and the answer
+
+// The slices that the job is read into and sorted in have the sizes that the entry gives them: no heap is
+// asked for, and the facts stand where the memory is handed on.
+
+// The three outputs stay apart, as in draw_job::draw_in.
 
 // Reads the job and draws it, with the slots of the present routes its own: 91 where that is enough, as
 // most of a small board's time would go into clearing 256.
@@ -25,45 +31,26 @@ pub fn read_and_draw(
     plan: &[u8],
     given: &mut [f64],
     sorted: &mut [f64],
-    edges: &mut [usize],
-    lanes: &mut [u32],
-    taps: &mut [f64],
-    counts: &mut [usize],
-    mask: &mut [bool],
-    scratch: &mut [f64],
+    work: SheetWork,
     answer: &mut [u8],
     page: &mut [u8],
     crossings: &mut [u8],
 ) -> usize
     requires given_len { (length given.old ≡ point_numbers) × (answer_room ≤ length answer.old) × (lacks wants.page (length page.old) page_room ≡ false) × (lacks wants.crossings (length crossings.old) crossings_room ≡ false) }
     requires sorted_len { length sorted.old ≡ candidate_room }
-    requires edges_len { (length edges.old ≡ max_members) × (length lanes.old ≡ max_members) × (length taps.old ≡ tap_numbers) × (length counts.old ≡ max_edges) × (length mask.old ≡ max_edges) × (length scratch.old ≡ slot_numbers) }
+    requires edges_len { (length work.edges.now ≡ max_members) × (length work.lanes.now ≡ max_members) × (length work.taps.now ≡ tap_numbers) × (length work.counts.now ≡ max_edges) }
     ensures { Writes (record { answer = answer.old; page = page.old; crossings = crossings.old }) (record { answer = answer.new; page = page.new; crossings = crossings.new }) result (outputs_told wants (after_all wants (told_with wants.plan job.now plan.now))) }
 {
     let j = match job_reader::read_job(job, given) {
         Ok(j) => j,
         Err(r) => return answer::write_notice(answer, u8::from(r)),
     };
-    let m = j.members.count;
     let n = j.edges.count;
+    let drawn = draw_job::work_for(work, j.members.count, n);
     if n <= FEW_ROUTES {
         let mut few = [0.0; FEW_SLOT_NUMBERS];
         return draw_job::draw_in(
-            wants,
-            j,
-            plan,
-            given,
-            sorted,
-            &mut edges[..m],
-            &mut lanes[..m],
-            taps,
-            &mut few,
-            &mut counts[..n],
-            mask,
-            scratch,
-            answer,
-            page,
-            crossings,
+            wants, j, plan, given, sorted, drawn, &mut few, answer, page, crossings,
         );
     }
     let mut points = [0.0; ALL_SLOT_NUMBERS];
@@ -73,13 +60,8 @@ pub fn read_and_draw(
         plan,
         given,
         sorted,
-        &mut edges[..m],
-        &mut lanes[..m],
-        taps,
+        drawn,
         &mut points,
-        &mut counts[..n],
-        mask,
-        scratch,
         answer,
         page,
         crossings,

@@ -41,6 +41,8 @@ fn flags_of(n: u32) -> Result<Flags, Refusal>
 
 // ---- the head
 
+// Places are asked to be below job_room, and are numbers, as in crate wire.
+
 pub fn options_at(s: &[u8], grid: bool, at: usize) -> Result<Options, Refusal>
     requires { at < job_room }
     ensures { told result (drop (at + 40) s.now) ≡ options grid (drop at s.now) }

@@ -14,8 +14,11 @@ ghost use Rattle.plan_stage.specs.Entries.{after_search, plan_told};
 ghost use Rattle.job_planning.specs.PlanWrites.{PlanWrites};
 
 use job::Job;
+use plan::tables::BoardTables;
 use refusal::Refusal;
 use search::TapVisits;
+
+// That the points are the job's is a fact of the job and the slice that it was read into.
 
 // The plan (13) of a job that was read: its bytes, or the notice of 13.
 fn plan_in(j: Job, given: &[f64], sorted: &mut [f64], work: &mut [f64], plan: &mut [u8]) -> usize
@@ -23,16 +26,17 @@ fn plan_in(j: Job, given: &[f64], sorted: &mut [f64], work: &mut [f64], plan: &m
     requires sorted_len { (length sorted.old ≡ candidate_room) × (length work.old ≡ search_work) }
     ensures { PlanWrites plan.old plan.new result (after_search (planned (job_in j given.now))) }
 {
-    let offsets = plan_depths::corridor_depth_offsets(
-        j.options, j.nodes, j.ports, j.bundles, j.members,
-    );
+    let t = BoardTables {
+        options: j.options,
+        nodes: &j.nodes,
+        ports: &j.ports,
+        edges: &j.edges,
+        bundles: &j.bundles,
+        members: &j.members,
+    };
+    let offsets = plan_depths::corridor_depth_offsets(t);
     let s = planner::plan_interior_collectors(
-        j.options,
-        j.nodes,
-        j.ports,
-        j.edges,
-        j.bundles,
-        j.members,
+        t,
         offsets,
         given,
         j.flags.separates_collectors,

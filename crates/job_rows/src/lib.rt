@@ -3,32 +3,31 @@
 #![tactic(auto)]
 
 ghost use Rattle.std.specs.Prelude.{◌≡◌, ◌+◌, ◌*◌, ◌<◌, ◌≤◌, length, drop};
-ghost use Rattle.limits.specs.Limits.{max_nodes, max_ports, max_edges, max_route_points, max_points, key_room, point_numbers};
+ghost use Rattle.limits.specs.Limits.{max_nodes, max_ports, max_edges, max_route_points, max_points, point_numbers};
 ghost use Rattle.wire.specs.Read.{many};
 ghost use Rattle.geometry.specs.Points.{points_from};
 ghost use Rattle.job.specs.Job.{point, push};
-ghost use Rattle.job.specs.Reads.{first_keys, ended_as, NodesTold, PortsTold, EdgesTold};
+ghost use Rattle.job.specs.Reads.{ended_as, NodesTold, PortsTold, EdgesTold};
 
 use board::{Edge, PlacedNode, Port};
 use geometry::{Node, Point, Side};
 use job::{EdgesRead, NodesRead, PortsRead};
-use limits::{KEY_ROOM, MAX_EDGES, MAX_NODES, MAX_PORTS};
+use limits::{MAX_EDGES, MAX_NODES, MAX_PORTS};
 use refusal::Refusal;
 
 // ---- tables
 //
-// The keys of a table's rows go to lent columns, one number to a row. Where an id stands alone the
-// second column is one of zeros. An id is looked up in the columns of the tables before.
+// The keys of a table's rows go to a lent slice, which has one place for each row. An id is looked up in
+// the keys of the tables before.
 
 pub fn read_nodes(
     s: &[u8],
     from: usize,
-    count: usize,
-    ids: &mut [u64],
+    keys: &mut [(u64, u64)],
     grid: bool,
 ) -> Result<NodesRead, Refusal>
-    requires { (from < 1024) × (count ≤ max_nodes) × (length ids.old ≡ key_room) }
-    ensures { NodesTold grid s.now from count ids.new result }
+    requires { (from < 1024) × (length keys.old ≤ max_nodes) }
+    ensures { NodesTold grid s.now from (length keys.old) keys.new result }
 {
     let corner = Point { x: 0.0, y: 0.0 };
     let body = Node {
@@ -37,11 +36,12 @@ pub fn read_nodes(
         height: 0.0,
     };
     let mut rows = [PlacedNode { id: 0, body }; MAX_NODES];
+    let count = keys.len();
     let mut at = from;
     for i in 0..count {
         let n = job_records::node_at(s, grid, at)?;
         rows[i] = n;
-        ids[i] = n.id;
+        keys[i] = (n.id, 0);
         at += 36;
     }
     Ok(NodesRead { at, rows })
@@ -50,17 +50,12 @@ pub fn read_nodes(
 pub fn read_ports(
     s: &[u8],
     from: usize,
-    count: usize,
-    node_ids: &[u64; KEY_ROOM],
-    zeros: &[u64; KEY_ROOM],
-    n: usize,
-    nodes: &mut [u64],
-    ids: &mut [u64],
+    nodes: &[(u64, u64)],
+    keys: &mut [(u64, u64)],
     grid: bool,
 ) -> Result<PortsRead, Refusal>
-    requires from_bound { (from < 8192) × (count ≤ max_ports) × (n ≤ key_room) }
-    requires node_ids_len { (length node_ids.now ≡ key_room) × (length zeros.now ≡ key_room) × (length nodes.old ≡ key_room) × (length ids.old ≡ key_room) }
-    ensures { PortsTold grid s.now from count (first_keys node_ids.now zeros.now n) nodes.new ids.new result }
+    requires { (from < 8192) × (length keys.old ≤ max_ports) }
+    ensures { PortsTold grid s.now from (length keys.old) nodes.now keys.new result }
 {
     let none = Port {
         node: 0,
@@ -69,11 +64,12 @@ pub fn read_ports(
         offset: 0.0,
     };
     let mut rows = [none; MAX_PORTS];
+    let count = keys.len();
     let mut known = true;
     let mut at = from;
     for i in 0..count {
         let p = job_records::port_at(s, grid, at)?;
-        let f = job_keys::find(node_ids, zeros, 0, n, p.node, 0);
+        let f = job_keys::find(nodes, 0, (p.node, 0));
         known = known & f.is_some();
         rows[i] = Port {
             node: f.unwrap_or(0),
@@ -81,8 +77,7 @@ pub fn read_ports(
             side: p.side,
             offset: p.offset,
         };
-        nodes[i] = p.node;
-        ids[i] = p.id;
+        keys[i] = (p.node, p.id);
         at += 17;
     }
     Ok(PortsRead { at, known, rows })
@@ -112,17 +107,13 @@ fn read_points(
 pub fn read_edges(
     s: &[u8],
     from: usize,
-    count: usize,
-    node_ids: &[u64; KEY_ROOM],
-    zeros: &[u64; KEY_ROOM],
-    n: usize,
+    nodes: &[(u64, u64)],
     points: &mut [f64],
-    ids: &mut [u64],
+    keys: &mut [(u64, u64)],
     grid: bool,
 ) -> Result<EdgesRead, Refusal>
-    requires from_bound { (from < 16384) × (count ≤ max_edges) × (n ≤ key_room) × (length points.old ≡ point_numbers) }
-    requires node_ids_len { (length node_ids.now ≡ key_room) × (length zeros.now ≡ key_room) × (length ids.old ≡ key_room) }
-    ensures { EdgesTold grid s.now from count (first_keys node_ids.now zeros.now n) points.new ids.new result }
+    requires { (from < 16384) × (length keys.old ≤ max_edges) × (length points.old ≡ point_numbers) }
+    ensures { EdgesTold grid s.now from (length keys.old) nodes.now points.new keys.new result }
 {
     let none = Edge {
         id: 0,
@@ -132,14 +123,15 @@ pub fn read_edges(
         count: 0,
     };
     let mut rows = [none; MAX_EDGES];
+    let count = keys.len();
     let mut known = true;
     let mut at = from;
     let mut total = 0;
     for i in 0..count {
         let e = job_records::edge_head_at(s, at, total)?;
         read_points(s, at + 22, e.count, total, points, grid)?;
-        let f = job_keys::find(node_ids, zeros, 0, n, e.source, 0);
-        let g = job_keys::find(node_ids, zeros, 0, n, e.target, 0);
+        let f = job_keys::find(nodes, 0, (e.source, 0));
+        let g = job_keys::find(nodes, 0, (e.target, 0));
         known = known & (f.is_some() & g.is_some());
         rows[i] = Edge {
             id: e.id,
@@ -148,7 +140,7 @@ pub fn read_edges(
             first: e.first,
             count: e.count,
         };
-        ids[i] = e.id;
+        keys[i] = (e.id, 0);
         at += 22 + 16 * e.count;
         total += e.count;
     }

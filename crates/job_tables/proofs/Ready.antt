@@ -65,6 +65,10 @@ module _ (j : code.Job) (buffer : List Float) (from : Came j buffer) (sizes : Si
 
   pub tables_sound : Sound j.nodes j.ports j.bundles j.members
   tables_sound = record {
+    nodes_fit = nodes_in;
+    ports_fit = ports_in;
+    bundles_fit = bundles_in;
+    members_fit = members_in;
     nodes_few = from.fits.nodes;
     ports_few = from.fits.ports;
     bundles_few = from.fits.bundles;
@@ -83,6 +87,7 @@ module _ (j : code.Job) (buffer : List Float) (from : Came j buffer) (sizes : Si
 
   pub routes_in : RoutesIn buffer j.edges j.members
   routes_in = record {
+    edges_fit = edges_in;
     edges_few = from.fits.edges;
     members_on = λ i h. omega (arith, (row_at (GoodMember _) j.members.rows j.members.count no_member members_in good.members i h).edge, length-take-le j.edges.count j.edges.rows edges_in);
     routes_short = λ i h. (row_at (GoodEdge _ _) j.edges.rows j.edges.count no_edge edges_in good.edges i h).count;

@@ -30,7 +30,7 @@ use Rattle.drawing.specs.Normal as drawing
 use Rattle.drawing.specs.Normal.{sheet_after, moved, page_of, shifted_sheet}
 use Rattle.ranges.proofs.Corridors.{Below}
 use Rattle.ranges.specs.Coordinates.{OfPoint, OfPlaced}
-use Rattle.answer.specs.Answer.{Line, Trunk, Sheet, lines_of}
+use Rattle.answer.specs.Answer.{Line, Trunk, lines_of}
 use Rattle.promise.specs.Stage.{Finished, answer_of, sheet_drawn, page_told, tap_told, bundle_told, bundles_told}
 use Rattle.promise.specs.Demand3 as before
 use Rattle.promise.specs.Demand3.{SegmentOf, OnBoth, OnlyAtTap, KeptOnSheet, Kept, Demand3}

@@ -1,5 +1,5 @@
 -- The first two sentences of demand 3 of a sheet that is shifted exactly. Assumes nothing.
-use Rattle.std.specs.Prelude.{◌≡◌, refl, ◌⊎◌, Bool, true, false, ◌&&◌, ℕ, zero, suc, ◌*◌, ◌<◌, nat_abs, length, get_or, Float}
+use Rattle.std.specs.Prelude.{◌≡◌, refl, ◌⊎◌, Bool, false, ◌&&◌, ℕ, zero, suc, ◌*◌, ◌<◌, nat_abs, length, get_or, Float}
 use Rattle.std.proofs.Common.{sym, ◌∙◌, arith, add-mul}
 use Rattle.std.proofs.Math.Path.{ap, subst}
 use Rattle.std.proofs.Math.Logic.{inl, inr}
@@ -8,13 +8,11 @@ use mathlib.Core.List.{List, [], ◌∷◌, map, Memᴰ}
 use Rattle.std.proofs.Math.Dec.{T}
 use Rattle.std.proofs.lemmas.List.{length-map}
 use Rattle.std.proofs.Math.ListN.{get_or-map}
-use Rattle.std.specs.Float.{nan, inf, fin}
-use Rattle.std.specs.Float.Ieee.{binary64, round, neg, sub, le}
+use Rattle.std.specs.Float.Ieee.{binary64, sub, le}
 use Rattle.std.specs.Float.Ieee.Scale.{round_same}
 use Rattle.binary64.specs.Rational.{plus, less, Fraction, Sameℚ, value}
 use Rattle.binary64.specs.Integers.{abs_parts}
 use Rattle.binary64.specs.Order.{magnitude, tolerance}
-use Rattle.binary64.specs.Range.{round_neg}
 use Rattle.binary64.proofs.Fraction.{cross_plus, cross_less}
 use Rattle.geometry.specs.declared.Point.{Point}
 use Rattle.geometry.specs.declared.Segment.{Segment}

@@ -1,10 +1,8 @@
 -- Where the last shift is exact: every coordinate is a multiple of 1 / 2 ^ k of magnitude at most 2 ^ m, and k + m + 2 is at most 53. Assumes nothing.
 use Rattle.std.specs.Prelude.{ℕ, ◌+◌, ◌≤◌}
-use Rattle.geometry.specs.declared.Point.{Point}
 use Rattle.sorting.specs.Lists.{Every}
 use Rattle.sorting.specs.Sorted.{every_map}
 use Rattle.board.specs.declared.PlacedNode.{PlacedNode}
-use Rattle.drawing.specs.Build.{Drawn}
 use Rattle.drawing.specs.Normal.{Sheet}
 use Rattle.ranges.specs.Coordinates.{OfPoint, OfDrawn, OfPlaced}
 use Rattle.last_shift.specs.Shift.{corner_of, ExactLess, ExactPoint, ShiftExact, NodesExact}

@@ -1,5 +1,5 @@
 -- The third sentence of demand 3 of a sheet that is shifted: member routes stay out of foreign nodes, where corners and far sides are shifted exactly too. Assumes nothing.
-use Rattle.std.specs.Prelude.{◌≡◌, refl, Bool, true, false, not, ◌&&◌, ◌||◌, cond, List, map, ℕ, ◌<◌, T, length, get_or, Float}
+use Rattle.std.specs.Prelude.{◌≡◌, Bool, true, false, not, ◌&&◌, ◌||◌, cond, List, map, ℕ, ◌<◌, T, length, get_or, Float}
 use Rattle.std.proofs.Common.{sym, ap, ◌∙◌, subst, arith}
 use Rattle.std.proofs.lemmas.List.{length-map}
 use Rattle.std.specs.Float.Ieee.{lt, eq}

@@ -6,18 +6,22 @@
 
 #![tactic(auto)]
 
-ghost use Rattle.std.specs.Prelude.{◌≡◌, ◌+◌, ◌*◌, ◌<◌, length, is_ok, IfErr};
+ghost use Rattle.std.specs.Prelude.{◌≡◌, ◌+◌, ◌*◌, ◌<◌, length, get_or, is_ok, IfErr};
+ghost use Rattle.limits.specs.Limits.{slot_points};
+ghost use Rattle.geometry.specs.Points.{points_from};
+ghost use Rattle.geometry.specs.Lent.{route_lent};
 ghost use Rattle.refusal.specs.declared.Refusal.TheVariants.{GeometryVisitsSpent};
 ghost use Rattle.drawing.specs.Build.{tap_of};
 ghost use Rattle.drawing.specs.Check.{own, clash};
 ghost use Rattle.checks.specs.Purse.{charged};
 ghost use Rattle.checks.specs.CheckRows.{box_at, edge_at};
-ghost use Rattle.checks.specs.Lent.{taps_lent, TapsLent};
+ghost use Rattle.checks.specs.Lent.{taps_lent, chosen_lent};
 
-use board::{Edge, Options};
-use checks::BundleTaps;
+use board::Edge;
+use checks::{BundleTaps, ChosenRoutes, PresentRoutes, Rules};
 use drawing::GeometryVisits;
-use geometry::{Node, Point, Segment};
+use geometry::{Node, Point, RouteView, Segment};
+use limits::SLOT_POINTS;
 use refusal::Refusal;
 
 // consume_geometry_visit: one visit is paid before each look, if one is left.
@@ -32,19 +36,46 @@ pub fn charge(visits: &mut GeometryVisits) -> Result<(), Refusal>
     Ok(())
 }
 
+// ---- the routes that are looked at
+
+// Whether route e is chosen.
+#[tactic(auto, unfolding(checks::specs::CheckRows::chosen_by))]
+pub fn is_chosen(chosen: ChosenRoutes, e: usize) -> bool
+    requires { e < length chosen.routes.counts.now }
+    ensures { result ≡ chosen_lent chosen.entry e }
+{
+    match chosen.mask {
+        Some(mask) => mask[e],
+        None => true,
+    }
+}
+
+// Route e in its slot.
+pub fn slot_of(present: PresentRoutes, e: usize) -> RouteView
+    requires { e < length present.counts.now }
+    ensures { route_lent result ≡ points_from present.entry.points.now (slot_points * e) (get_or present.entry.counts.now e 0) }
+{
+    RouteView {
+        points: present.points,
+        start: SLOT_POINTS * e,
+        count: present.counts[e],
+    }
+}
+
 // ---- verify_new_bundle_route_contacts
 
-pub fn clashes(o: Options, allow: bool, bus: Segment, tap: Option<Point>, run: Segment) -> bool
-    ensures { result ≡ clash o allow bus tap run }
+#[tactic(auto, unfolding(drawing::specs::Check::clash))]
+pub fn clashes(rules: Rules, bus: Segment, tap: Option<Point>, run: Segment) -> bool
+    ensures { result ≡ clash rules.options rules.permits_crossings bus tap run }
 {
+    let spacing = rules.options.minimum_parallel_wire_spacing;
     let kind = contact_test::contact_kind(bus, run.start, run.end, tap);
-    contact_test::is_disallowed(kind, allow)
-        || contact_test::parallel_segments_are_too_close(bus, run, o.minimum_parallel_wire_spacing)
+    contact_test::is_disallowed(kind, rules.permits_crossings)
+        || contact_test::parallel_segments_are_too_close(bus, run, spacing)
 }
 
 // A route's tap among those of a bundle.
 pub fn tap_on_route(own: BundleTaps, e: usize) -> Option<Point>
-    requires { TapsLent own }
     ensures { result ≡ tap_of (taps_lent own.entry) e }
 {
     for i in own.first..own.first + own.count {
@@ -57,6 +88,7 @@ pub fn tap_on_route(own: BundleTaps, e: usize) -> Option<Point>
 
 // ---- verify_one_bundle_route_node_interiors
 
+#[tactic(auto, unfolding(drawing::specs::Check::own))]
 pub fn is_own(e: Edge, j: usize) -> bool
     ensures { result ≡ own e j }
 {
@@ -64,6 +96,7 @@ pub fn is_own(e: Edge, j: usize) -> bool
 }
 
 // Node i of boxes, which has four numbers a node: corner x, corner y, width, height.
+#[tactic(auto, unfolding(checks::specs::CheckRows::box_at))]
 pub fn box_at(boxes: &[f64], i: usize) -> Node
     requires { 4 * i + 3 < length boxes.now }
     ensures { result ≡ (box_at boxes.now i).body }
@@ -77,6 +110,7 @@ pub fn box_at(boxes: &[f64], i: usize) -> Node
 }
 
 // Edge i of ends, which has two numbers an edge: the places of its source and of its target.
+#[tactic(auto, unfolding(checks::specs::CheckRows::edge_at))]
 pub fn edge_at(ends: &[usize], i: usize) -> Edge
     requires { 2 * i + 1 < length ends.now }
     ensures { result ≡ edge_at ends.now i }

@@ -2,26 +2,29 @@
 //
 // Ported from cachanova/schemweave, commit c4a1a2c60a, crates/schemweave/src/boundary_bundles.rs
 // (Apache-2.0, see NOTICE). The present routes are in slots (crate route). Member k of the table of
-// members has its edge at place k of edges, its tap lane at place k of lanes and its tap as x and y
-// at point k of taps; a bundle's members are count places from first on.
+// members has its tap as x and y at point k of taps.
 
 #![tactic(auto)]
 
-ghost use Rattle.std.specs.Prelude.{◌≡◌, suc, ◌+◌, ◌*◌, ◌-◌, ◌<◌, ◌≤◌, length, get_or};
+ghost use Rattle.std.specs.Prelude.{ℕ, ◌≡◌, suc, ◌+◌, ◌*◌, ◌-◌, ◌<◌, ◌≤◌, length, get_or};
 ghost use Rattle.limits.specs.Limits.{max_lane, slot_points, slot_numbers};
-ghost use Rattle.geometry.specs.Points.{points_from};
+ghost use Rattle.geometry.specs.Lent.{route_lent};
 ghost use Rattle.route.specs.Slots.{routes_of, Held};
 ghost use Rattle.route.specs.Contract.{Leaves};
 ghost use Rattle.plan.specs.Depths.{number};
 ghost use Rattle.drawing.specs.Build.{route_at};
 ghost use Rattle.drawing.specs.Rewrite.{rewritten, put_route, rewrite_all};
-ghost use Rattle.checks.specs.CheckRows.{taps_from, Tabled};
-ghost use Rattle.checks.specs.MemberSlices.{members_from, depth_at, rewrite_with, routes_in, CountsKept, Laned, Roomy};
+ghost use Rattle.checks.specs.CheckRows.{taps_from};
+ghost use Rattle.checks.specs.LentRows.{rows_lent};
+ghost use Rattle.checks.specs.MemberSlices.{depth_at, rewrite_with, routes_in, CountsKept, Roomy};
 
-use geometry::{Point, Role};
+use checks::BundleRows;
+use geometry::{Point, Role, RouteView};
 use limits::SLOT_POINTS;
 
 // ---- rewrite_member_routes
+
+// A lane is a number of the job's table, and its bound a fact of the table's rows: each function asks it.
 
 fn lane_number(lane: u32) -> f64
     requires { lane ≤ max_lane }
@@ -30,6 +33,7 @@ fn lane_number(lane: u32) -> f64
     (lane + 1) as f64
 }
 
+#[tactic(auto, unfolding(checks::specs::MemberSlices::depth_at))]
 fn corridor_depth(offset: f64, pitch: f64, lane: u32) -> f64
     requires { lane ≤ max_lane }
     ensures { result ≡ depth_at offset pitch lane }
@@ -37,59 +41,48 @@ fn corridor_depth(offset: f64, pitch: f64, lane: u32) -> f64
     offset + lane_number(lane) * pitch
 }
 
-// A route of count points from point start on, rewritten into out: through the trunk if the bundle
-// counts as interior, else by a corridor of this depth. Both roles stay written out: the four functions
-// are the Rust's, and one call with a role would only move the match.
+// How a bundle's routes are led to their taps: through its trunk if it counts as interior, else each by
+// a corridor.
+#[derive(Clone, Copy)]
+pub struct Lead {
+    pub inside: bool,
+    pub role: Role,
+    pub pitch: f64,
+}
+
+// A route rewritten into out, a corridor being of this depth. The four functions are the Rust's: one
+// call with a role would only move the match.
+#[tactic(auto, unfolding(drawing::specs::Rewrite::rewritten))]
 fn rewrite_route(
-    inside: bool,
-    role: Role,
-    pitch: f64,
+    lead: Lead,
     depth: f64,
     tap: Point,
-    points: &[f64],
-    start: usize,
-    count: usize,
+    route: RouteView,
     out: &mut [f64],
 ) -> Option<usize>
-    requires { (2 * (start + count) ≤ length points.now) × (2 * (count + 2) ≤ length out.old) }
-    ensures { Leaves result out.old out.new count (rewritten inside role pitch depth tap (points_from points.now start count)) }
+    requires { 2 * (route.count + 2) ≤ length out.old }
+    ensures { Leaves result out.old out.new route.entry.count (rewritten lead.inside lead.role lead.pitch depth tap (route_lent route.entry)) }
 {
-    match role {
+    match lead.role {
         Role::Input => {
-            if inside {
-                return route_rewriting::rewrite_input_shared_trunk(
-                    points,
-                    start,
-                    count,
-                    tap,
-                    pitch,
-                    &mut out[..],
-                );
+            if lead.inside {
+                return route_rewriting::rewrite_input_shared_trunk(route, tap, lead.pitch, out);
             }
-            route_rewriting::rewrite_input_route(points, start, count, tap, depth, &mut out[..])
+            route_rewriting::rewrite_input_route(route, tap, depth, out)
         }
         Role::Output => {
-            if inside {
-                return route_rewriting::rewrite_output_shared_trunk(
-                    points,
-                    start,
-                    count,
-                    tap,
-                    pitch,
-                    &mut out[..],
-                );
+            if lead.inside {
+                return route_rewriting::rewrite_output_shared_trunk(route, tap, lead.pitch, out);
             }
-            route_rewriting::rewrite_output_route(points, start, count, tap, depth, &mut out[..])
+            route_rewriting::rewrite_output_route(route, tap, depth, out)
         }
     }
 }
 
 // The route of one member, of edge e, rewritten in its slot. Where it cannot be, the slots stay as
-// they are.
+// they are. points and counts stay two parameters, as in crate route_slots.
 fn rewrite_member(
-    inside: bool,
-    role: Role,
-    pitch: f64,
+    lead: Lead,
     depth: f64,
     tap: Point,
     e: usize,
@@ -98,31 +91,30 @@ fn rewrite_member(
     scratch: &mut [f64],
 ) -> bool
     requires { (e < length counts.old) × (slot_numbers * length counts.old ≤ length points.old) × Held counts.old × (get_or counts.old e 0 ≤ slot_points - 2) × (slot_numbers ≤ length scratch.old) }
-    ensures told { routes_in result points.new counts.new ≡ put_route (rewrite_with inside role pitch depth tap (route_at (routes_of points.old counts.old) e)) e (routes_of points.old counts.old) }
+    ensures told { routes_in result points.new counts.new ≡ put_route (rewrite_with lead.inside lead.role lead.pitch depth tap (route_at (routes_of points.old counts.old) e)) e (routes_of points.old counts.old) }
     ensures kept { CountsKept counts.old counts.new e }
 {
     let n = counts[e];
     if n < 2 {
         return false;
     }
-    let r = rewrite_route(
-        inside,
-        role,
-        pitch,
-        depth,
-        tap,
-        &points[..],
-        SLOT_POINTS * e,
-        n,
-        &mut scratch[..],
-    );
-    match r {
+    let given = RouteView {
+        points: &points[..],
+        start: SLOT_POINTS * e,
+        count: n,
+    };
+    match rewrite_route(lead, depth, tap, given, &mut scratch[..]) {
         None => false,
         Some(m) => {
             if m < 2 {
                 return false;
             }
-            route_slots::store_route(&scratch[..], 0, m, &mut points[..], &mut counts[..], e);
+            let made = RouteView {
+                points: &scratch[..],
+                start: 0,
+                count: m,
+            };
+            route_slots::store_route(made, &mut points[..], &mut counts[..], e);
             true
         }
     }
@@ -131,31 +123,28 @@ fn rewrite_member(
 // Whether every member's route could be rewritten. Where one cannot, what the slots hold is not
 // said.
 pub fn rewrite_member_routes(
-    inside: bool,
-    role: Role,
-    pitch: f64,
+    lead: Lead,
     offset: f64,
-    edges: &[usize],
-    lanes: &[u32],
+    members: BundleRows,
     taps: &[f64],
-    first: usize,
-    count: usize,
     points: &mut [f64],
     counts: &mut [usize],
     scratch: &mut [f64],
 ) -> bool
-    requires { Tabled first count edges.now taps.now × Laned first count lanes.now × Roomy edges.now first 0 count points.old counts.old × (slot_numbers ≤ length scratch.old) }
-    ensures told { routes_in result points.new counts.new ≡ rewrite_all inside role pitch offset (taps_from edges.now taps.now first count) (members_from edges.now lanes.now first count) (routes_of points.old counts.old) }
+    requires roomy { Roomy members.table.edges.now members.first 0 members.count points.old counts.old }
+    requires small { (k : ℕ) → get_or members.table.lanes.now k 0 ≤ max_lane }
+    requires tapped { 2 * (members.first + members.count) ≤ length taps.now }
+    requires scratch { slot_numbers ≤ length scratch.old }
+    ensures told { routes_in result points.new counts.new ≡ rewrite_all lead.inside lead.role lead.pitch offset (taps_from members.entry.table.edges.now taps.now members.entry.first members.entry.count) (rows_lent members.entry) (routes_of points.old counts.old) }
     ensures hold { Held counts.new }
 {
-    for i in 0..count {
-        let e = edges[first + i];
-        let depth = corridor_depth(offset, pitch, lanes[first + i]);
-        let tap = route_views::point_at(taps, first + i);
+    for i in 0..members.count {
+        let k = members.first + i;
+        let depth = corridor_depth(offset, lead.pitch, members.table.lanes[k]);
+        let tap = route_views::point_at(taps, k);
+        let e = members.table.edges[k];
         if !rewrite_member(
-            inside,
-            role,
-            pitch,
+            lead,
             depth,
             tap,
             e,

@@ -1,6 +1,6 @@
 -- What stage_sheet writes at the front of the answer's buffer: nothing, what the job comes to with the plan that is given or with our own, or, where that is a sheet, the notice of 19 or 16. With it go the promises about the answer's bytes.
 -- Assumes nothing.
-use Rattle.std.specs.Prelude.{ℕ, ◌≤◌, ◌<◌, ◌≡◌, Bool, true, false, not, ◌&&◌, ◌||◌, List, [], ltb, length, take}
+use Rattle.std.specs.Prelude.{ℕ, ◌≤◌, ◌≡◌, Bool, true, false, not, ◌&&◌, ◌||◌, List, [], ltb, length, take}
 use Rattle.std.proofs.Math.Path.{refl, ap}
 use Rattle.std.proofs.Common.{sym, ◌∙◌, subst, true≢false, arith, ltb-false}
 use Rattle.std.proofs.Math.Bool.{cond}

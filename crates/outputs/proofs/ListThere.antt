@@ -5,7 +5,6 @@ use Rattle.std.proofs.Common.{sym, ◌∙◌, subst, true≢false, arith, ltb-fa
 use Rattle.std.proofs.Math.Bool.{true, false}
 use Rattle.std.proofs.Math.ListN.{length}
 use Rattle.std.proofs.Math.Seq.{sets}
-use Rattle.answer.specs.Answer.{answer_bytes, notice_bytes}
 use Rattle.answer.proofs.Stores.{notice_length}
 use Rattle.promise.specs.Stage.{Finished, Told, refused, drawn, told_bytes}
 use Rattle.plan_stage.specs.Entries.{plan_phase, told_with}
@@ -17,7 +16,7 @@ use Rattle.crossing_promise.specs.Demand7.{list_in, ListPromised, Demand7}
 use Rattle.crossing_promise.specs.SheetList.{list_of}
 use Rattle.crossing_promise.proofs.Theorem.{Drawable, own_drawable, on_sheet, list_promised}
 use Rattle.outputs.specs.declared.Wants.{Wants}
-use Rattle.outputs.specs.Outputs.{Outputs, nothing, wants_of, too_short, too_many, after_all, outputs_told, outputs_of}
+use Rattle.outputs.specs.Outputs.{nothing, wants_of, too_short, too_many, after_all, outputs_told, outputs_of}
 use Rattle.outputs.specs.Promises.{SheetCrossings, CrossingsOnSheet}
 use Rattle.outputs.proofs.Front.{Front, untouched, as_told, many, off_grid, wanted_room, front_of, at_front, rooms}
 

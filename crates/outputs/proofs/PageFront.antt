@@ -4,13 +4,13 @@ use Rattle.std.specs.Prelude.{ℕ, ◌≤◌, ◌<◌, ◌≡◌, refl, Bool, tr
 use Rattle.std.proofs.Common.{sym, ap, ◌∙◌, subst, arith}
 use Rattle.std.proofs.lemmas.List.Edits.{sets}
 use Rattle.limits.specs.Limits.{page_room, id_columns}
-use Rattle.answer.specs.Answer.{answer_bytes, notice_bytes}
+use Rattle.answer.specs.Answer.{answer_bytes}
 use Rattle.answer.proofs.Stores.{notice_length}
 use Rattle.promise.specs.Stage.{Finished, answer_of, Told, refused, drawn}
 use Rattle.plan_stage.specs.Entries.{told_with}
 use Rattle.plan_stage.proofs.EitherPlan.{ComesWith, CauseWith, a_refusal, a_sheet, cause_with, phase_shaped, phase_whole}
 use Rattle.bundle_page.specs.AnswerPage.{answer_page}
-use Rattle.page_promise.specs.PageReadsBack.{PageReadsBack, PageIsRead}
+use Rattle.page_promise.specs.PageReadsBack.{PageReadsBack}
 use Rattle.page_promise.proofs.Theorem.{page_in}
 use Rattle.outputs.specs.declared.Wants.{Wants}
 use Rattle.outputs.specs.Outputs.{Outputs, nothing, wants_of, too_short, too_many, after_all, outputs_told, outputs_of}

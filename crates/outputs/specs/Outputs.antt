@@ -1,6 +1,6 @@
 -- What a call of stage_sheet writes into its buffers, from document 02's requests: what is given and wanted, which refusals come last, and the bytes of each output. Definitions only.
 -- Assumes nothing.
-use Rattle.std.specs.Prelude.{ℕ, ◌/◌, ◌%◌, Bool, true, false, not, ◌&&◌, ◌||◌, cond, List, [], eqb, ltb, length}
+use Rattle.std.specs.Prelude.{ℕ, ◌/◌, ◌%◌, Bool, not, ◌&&◌, ◌||◌, cond, List, [], eqb, ltb, length}
 use Rattle.limits.specs.Limits.{answer_room, page_room, id_columns, max_crossings, crossings_room}
 use Rattle.answer.specs.Answer.{answer_bytes, notice_bytes}
 use Rattle.promise.specs.Stage.{Finished, answer_of, Told, refused, drawn}

@@ -10,12 +10,20 @@ ghost use Rattle.bundle_page.specs.PageTables.{OnPage, Printable};
 use board::{DrawnBundle, DrawnBundles};
 use geometry::{Point, Segment};
 use limits::{MAX_BUNDLES, PAGE_ROOM};
+use page_lines::Entry;
 
 fn show(w: usize, id: u64, interior: bool, x: u64, low: u64, high: u64)
     requires { (0 < w) × (w ≤ 20) }
 {
-    let mut line: [u8; 86] = [0; 86];
-    page_lines::put_line(&mut line[..], 0, w, id, interior, x, low, high);
+    let mut line = [0u8; 86];
+    let entry = Entry {
+        id,
+        interior,
+        x,
+        low,
+        high,
+    };
+    page_lines::put_line(&mut line[..], 0, w, entry);
     io::write_all(1, &line[..66 + w]);
 }
 
@@ -24,13 +32,13 @@ fn bundle(id: u64, interior: bool, x: f64, start: f64, end: f64) -> DrawnBundle
     requires { OnPage x × OnPage start × OnPage end }
     ensures { Printable result }
 {
-    let a = Point { x: x, y: start };
-    let b = Point { x: x, y: end };
+    let a = Point { x, y: start };
+    let b = Point { x, y: end };
     let collector = Segment { start: a, end: b };
     DrawnBundle {
-        id: id,
-        interior: interior,
-        collector: collector,
+        id,
+        interior,
+        collector,
         spine: collector,
         first: 0,
         count: 0,
@@ -45,10 +53,7 @@ fn show_page() {
     let mut rows = [first; MAX_BUNDLES];
     rows[1] = second;
     rows[2] = third;
-    let t = DrawnBundles {
-        rows: rows,
-        count: 3,
-    };
+    let t = DrawnBundles { rows, count: 3 };
     let mut page = [0u8; PAGE_ROOM];
     let n = page_writer::put_page(&mut page[..], t);
     io::write_all(1, &page[..n]);

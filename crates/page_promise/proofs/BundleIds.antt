@@ -1,5 +1,5 @@
 -- The id of a job's bundle is four bytes of the job, so it is below 2 ^ 32 and has its place in 10 columns. Assumes nothing.
-use Rattle.std.specs.Prelude.{ℕ, zero, suc, ◌+◌, ◌^◌, ◌≤◌, ◌<◌, Bool, eqb, leb, Float, length, take, drop, get_or}
+use Rattle.std.specs.Prelude.{ℕ, zero, suc, ◌+◌, ◌^◌, ◌<◌, Bool, eqb, leb, Float, length, take, drop, get_or, Option, Some, None}
 use Rattle.std.proofs.Math.Path.{◌≡◌, refl, subst}
 use Rattle.std.proofs.Math.Bool.{true, false, cond}
 use mathlib.Core.List.{List, [], ◌∷◌, ◌++◌, map}
@@ -16,7 +16,7 @@ use Rattle.board.specs.Board.{Board}
 use Rattle.plan.proofs.SmallNumbers.{every_drop}
 use Rattle.job.specs.declared.RawBundle.{RawBundle}
 use Rattle.job.specs.declared.Header.{Header}
-use Rattle.job.specs.Keys.{Key, Known, unknown, known, place, each}
+use Rattle.job.specs.Keys.{Key, place, each}
 use Rattle.job.specs.LoopSteps.{came, got_both}
 use Rattle.job.proofs.Kept.{many_keeps, field_takes, known_came, each_all}
 use Rattle.job.proofs.GoodRecords.{picked}
@@ -180,7 +180,7 @@ tables_small grid c s x t e h =
     subst (λ (z : Tables). All SmallId z.bundles.bundles) p.1 so.ids
 
 -- ---- the board
-bundle_id : (nodes ports : List Key) (b : RawBundle) (u : Bundle) → SmallId b → bundle_of nodes ports b ≡ known u → u.id < 2 ^ 32
+bundle_id : (nodes ports : List Key) (b : RawBundle) (u : Bundle) → SmallId b → bundle_of nodes ports b ≡ Some u → u.id < 2 ^ 32
 unfolding bundle_of SmallId
 bundle_id nodes ports b u h e =
     let c = known_came (place (b.node, 0) nodes) _ u e in
@@ -188,7 +188,7 @@ bundle_id nodes ports b u h e =
     let q : b.id ≡ u.id = id_of (record { id = b.id; port = d.0; role = b.role; width = b.width; first = b.first; count = b.count }) u d.2 in
     subst (λ (v : ℕ). v < 2 ^ 32) q h
   where
-    id_of : (a b : Bundle) → known a ≡ known b → a.id ≡ b.id
+    id_of : (a b : Bundle) → Some a ≡ Some b → a.id ≡ b.id
     id_of a b e = cc
 
 to_every : {A : Type 0} (P : A → Type 0) (l : List A) → All P l → Every P l
@@ -200,7 +200,7 @@ abbrev IdsOf : List Bundle → Type 0
 IdsOf us = Every (λ (u : Bundle). u.id < 2 ^ 32) us
 
 module _ (h : Header) (t : Tables) (small : All SmallId t.bundles.bundles) where
-  resolved_ids : (b : Board) → resolved h.options t ≡ known b → IdsOf b.bundles
+  resolved_ids : (b : Board) → resolved h.options t ≡ Some b → IdsOf b.bundles
   unfolding resolved All
   resolved_ids b u =
       let ns = map node_key t.nodes in
@@ -212,13 +212,13 @@ module _ (h : Header) (t : Tables) (small : All SmallId t.bundles.bundles) where
       let q = bundles_of (record { options = h.options; nodes = t.nodes; ports = c.0; edges = d.0; bundles = e.0; members = f.0 }) b f.2 in
       subst IdsOf q (to_every (λ (v : Bundle). v.id < 2 ^ 32) e.0 (each_all (bundle_of ns ps) SmallId (λ (v : Bundle). v.id < 2 ^ 32) (bundle_id ns ps) t.bundles.bundles [] e.0 small tt e.1))
     where
-      bundles_of : (a b : Board) → known a ≡ known b → a.bundles ≡ b.bundles
+      bundles_of : (a b : Board) → Some a ≡ Some b → a.bundles ≡ b.bundles
       bundles_of a b e = cc
 
-  nine_ids : (k : Known Board) (j : Job) → resolved h.options t ≡ k → or_nine k h t.edges.points ≡ job.accepted j → IdsOf j.board.bundles
+  nine_ids : (k : Option Board) (j : Job) → resolved h.options t ≡ k → or_nine k h t.edges.points ≡ job.accepted j → IdsOf j.board.bundles
   unfolding or_nine
-  nine_ids unknown j u w = let z : ◌≡◌ {A = ℕ} 0 1 = cc in absurd (omega arith)
-  nine_ids (known b) j u w =
+  nine_ids None j u w = let z : ◌≡◌ {A = ℕ} 0 1 = cc in absurd (omega arith)
+  nine_ids (Some b) j u w =
       subst IdsOf (bundles_of (record { flags = h.flags; grants = h.grants; board = b; points = t.edges.points }) j w) (resolved_ids b u)
     where
       bundles_of : (a b : Job) → job.accepted a ≡ job.accepted b → a.board.bundles ≡ b.board.bundles

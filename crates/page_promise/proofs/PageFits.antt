@@ -18,11 +18,9 @@ use Rattle.job.specs.Job.{Job, given_routes, read_job}
 use Rattle.job.specs.Job as job
 use Rattle.job.proofs.Sound.{Sound, accepted_sound}
 use Rattle.plan.specs.declared.Bound.{Bound}
-use Rattle.plan.specs.declared.Bound.TheVariants as bounded
 use Rattle.plan.specs.Depths.{offsets_of}
 use Rattle.plan.proofs.CarriedNumbers.{OfBound}
 use Rattle.plan.specs.Plan.{Plan}
-use Rattle.plan.specs.Plan as plan
 use Rattle.drawing.specs.Build.{Drawn}
 use Rattle.drawing.specs.Normal as N
 use Rattle.drawing.specs.Sheet.{Progress}
@@ -32,7 +30,7 @@ use Rattle.ranges.proofs.Corridors.{Below}
 use Rattle.ranges.specs.Coordinates.{OfDrawn}
 use Rattle.ranges.proofs.Page.{OfPage, after_shift}
 use Rattle.promise.specs.Order.{turns_of, drawn_of}
-use Rattle.promise.specs.Stage.{planned, sheet_drawn, normalized, bundles_told, page_told}
+use Rattle.promise.specs.Stage.{sheet_drawn, normalized, bundles_told, page_told}
 use Rattle.promise.proofs.BoardDemand.{Readable, turns_fine}
 use Rattle.promise.proofs.Read.{readable}
 use Rattle.grid.specs.On.{on}
@@ -47,7 +45,7 @@ use Rattle.grid_sheet.specs.Image as M
 use Rattle.grid_sheet.proofs.Drawing.{OfOutcome}
 use Rattle.grid_sheet.specs.Whole as Z2
 use Rattle.grid_sheet.proofs.WholeSheet.{drawing_on, drawing_of, normalized_on}
-use Rattle.grid_promise.specs.Grid.{whole_board, given, whole_plan}
+use Rattle.grid_promise.specs.Grid.{whole_board, given}
 use Rattle.grid_promise.proofs.Back.{board_back, routes_back, on_grid}
 use Rattle.grid_promise.proofs.Whole.{WholePlan}
 use Rattle.bundle_page.specs.PageTables.{OnPage, Printable, Printables}

@@ -11,6 +11,7 @@ ghost use Rattle.bundle_page.specs.PageTables.{OnPage, bundle_line, page_bytes, 
 
 use board::{DrawnBundle, DrawnBundles};
 use limits::ID_COLUMNS;
+use page_lines::Entry;
 
 // How many 128ths a number of the page is.
 pub fn parts_of(x: f64) -> u64
@@ -31,7 +32,14 @@ fn put_entry(out: &mut [u8], at: usize, w: usize, b: DrawnBundle) -> usize
     let x = parts_of(start.x);
     let low = parts_of(binary64::min(start.y, end.y));
     let high = parts_of(binary64::max(start.y, end.y));
-    page_lines::put_line(&mut out[..], at, w, b.id, b.interior, x, low, high);
+    let entry = Entry {
+        id: b.id,
+        interior: b.interior,
+        x,
+        low,
+        high,
+    };
+    page_lines::put_line(out, at, w, entry);
     at + (66 + w)
 }
 
@@ -43,7 +51,7 @@ pub fn put_page(out: &mut [u8], t: DrawnBundles) -> usize
 {
     let mut at: usize = 0;
     for i in 0..t.count {
-        at = put_entry(&mut out[..], at, ID_COLUMNS, t.rows[i]);
+        at = put_entry(out, at, ID_COLUMNS, t.rows[i]);
     }
     at
 }

@@ -6,57 +6,53 @@
 
 #![tactic(auto)]
 
-ghost use Rattle.std.specs.Prelude.{◌≡◌};
-ghost use Rattle.drawing.specs.Check.{walk};
-ghost use Rattle.checks.specs.Looks.{InteriorTables, interior_looks, ContactTables, contact_looks};
+ghost use Rattle.std.specs.Prelude.{◌≡◌, ◌*◌, ◌≤◌, map, take, length};
+ghost use Rattle.limits.specs.Limits.{max_bundles};
+ghost use Rattle.drawing.specs.Check.{walk, over_routes, contact_tests};
 ghost use Rattle.checks.specs.Purse.{told};
+ghost use Rattle.checks.specs.CheckRows.{inside_route, Tabled};
+ghost use Rattle.checks.specs.Lent.{routes_lent, chosen_lent, drawn_lent, RowsLent};
 
-use board::{DrawnBundle, DrawnBundles, Options};
-use checks::{MemberTaps, PresentRoutes};
+use board::{DrawnBundle, DrawnBundles};
+use checks::{BoardSlices, ChosenRoutes, MemberTaps, Rules};
 use drawing::GeometryVisits;
-use geometry::RouteView;
-use limits::SLOT_POINTS;
 use refusal::Refusal;
 
 // The new bundle against every route, then each earlier one against the changed routes and against
 // the new one.
 pub fn verify_new_bundle_route_contacts(
-    o: Options,
-    allow: bool,
+    rules: Rules,
     new: DrawnBundle,
     priors: DrawnBundles,
     table: MemberTaps,
-    changed: &[bool],
-    present: PresentRoutes,
+    changed: ChosenRoutes,
     visits: &mut GeometryVisits,
 ) -> Result<(), Refusal>
-    requires { ContactTables new priors table.edges.now table.taps.now changed.now present.points.now present.counts.now }
-    ensures { told result visits.new.0 ≡ walk 11 (contact_looks new priors table.entry.edges.now table.entry.taps.now changed.now present.entry.points.now present.entry.counts.now o allow) visits.old.0 }
+    requires { (priors.count ≤ max_bundles) × RowsLent table (take priors.count priors.rows) × Tabled new.first new.count table.edges.now table.taps.now }
+    ensures { told result visits.new.0 ≡ walk 11 (contact_tests rules.options rules.permits_crossings (drawn_lent table.entry new) (chosen_lent changed.entry) (map (drawn_lent table.entry) (take priors.count priors.rows)) (routes_lent changed.entry.routes)) visits.old.0 }
 {
-    bundle_contacts::drawn_on_routes(o, allow, new, table, true, changed, present, visits)?;
-    bundle_contacts::verify_priors(o, allow, new, priors, table, changed, present, visits)
+    let every = ChosenRoutes {
+        routes: changed.routes,
+        mask: None,
+    };
+    bundle_contacts::drawn_on_routes(rules, new, table, every, visits)?;
+    bundle_contacts::verify_priors(rules, new, priors, table, changed, visits)
 }
 
-// The routes that the mask chooses, in the order of the routes.
+// The chosen routes, in the order of the routes.
 pub fn verify_one_bundle_route_node_interiors(
-    boxes: &[f64],
-    ends: &[usize],
-    mask: &[bool],
-    present: PresentRoutes,
+    board: BoardSlices,
+    chosen: ChosenRoutes,
     visits: &mut GeometryVisits,
 ) -> Result<(), Refusal>
-    requires { InteriorTables boxes.now ends.now mask.now present.points.now present.counts.now }
-    ensures { told result visits.new.0 ≡ walk 12 (interior_looks boxes.now ends.now mask.now present.entry.points.now present.entry.counts.now) visits.old.0 }
+    requires { 2 * length chosen.routes.counts.now ≤ length board.ends.now }
+    ensures { told result visits.new.0 ≡ walk 12 (over_routes (inside_route board.entry.boxes.now board.entry.ends.now) (chosen_lent chosen.entry) (routes_lent chosen.entry.routes) 0) visits.old.0 }
 {
-    for e in 0..present.counts.len() {
-        if mask[e] {
-            let edge = looks::edge_at(ends, e);
-            let route = RouteView {
-                points: present.points,
-                start: SLOT_POINTS * e,
-                count: present.counts[e],
-            };
-            route_interiors::route_inside(boxes, edge, route, visits)?;
+    for e in 0..chosen.routes.counts.len() {
+        if looks::is_chosen(chosen, e) {
+            let edge = looks::edge_at(board.ends, e);
+            let route = looks::slot_of(chosen.routes, e);
+            route_interiors::route_inside(board.boxes, edge, route, visits)?;
         }
     }
     Ok(())

@@ -16,7 +16,6 @@ use Rattle.geometry.specs.Stretch.{holds, stretch}
 use Rattle.board.specs.declared.Bundle.{Bundle}
 use Rattle.board.specs.Board.{Board, rail_depth}
 use Rattle.search.specs.declared.Bounds.{Bounds}
-use Rattle.search.specs.declared.Outcome.TheVariants as outcome
 use Rattle.sorting.specs.Lists.{Every}
 use Rattle.plan.specs.declared.Bound.{Bound}
 use Rattle.plan.specs.declared.Bound.TheVariants.{None, At}

@@ -1,8 +1,8 @@
 -- The turns of the loops over runs, over the routes of a bundle's members, and over edges.
 -- Assumes nothing.
-use Rattle.std.specs.Prelude.{◌≡◌, Bool, false, length, get_or, take, drop, eqb, Float, Option}
+use Rattle.std.specs.Prelude.{◌≡◌, Bool, false, length, get_or, drop, Float, Option}
 use Rattle.std.proofs.Math.Path.{refl, sym, ap}
-use Rattle.std.proofs.Common.{◌∙◌, subst, length-drop, drop_of_length-le, get_or-take, get_or-drop, eq-eqb, ne_eqb}
+use Rattle.std.proofs.Common.{◌∙◌, length-drop, drop_of_length-le, get_or-take, get_or-drop, eq-eqb, ne_eqb}
 use Rattle.std.proofs.Math.Bool.{true, cond}
 use mathlib.Core.List.{List, [], ◌∷◌}
 use Prim.Native.Nat.{ℕ, zero, suc, ◌+◌, ◌-◌, ◌≤◌, ◌<◌}

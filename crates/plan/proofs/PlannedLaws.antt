@@ -4,7 +4,7 @@ use Rattle.std.specs.Prelude.{◌≡◌, refl, ◌⊎◌, Bool, true, false, con
 use Rattle.std.proofs.Common.{sym, ◌∙◌, subst, inl, inr, arith, le-leb}
 use Rattle.std.proofs.Math.Path.{ap}
 use mathlib.Core.List.{List, [], ◌∷◌}
-use Prim.Native.Nat.{ℕ, zero, suc, ◌+◌, ◌≤◌, ◌<◌}
+use Prim.Native.Nat.{ℕ, zero, suc, ◌≤◌, ◌<◌}
 use Rattle.binary64.specs.Rational.{Fraction, value}
 use Rattle.geometry.specs.declared.Role.{Role}
 use Rattle.board.specs.declared.Bundle.{Bundle}
@@ -17,14 +17,14 @@ use Rattle.search.specs.declared.Outcome.{Outcome}
 use Rattle.search.specs.declared.Outcome.TheVariants as outcome
 use Rattle.search.specs.Search.{search_of}
 use Rattle.search.specs.Freely.{freely}
-use Rattle.search.specs.BestOrder.{UpToℚ, Answers, Fair}
+use Rattle.search.specs.BestOrder.{UpToℚ, Answers}
 use Rattle.search.proofs.Best.{best}
 use Rattle.search.specs.Good.{Real, Good}
 use Rattle.search.specs.declared.CollectorBounds.{CollectorBounds}
 use Rattle.search.specs.declared.CollectorBounds.TheVariants.{Absent, Between}
 use Rattle.plan.specs.Bounds.{if_at, reach_all, between, bounds_of, trunks}
 use Rattle.plan.specs.Depths.{members_in}
-use Rattle.plan.specs.Plan.{Look, Ranged, no_ranged, ranged_at, ranged, initial_x, Plan, Step, going, refused, free, due, plan_of, plan_with, seek_in, seek, first_pass}
+use Rattle.plan.specs.Plan.{Ranged, no_ranged, ranged_at, ranged, initial_x, Plan, going, free, due, plan_of, seek_in, seek, first_pass}
 use Rattle.plan.proofs.Enough.{first_pass_same, first_pass_due}
 use Rattle.plan.specs.Lone.{Lone}
 use Rattle.plan.proofs.LonePlanned.{Kept, lone_kept}

@@ -1,6 +1,6 @@
 -- What the plan asks of the numbers of a board, and the operations on small numbers.
 -- Assumes nothing.
-use Rattle.std.specs.Prelude.{Bool, true, false, cond, List, [], ◌∷◌, ℕ, zero, suc, ◌+◌, ◌≤◌, ◌<◌, length, take, drop, T, Float}
+use Rattle.std.specs.Prelude.{List, [], ◌∷◌, ℕ, zero, suc, ◌+◌, ◌≤◌, ◌<◌, length, take, drop, T, Float}
 use Rattle.std.proofs.Common.{lt_of_le_of_lt, arith, lit<}
 use Rattle.std.specs.Float.{binary64}
 use Rattle.std.specs.Float.Ieee.{lt, fits}
@@ -18,10 +18,9 @@ use Rattle.geometry.specs.Points.{Route}
 use Rattle.board.specs.Board.{Board}
 use Rattle.plan.specs.declared.Bound.{Bound}
 use Rattle.plan.specs.declared.Bound.TheVariants as bounded
-use Rattle.search.specs.Stretches.{members}
 use Rattle.sorting.specs.Lists.{Every}
 use Rattle.search.specs.Good.{Real}
-use Rattle.plan.specs.Depths.{◌⊕◌, ◌⊖◌, number, lanes, lane_count}
+use Rattle.plan.specs.Depths.{◌⊕◌, ◌⊖◌, number, lane_count}
 use Rattle.plan.specs.Bounds.{raised, lowered}
 
 -- a number of the format of magnitude at most 2 ^ k

@@ -5,21 +5,22 @@
 
 #![tactic(auto)]
 
-ghost use Rattle.std.specs.Prelude.{◌≡◌, List, ℕ, ◌+◌, ◌*◌, ◌≤◌, length, Float};
-ghost use Rattle.limits.specs.Limits.{max_edges, max_members};
-ghost use Rattle.geometry.specs.declared.Role.TheVariants.{Input, Output};
+ghost use Rattle.std.specs.Prelude.{◌≡◌, List, ℕ, ◌+◌, ◌≤◌, length, Float};
+ghost use Rattle.limits.specs.Limits.{max_edges};
 ghost use Rattle.board.specs.Board.{Board};
-ghost use Rattle.geometry.specs.Points.{Route, points_from};
+ghost use Rattle.geometry.specs.Points.{Route};
+ghost use Rattle.geometry.specs.Lent.{route_lent};
 ghost use Rattle.plan.specs.declared.Bound.TheVariants.{None};
 ghost use Rattle.plan.specs.Depths.{members_in};
 ghost use Rattle.plan.specs.Bounds.{reach_all, bounds_of, tighter, reach_x, map_bound, unless_crossed, span_of};
-ghost use Rattle.plan.specs.Prepared.{other, end_x, Inside, Below, Rowed, Windowed, Cornered, Tells};
+ghost use Rattle.plan.specs.Prepared.{other, end_x, Below, Rowed, Tells};
+ghost use Rattle.plan.specs.Lent.{RoutesTell, CorridorsTell};
 
 use board::Bundle;
-use geometry::Role;
-use limits::{MAX_EDGES, MAX_MEMBERS};
+use geometry::{Role, RouteView};
+use plan::columns::{Corridors, MemberPlaces};
 use plan::{Bound, Reached};
-use search::{Bounds, CollectorBounds};
+use search::{Bounds, CollectorBounds, MemberRoutes};
 
 // ---- interior_collector_bounds
 
@@ -57,16 +58,15 @@ fn tighten(role: Role, d: Bound, x: f64) -> f64
 }
 
 // The end of a route that the collector is kept away from.
-fn end_x(role: Role, points: &[f64], start: usize, count: usize) -> Bound
-    requires { 2 * (start + count) ≤ length points.now }
-    ensures { result ≡ end_x role (points_from points.now start count) }
+fn end_x(role: Role, route: RouteView) -> Bound
+    ensures { result ≡ end_x role (route_lent route.entry) }
 {
-    if count == 0 {
+    if route.count == 0 {
         return Bound::None;
     }
     match role {
-        Role::Input => Bound::At(route_views::route_last(points, start, count).x),
-        Role::Output => Bound::At(route_views::route_point(points, start, count, 0).x),
+        Role::Input => Bound::At(route_views::view_last(route).x),
+        Role::Output => Bound::At(route_views::view_point(route, 0).x),
     }
 }
 
@@ -79,31 +79,33 @@ fn other(role: Role) -> Role
     }
 }
 
+// That the routes have the bundle's members is asked here and in plan_outputs: the routes are those of
+// every bundle, so neither struct can keep it.
+
 // How far all members of a bundle let the collector go.
 pub fn reach_all(
     role: Role,
     reserve: f64,
-    points: &[f64],
-    starts: &[usize; MAX_MEMBERS],
-    counts: &[usize; MAX_MEMBERS],
-    edges: &[usize; MAX_MEMBERS],
-    in_marks: &[bool; MAX_EDGES],
-    in_xs: &[f64; MAX_EDGES],
-    out_marks: &[bool; MAX_EDGES],
-    out_xs: &[f64; MAX_EDGES],
+    routes: MemberRoutes,
+    places: MemberPlaces,
+    corridors: Corridors,
     u: Bundle,
 ) -> Bound
-    requires { Below max_edges edges.now u × Inside points.now starts.now counts.now max_members }
-    ensures { (b : Board) (given : List Route) (lanes : List ℕ) → reserve ≡ b.options.member_endpoint_reserve → Rowed b edges.now lanes → u.first + u.count ≤ length b.members → Windowed b given points.now starts.now counts.now → Cornered b Input in_marks.now in_xs.now → Cornered b Output out_marks.now out_xs.now → result ≡ reach_all b given role None (members_in b u) }
+    requires below { Below max_edges places.edges.now u }
+    requires routed { u.first + u.count ≤ length routes.starts.now }
+    ensures { (b : Board) (given : List Route) (lanes : List ℕ) → reserve ≡ b.options.member_endpoint_reserve → Rowed b places.entry.edges.now lanes → u.first + u.count ≤ length b.members → RoutesTell b given routes.entry → CorridorsTell b corridors.entry → result ≡ reach_all b given role None (members_in b u) }
 {
     let across = other(role);
     let mut d = Bound::None;
     for i in 0..u.count {
         let k = u.first + i;
-        let corridor = plan_corridors::corridor_of(
-            across, in_marks, in_xs, out_marks, out_xs, edges[k],
-        );
-        let end = end_x(role, points, starts[k], counts[k]);
+        let corridor = plan_corridors::corridor_of(across, corridors, places.edges[k]);
+        let route = RouteView {
+            points: routes.points,
+            start: routes.starts[k],
+            count: routes.counts[k],
+        };
+        let end = end_x(role, route);
         let Bound::At(x) = member_reach(role, reserve, corridor, end) else {
             return Bound::None;
         };

@@ -5,30 +5,32 @@
 
 #![tactic(auto)]
 
-ghost use Rattle.std.specs.Prelude.{◌≡◌, List, map, ◌+◌, ◌*◌, ◌≤◌, length, take, Float};
+ghost use Rattle.std.specs.Prelude.{◌≡◌, List, map, ◌+◌, ◌≤◌, ◌<◌, length, take};
 ghost use Rattle.plan.specs.Depths.{further, pitch_of};
-ghost use Rattle.board.specs.Board.{Board, window};
-ghost use Rattle.geometry.specs.Points.{Route, points_from};
+ghost use Rattle.board.specs.Board.{Board};
+ghost use Rattle.geometry.specs.Points.{Route};
+ghost use Rattle.geometry.specs.Lent.{route_lent};
 ghost use Rattle.plan.specs.declared.Bound.TheVariants.{None};
 ghost use Rattle.plan.specs.Bounds.{if_at};
-ghost use Rattle.plan.specs.Prepared.{Inside, Routed, AllTell, AllAmong, Listing, SameBundles, x_of};
+ghost use Rattle.plan.specs.Prepared.{Listing, SameBundles, x_of};
+ghost use Rattle.plan.specs.Lent.{bundle_routes, BundleTells, LayoutTells};
 ghost use Rattle.plan.specs.Over.{divergence_over};
-ghost use Rattle.search.specs.Stretches.{routes};
 ghost use Rattle.plan.specs.Plan.{diverges_at, Ranged, asked, required};
 
 use board::Bundle;
-use geometry::Role;
-use plan::{Bound, Planning, Reaches};
+use geometry::{Role, RouteView};
+use plan::layout::Layout;
+use plan::{Bound, Planning};
+use search::MemberRoutes;
 
 // ---- required_output_collector_x
 
 // The end of a route's first run whose stretch holds x.
-fn run_end(role: Role, pitch: f64, x: f64, points: &[f64], start: usize, count: usize) -> Bound
-    requires { 2 * (start + count) ≤ length points.now }
-    ensures { result ≡ diverges_at role pitch x (points_from points.now start count) }
+fn run_end(role: Role, pitch: f64, x: f64, route: RouteView) -> Bound
+    ensures { result ≡ diverges_at role pitch x (route_lent route.entry) }
 {
-    for i in 0..count.saturating_sub(1) {
-        let run = route_views::route_run(points, start, count, i);
+    for i in 0..route.count.saturating_sub(1) {
+        let run = route_views::view_run(route, i);
         let s = shapes::shared_trunk_horizontal_range(run.start, run.end, role, pitch);
         if shapes::stretch_holds(s, x) {
             return Bound::At(run.end.x);
@@ -38,23 +40,19 @@ fn run_end(role: Role, pitch: f64, x: f64, points: &[f64], start: usize, count: 
 }
 
 // The furthest of the members' ends; absent where a member has none.
-pub fn input_shared_trunk_divergence_x(
-    points: &[f64],
-    starts: &[usize],
-    counts: &[usize],
-    pitch: f64,
-    u: Bundle,
-    x: f64,
-) -> Bound
-    requires starts_len { length starts.now ≡ length counts.now }
-    requires inside { Inside points.now starts.now counts.now (length starts.now) }
-    requires count_in_bounds { u.first + u.count ≤ length starts.now }
-    ensures { result ≡ divergence_over u.role pitch x None (routes points.now (window u.first u.count starts.now) (window u.first u.count counts.now)) }
+pub fn input_shared_trunk_divergence_x(routes: MemberRoutes, pitch: f64, u: Bundle, x: f64) -> Bound
+    requires { u.first + u.count ≤ length routes.starts.now }
+    ensures { result ≡ divergence_over u.role pitch x None (bundle_routes routes.entry u) }
 {
     let mut d = Bound::None;
     for i in 0..u.count {
         let k = u.first + i;
-        let Bound::At(y) = run_end(u.role, pitch, x, points, starts[k], counts[k]) else {
+        let route = RouteView {
+            points: routes.points,
+            start: routes.starts[k],
+            count: routes.counts[k],
+        };
+        let Bound::At(y) = run_end(u.role, pitch, x, route) else {
             return Bound::None;
         };
         d = plan_numbers::furthest(d, y);
@@ -63,16 +61,14 @@ pub fn input_shared_trunk_divergence_x(
 }
 
 // What one input asks of the outputs.
-fn ask(points: &[f64], starts: &[usize], counts: &[usize], pitch: f64, u: Bundle, x: Bound) -> Bound
-    requires starts_len { length starts.now ≡ length counts.now }
-    requires inside { Inside points.now starts.now counts.now (length starts.now) }
-    requires count_in_bounds { u.first + u.count ≤ length starts.now }
-    ensures { (b : Board) (given : List Route) → pitch ≡ pitch_of b u → Routed b given points.now starts.now counts.now u → result ≡ asked b given u x }
+fn ask(routes: MemberRoutes, pitch: f64, u: Bundle, x: Bound) -> Bound
+    requires { u.first + u.count ≤ length routes.starts.now }
+    ensures { (b : Board) (given : List Route) → pitch ≡ pitch_of b u → BundleTells b given routes.entry u → result ≡ asked b given u x }
 {
     match x {
         Bound::None => Bound::None,
         Bound::At(c) => {
-            let d = input_shared_trunk_divergence_x(points, starts, counts, pitch, u, c);
+            let d = input_shared_trunk_divergence_x(routes, pitch, u, c);
             match d {
                 Bound::None => Bound::None,
                 Bound::At(y) => Bound::At(binary64::max(c + pitch, y + pitch)),
@@ -81,6 +77,7 @@ fn ask(points: &[f64], starts: &[usize], counts: &[usize], pitch: f64, u: Bundle
     }
 }
 
+// As plan_numbers::raise, but what is raised may be absent too, so no one function serves both.
 fn further_of(r: Bound, a: Bound) -> Bound
     ensures { result ≡ if_at a r (further r) }
 {
@@ -91,26 +88,15 @@ fn further_of(r: Bound, a: Bound) -> Bound
 }
 
 // What the inputs in a list ask of the outputs.
-pub fn required_output_collector_x(
-    points: &[f64],
-    starts: &[usize],
-    counts: &[usize],
-    pitch: f64,
-    t: Reaches,
-    which: &[usize],
-    count: usize,
-    p: Planning,
-) -> Bound
-    requires starts_len { length starts.now ≡ length counts.now }
-    requires inside { Inside points.now starts.now counts.now (length starts.now) }
-    requires all_among { AllAmong starts.now t }
-    requires listing { Listing which.now count t.count }
-    ensures { (b : Board) (given : List Route) (rail : Float) (ranges : List Ranged) → AllTell b given points.now starts.now counts.now rail pitch t → SameBundles ranges t → result ≡ required b given ranges (map x_of (take t.count p.rows)) None (take count which.now) }
+pub fn required_output_collector_x(layout: Layout, which: &[usize], p: Planning) -> Bound
+    requires { Listing which.now layout.reaches.now.count }
+    ensures { (b : Board) (given : List Route) (ranges : List Ranged) → LayoutTells b given layout.entry → SameBundles ranges layout.entry.reaches.now → result ≡ required b given ranges (map x_of (take layout.entry.reaches.now.count p.rows)) None which.now }
 {
     let mut r = Bound::None;
-    for k in 0..count {
+    for k in 0..which.len() {
         let i = which[k];
-        let a = ask(points, starts, counts, pitch, t.rows[i].bundle, p.rows[i].x);
+        let u = layout.reaches.rows[i].bundle;
+        let a = ask(layout.routes, layout.pitch, u, p.rows[i].x);
         r = further_of(r, a);
     }
     r

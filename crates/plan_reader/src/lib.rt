@@ -13,6 +13,8 @@ use plan::{Bound, Planned, Planning};
 use refusal::Refusal;
 use search::TapVisits;
 
+// Places are asked to be below 2^20, and are numbers, as in crate wire.
+
 // The pattern of an entry's number.
 fn pattern_at(s: &[u8], at: usize) -> Result<u64, Refusal>
     requires { at < 1048576 }

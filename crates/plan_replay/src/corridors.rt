@@ -2,132 +2,85 @@
 
 ghost use Rattle.std.specs.Prelude.{ℕ, ◌+◌, ◌≤◌, ◌<◌, get_or};
 ghost use Rattle.limits.specs.Limits.{max_edges, max_members};
-ghost use Rattle.plan.specs.BoardTables.{Sound, no_member};
+ghost use Rattle.plan.specs.BoardTables.{no_member};
+ghost use Rattle.planner.specs.Members.{MembersIn};
 
-use crate::fields::{put_count, put_number};
+use crate::fields::Written;
 use board::{Bundle, Members};
 use geometry::Role;
-use job::Job;
-use limits::{MAX_EDGES, MAX_MEMBERS};
-use plan::Bound;
+use limits::MAX_EDGES;
+use plan::columns::{Corridors, MemberPlaces};
+use plan::tables::BoardTables;
+use plan::{Bound, Offsets};
 
-pub(crate) fn put_offsets(j: Job, out: &mut [u8], from: usize) -> usize
-    requires { Sound j.nodes j.ports j.bundles j.members }
-{
-    let bundles = j.bundles;
-    let n = bundles.count;
-    let t = plan_depths::corridor_depth_offsets(j.options, j.nodes, j.ports, bundles, j.members);
-    let mut at = put_count(out, from, n);
-    for x in &t.rows[..n] {
-        at = put_number(out, at, *x);
+pub(crate) fn put_offsets(t: BoardTables, offsets: Offsets, out: &mut Written) {
+    let n = t.bundles.count;
+    out.put_count(n);
+    for x in &offsets.rows[..n] {
+        out.put_number(*x);
     }
-    at
 }
 
 // A corridor; every edge of a member has one for the bundle's role.
-fn put_corridor(out: &mut [u8], at: usize, x: Bound) -> usize {
-    match x {
-        Bound::None => at,
-        Bound::At(y) => put_number(out, at, y),
+fn put_corridor(out: &mut Written, x: Bound) {
+    if let Bound::At(y) = x {
+        out.put_number(y);
     }
 }
 
 // The corridors of a bundle's members.
-fn put_members(
-    u: Bundle,
-    members: Members,
-    in_marks: &[bool; MAX_EDGES],
-    in_xs: &[f64; MAX_EDGES],
-    out_marks: &[bool; MAX_EDGES],
-    out_xs: &[f64; MAX_EDGES],
-    out: &mut [u8],
-    from: usize,
-) -> usize
-    requires count_le_max_members { (members.count ≤ max_members) × (u.first + u.count ≤ members.count) }
-    requires by_index { (i : ℕ) → i < members.count → (get_or members.rows i no_member).edge < max_edges }
+fn put_members(u: Bundle, members: &Members, c: Corridors, out: &mut Written)
+    requires few { (members.now.count ≤ max_members) × (u.first + u.count ≤ members.now.count) }
+    requires by_index { (i : ℕ) → i < members.now.count → (get_or members.now.rows i no_member).edge < max_edges }
 {
-    let mut at = put_count(out, from, u.count);
+    out.put_count(u.count);
     for i in 0..u.count {
         let m = members.rows[u.first + i];
-        let x = plan_corridors::corridor_of(u.role, in_marks, in_xs, out_marks, out_xs, m.edge);
-        at = put_corridor(out, at, x);
+        let x = plan_corridors::corridor_of(u.role, c, m.edge);
+        put_corridor(out, x);
     }
-    at
 }
 
 // The corridors of all bundles, from those of both roles.
-fn put_bundles(
-    j: Job,
-    in_marks: &[bool; MAX_EDGES],
-    in_xs: &[f64; MAX_EDGES],
-    out_marks: &[bool; MAX_EDGES],
-    out_xs: &[f64; MAX_EDGES],
-    out: &mut [u8],
-    from: usize,
-) -> usize
-    requires { Sound j.nodes j.ports j.bundles j.members }
-{
-    let mut at = put_count(out, from, j.bundles.count);
-    for i in 0..j.bundles.count {
-        at = put_members(
-            j.bundles.rows[i],
-            j.members,
-            in_marks,
-            in_xs,
-            out_marks,
-            out_xs,
-            out,
-            at,
-        );
+fn put_bundles(t: BoardTables, c: Corridors, out: &mut Written) {
+    out.put_count(t.bundles.count);
+    for i in 0..t.bundles.count {
+        put_members(t.bundles.rows[i], t.members, c, out);
     }
-    at
 }
 
-pub(crate) fn put_corridors(j: Job, out: &mut [u8], at: usize) -> usize
-    requires sound { Sound j.nodes j.ports j.bundles j.members × (j.edges.count ≤ max_edges) }
-    requires by_index { (i : ℕ) → i < j.members.count → (get_or j.members.rows i no_member).edge < j.edges.count }
+pub(crate) fn put_corridors(
+    t: BoardTables,
+    offsets: Offsets,
+    places: MemberPlaces,
+    out: &mut Written,
+)
+    requires { MembersIn t.members.now places.edges.now places.lanes.now }
 {
-    let mut starts = [0; MAX_MEMBERS];
-    let mut counts = [0; MAX_MEMBERS];
-    let mut edges = [0; MAX_MEMBERS];
-    let mut lanes = [0; MAX_MEMBERS];
-    planner::member_rows(
-        j.edges,
-        j.members,
-        &mut starts,
-        &mut counts,
-        &mut edges,
-        &mut lanes,
-    );
-    let offsets = plan_depths::corridor_depth_offsets(
-        j.options, j.nodes, j.ports, j.bundles, j.members,
-    );
-    let ends = planner::bundle_ends(j.nodes, j.ports, j.bundles);
-    let mut in_marks = [false; MAX_EDGES];
-    let mut in_xs = [0.0; MAX_EDGES];
+    let ends = planner::bundle_ends(t.nodes, t.ports, t.bundles);
+    let mut inputs = [Bound::None; MAX_EDGES];
+    let mut outputs = [Bound::None; MAX_EDGES];
     plan_corridors::fallback_corridors_by_edge(
         Role::Input,
-        j.options,
-        j.bundles,
+        t.options,
+        t.bundles,
         ends,
-        &edges,
-        &lanes,
+        places,
         offsets,
-        &mut in_marks,
-        &mut in_xs,
+        &mut inputs,
     );
-    let mut out_marks = [false; MAX_EDGES];
-    let mut out_xs = [0.0; MAX_EDGES];
     plan_corridors::fallback_corridors_by_edge(
         Role::Output,
-        j.options,
-        j.bundles,
+        t.options,
+        t.bundles,
         ends,
-        &edges,
-        &lanes,
+        places,
         offsets,
-        &mut out_marks,
-        &mut out_xs,
+        &mut outputs,
     );
-    put_bundles(j, &in_marks, &in_xs, &out_marks, &out_xs, out, at)
+    let c = Corridors {
+        inputs: &inputs,
+        outputs: &outputs,
+    };
+    put_bundles(t, c, out);
 }

@@ -1,54 +1,67 @@
-// Fields of a result; each answers the place after what it wrote. And a bound of a record.
+// Fields of a result, and a bound of a record.
 
 use plan::Bound;
 use search::{CollectorBounds, TapVisits};
 
-pub(crate) fn put_mark(out: &mut [u8], at: usize, x: u64) -> usize {
-    records::put_u8(out, at, x);
-    records::plus(at, 1)
+// The bytes of the longest result, and more.
+pub(crate) const OUT_ROOM: usize = 65536;
+
+// A result, as far as it is written.
+#[derive(Drop)]
+pub(crate) struct Written {
+    pub(crate) bytes: [u8; OUT_ROOM],
+    pub(crate) size: usize,
 }
 
-pub(crate) fn put_count(out: &mut [u8], at: usize, n: usize) -> usize {
-    records::put_u16(out, at, n as u64);
-    records::plus(at, 2)
-}
+// One function for each writer of records: a single one would take the writer and its size too.
+impl Written {
+    pub(crate) fn put_mark(&mut self, x: u64) {
+        records::put_u8(&mut self.bytes, self.size, x);
+        self.size = records::plus(self.size, 1);
+    }
 
-pub(crate) fn put_visits(out: &mut [u8], at: usize, v: TapVisits) -> usize {
-    records::put_u32(out, at, v.0 as u64);
-    records::plus(at, 4)
-}
+    pub(crate) fn put_count(&mut self, n: usize) {
+        records::put_u16(&mut self.bytes, self.size, n as u64);
+        self.size = records::plus(self.size, 2);
+    }
 
-pub(crate) fn put_number(out: &mut [u8], at: usize, x: f64) -> usize {
-    records::put_f64(out, at, x);
-    records::plus(at, 8)
-}
+    pub(crate) fn put_visits(&mut self, v: TapVisits) {
+        records::put_u32(&mut self.bytes, self.size, v.0 as u64);
+        self.size = records::plus(self.size, 4);
+    }
 
-// A tag, 0 or 1, and after 1 the number.
-pub(crate) fn put_bound(out: &mut [u8], at: usize, b: Bound) -> usize {
-    match b {
-        Bound::None => put_mark(out, at, 0),
-        Bound::At(x) => {
-            let next = put_mark(out, at, 1);
-            put_number(out, next, x)
+    pub(crate) fn put_number(&mut self, x: f64) {
+        records::put_f64(&mut self.bytes, self.size, x);
+        self.size = records::plus(self.size, 8);
+    }
+
+    // A tag, 0 or 1, and after 1 the number.
+    pub(crate) fn put_bound(&mut self, b: Bound) {
+        match b {
+            Bound::None => self.put_mark(0),
+            Bound::At(x) => {
+                self.put_mark(1);
+                self.put_number(x);
+            }
         }
     }
-}
 
-pub(crate) fn put_between(out: &mut [u8], at: usize, b: CollectorBounds) -> usize {
-    match b {
-        CollectorBounds::Absent => put_mark(out, at, 0),
-        CollectorBounds::Between(r) => {
-            let a = put_mark(out, at, 1);
-            let b = put_number(out, a, r.minimum);
-            let c = put_number(out, b, r.desired);
-            put_number(out, c, r.maximum)
+    pub(crate) fn put_between(&mut self, b: CollectorBounds) {
+        match b {
+            CollectorBounds::Absent => self.put_mark(0),
+            CollectorBounds::Between(r) => {
+                self.put_mark(1);
+                self.put_number(r.minimum);
+                self.put_number(r.desired);
+                self.put_number(r.maximum);
+            }
         }
     }
 }
 
 pub(crate) fn bound_at(record: &[u8], at: usize) -> Bound {
-    if records::u8_at(record, at) == 0 {
-        return Bound::None;
+    match records::option_at(record, at) {
+        None => Bound::None,
+        Some(x) => Bound::At(x),
     }
-    Bound::At(records::f64_at(record, records::plus(at, 1)))
 }

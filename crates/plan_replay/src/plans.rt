@@ -2,58 +2,43 @@
 
 ghost use Rattle.std.specs.Prelude.{◌≤◌};
 ghost use Rattle.limits.specs.Limits.{max_bundles};
-ghost use Rattle.plan.specs.BoardTables.{Sound, RoutesIn};
-ghost use Rattle.plan.specs.Prepared.{SearchRoom};
+ghost use Rattle.plan.specs.Lent.{OffsetsLent};
 
-use crate::fields::{put_bound, put_count, put_mark, put_visits};
-use job::Job;
-use plan::Planning;
+use crate::fields::Written;
+use crate::operations::Request;
+use plan::search_work::SearchWork;
+use plan::{Offsets, Planning};
 use refusal::Refusal;
-use search::TapVisits;
 
-fn put_planned(p: Planning, n: usize, out: &mut [u8], from: usize) -> usize
+fn put_planned(p: Planning, n: usize, out: &mut Written)
     requires { n ≤ max_bundles }
 {
-    let mut at = put_count(out, from, n);
+    out.put_count(n);
     for row in &p.rows[..n] {
-        at = put_bound(out, at, row.x);
+        out.put_bound(row.x);
     }
-    put_visits(out, at, p.left)
+    out.put_visits(p.left);
 }
 
-pub(crate) fn put_plan(
-    j: Job,
-    points: &[f64],
-    xs: &mut [f64],
-    scratch: &mut [f64],
-    out: &mut [u8],
-    at: usize,
-) -> usize
-    requires sound { Sound j.nodes j.ports j.bundles j.members × RoutesIn points.now j.edges j.members }
-    requires search_room { SearchRoom xs.old scratch.old }
+// That the offsets are those of the tables is a fact of two values.
+
+pub(crate) fn put_plan(q: Request, offsets: Offsets, work: &mut SearchWork, out: &mut Written)
+    requires { OffsetsLent q.tables offsets.rows }
 {
-    let offsets = plan_depths::corridor_depth_offsets(
-        j.options, j.nodes, j.ports, j.bundles, j.members,
-    );
     let r = planner::plan_interior_collectors(
-        j.options,
-        j.nodes,
-        j.ports,
-        j.edges,
-        j.bundles,
-        j.members,
+        q.tables,
         offsets,
-        points,
-        j.flags.separates_collectors,
-        TapVisits(j.grants.tap_visits),
-        xs,
-        scratch,
+        q.points,
+        q.separates,
+        q.granted,
+        work.xs,
+        work.scratch,
     );
     match r {
         Ok(p) => {
-            let next = put_mark(out, at, 0);
-            put_planned(p, j.bundles.count, out, next)
+            out.put_mark(0);
+            put_planned(p, q.tables.bundles.count, out);
         }
-        Err(e) => put_mark(out, at, u8::from(Refusal::from(e)) as u64),
+        Err(e) => out.put_mark(u8::from(Refusal::from(e)) as u64),
     }
 }

@@ -1,74 +1,61 @@
 // The results of 33 and 34: bounds, and searches between them.
 
-ghost use Rattle.std.specs.Prelude.{◌≤◌};
-ghost use Rattle.limits.specs.Limits.{max_bundles};
-ghost use Rattle.plan.specs.Prepared.{Searchable, AllAmong};
-
-use crate::fields::{put_between, put_count, put_mark, put_visits};
-use plan::{Bound, Reaches};
+use crate::fields::Written;
+use crate::operations::Between;
+use plan::layout::Layout;
+use plan::search_work::SearchWork;
 use search::{CollectorBounds, Outcome, TapVisits};
 
-pub(crate) fn put_all_bounds(
-    t: Reaches,
-    rail: f64,
-    pitch: f64,
-    lower: Bound,
-    upper: Bound,
-    out: &mut [u8],
-    from: usize,
-) -> usize
-    requires { t.count ≤ max_bundles }
-{
-    let n = t.count;
-    let mut at = put_count(out, from, n);
-    for r in &t.rows[..n] {
-        let b = plan_bounds::interior_collector_bounds(*r, rail, pitch, lower, upper);
-        at = put_between(out, at, b);
+pub(crate) fn put_all_bounds(layout: Layout, between: Between, out: &mut Written) {
+    let n = layout.reaches.count;
+    out.put_count(n);
+    for i in 0..n {
+        let b = plan_bounds::interior_collector_bounds(
+            layout.reaches.rows[i],
+            layout.rail,
+            layout.pitch,
+            between.lower,
+            between.upper,
+        );
+        out.put_between(b);
     }
-    at
 }
 
 // What a search says, and the bounds where it found an x.
-fn put_search(out: &mut [u8], at: usize, b: CollectorBounds, o: Outcome) -> usize {
+fn put_search(out: &mut Written, b: CollectorBounds, o: Outcome) {
     if !plan_numbers::is_found(b) {
-        return put_mark(out, at, 3);
+        out.put_mark(3);
+        return;
     }
     match o {
-        Outcome::Spent => put_mark(out, at, 2),
-        Outcome::Nothing => put_mark(out, at, 0),
-        Outcome::Found(_) => put_between(out, at, plan_searches::narrow(b, o)),
+        Outcome::Spent => out.put_mark(2),
+        Outcome::Nothing => out.put_mark(0),
+        Outcome::Found(_) => out.put_between(plan_searches::narrow(b, o)),
     }
 }
 
 pub(crate) fn put_searches(
-    points: &[f64],
-    starts: &[usize],
-    counts: &[usize],
-    t: Reaches,
-    rail: f64,
-    pitch: f64,
-    lower: Bound,
-    upper: Bound,
+    layout: Layout,
+    between: Between,
     granted: TapVisits,
-    xs: &mut [f64],
-    scratch: &mut [f64],
-    out: &mut [u8],
-    from: usize,
-) -> usize
-    requires searchable { Searchable points.now starts.now counts.now xs.old scratch.old }
-    requires all_among { AllAmong starts.now t }
-{
-    let n = t.count;
+    work: &mut SearchWork,
+    out: &mut Written,
+) {
+    let n = layout.reaches.count;
     let mut left = granted;
-    let mut at = put_count(out, from, n);
+    out.put_count(n);
     for i in 0..n {
-        let r = t.rows[i];
-        let b = plan_bounds::interior_collector_bounds(r, rail, pitch, lower, upper);
-        let s = plan_searches::search_between(
-            points, starts, counts, pitch, r.bundle, b, left, xs, scratch,
+        let r = layout.reaches.rows[i];
+        let b = plan_bounds::interior_collector_bounds(
+            r,
+            layout.rail,
+            layout.pitch,
+            between.lower,
+            between.upper,
         );
-        at = put_search(out, at, b, s.outcome);
+        let s = plan_searches::search_between(layout, r.bundle, b, left, work);
+        put_search(out, b, s.outcome);
         left = s.left;
     }
-    put_visits(out, at, left)
+    out.put_visits(left);
 }

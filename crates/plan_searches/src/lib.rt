@@ -5,37 +5,34 @@
 
 #![tactic(auto)]
 
-ghost use Rattle.std.specs.Prelude.{◌≡◌, List, take};
+ghost use Rattle.std.specs.Prelude.{◌≡◌, ◌<◌, List};
 ghost use Rattle.plan.specs.Depths.{pitch_of};
 ghost use Rattle.board.specs.Board.{Board};
 ghost use Rattle.geometry.specs.Points.{Route};
-ghost use Rattle.plan.specs.Prepared.{Searchable, Among, Routed, Tells, AllTell, AllAmong, RangedBy, passed, Listing, SameBundles, plan_in, upper_at};
+ghost use Rattle.plan.specs.Prepared.{Among, RangedBy, passed, reached_at, Listing, SameBundles, SameRows, plan_in, upper_at};
+ghost use Rattle.plan.specs.Lent.{BundleTells, ReachTells, LayoutTells};
 ghost use Rattle.plan.specs.Plan.{seek_in, seek, narrowed, first_pass, Ranged, again};
 ghost use Rattle.search.specs.Search.{search_of};
 
-use board::Bundle;
-use geometry::Role;
+use board::{Bundle, NO_BUNDLE};
 use limits::MAX_BUNDLES;
-use plan::{Bound, Planned, Planning, Range, Ranges, Ranging, Reached, Reaches, Upper};
-use search::{Bounds, CollectorBounds, Outcome, Searched, TapVisits};
+use plan::layout::Layout;
+use plan::search_work::SearchWork;
+use plan::{Bound, Planned, Planning, Range, Ranges, Ranging, Upper};
+use search::{Bounds, CollectorBounds, MemberRoutes, Outcome, Searched, Sought, TapVisits};
 
 // ---- interior_collector_bounds
 
 // The search for a collector between bounds.
 pub fn search_between(
-    points: &[f64],
-    starts: &[usize],
-    counts: &[usize],
-    pitch: f64,
+    layout: Layout,
     u: Bundle,
     bounds: CollectorBounds,
     granted: TapVisits,
-    xs: &mut [f64],
-    scratch: &mut [f64],
+    work: &mut SearchWork,
 ) -> Searched
-    requires searchable { Searchable points.now starts.now counts.now xs.old scratch.old }
-    requires among { Among starts.now u }
-    ensures { (b : Board) (given : List Route) → pitch ≡ pitch_of b u → Routed b given points.now starts.now counts.now u → result ≡ seek_in search_of b given u bounds granted.0 }
+    requires among { Among layout.routes.starts.now u }
+    ensures { (b : Board) (given : List Route) → layout.entry.pitch ≡ pitch_of b u → BundleTells b given layout.entry.routes u → result ≡ seek_in search_of b given u bounds granted.0 }
 {
     match bounds {
         CollectorBounds::Absent => Searched {
@@ -44,43 +41,42 @@ pub fn search_between(
         },
         CollectorBounds::Between(s) => {
             let end = u.first + u.count;
+            let routes = MemberRoutes {
+                points: layout.routes.points,
+                starts: &layout.routes.starts[u.first..end],
+                counts: &layout.routes.counts[u.first..end],
+            };
+            let sought = Sought {
+                role: u.role,
+                pitch: layout.pitch,
+                bounds: s,
+            };
             collector_xs::common_horizontal_collector_x(
-                points,
-                &starts[u.first..end],
-                &counts[u.first..end],
-                u.role,
-                pitch,
-                s,
+                routes,
+                sought,
                 granted,
-                xs,
-                scratch,
+                work.xs,
+                work.scratch,
             )
         }
     }
 }
 
-// The search for a collector between a lower and an upper bound, each search paid for.
+// The search for the collector of bundle i between a lower and an upper bound, each search paid for.
 pub fn interior_collector_range_bounded(
-    points: &[f64],
-    starts: &[usize],
-    counts: &[usize],
-    rail: f64,
-    pitch: f64,
-    r: Reached,
+    layout: Layout,
+    i: usize,
     lower: Bound,
     upper: Bound,
     granted: TapVisits,
-    xs: &mut [f64],
-    scratch: &mut [f64],
+    work: &mut SearchWork,
 ) -> Searched
-    requires searchable { Searchable points.now starts.now counts.now xs.old scratch.old }
-    requires among { Among starts.now r.bundle }
-    ensures { (b : Board) (given : List Route) → Tells b given points.now starts.now counts.now rail pitch r → result ≡ seek search_of b given r.bundle lower upper granted.0 }
+    requires counted { i < layout.reaches.now.count }
+    ensures { (b : Board) (given : List Route) → ReachTells b given layout.entry (reached_at layout.entry.reaches.now i) → result ≡ seek search_of b given (reached_at layout.entry.reaches.now i).bundle lower upper granted.0 }
 {
-    let bounds = plan_bounds::interior_collector_bounds(r, rail, pitch, lower, upper);
-    search_between(
-        points, starts, counts, pitch, r.bundle, bounds, granted, xs, scratch,
-    )
+    let r = layout.reaches.rows[i];
+    let bounds = plan_bounds::interior_collector_bounds(r, layout.rail, layout.pitch, lower, upper);
+    search_between(layout, r.bundle, bounds, granted, work)
 }
 
 // ---- the first pass
@@ -99,27 +95,27 @@ pub fn narrow(b: CollectorBounds, o: Outcome) -> CollectorBounds
     }
 }
 
-// The first search of one bundle.
+// The first search of bundle i.
 fn interior_collector_range(
-    points: &[f64],
-    starts: &[usize],
-    counts: &[usize],
-    rail: f64,
-    pitch: f64,
-    r: Reached,
+    layout: Layout,
+    i: usize,
     granted: TapVisits,
-    xs: &mut [f64],
-    scratch: &mut [f64],
+    work: &mut SearchWork,
 ) -> Ranging
-    requires searchable { Searchable points.now starts.now counts.now xs.old scratch.old }
-    requires among { Among starts.now r.bundle }
-    ensures { (b : Board) (given : List Route) → Tells b given points.now starts.now counts.now rail pitch r → RangedBy b given r.bundle granted.0 result }
+    requires counted { i < layout.reaches.now.count }
+    ensures told { (b : Board) (given : List Route) → ReachTells b given layout.entry (reached_at layout.entry.reaches.now i) → RangedBy b given (reached_at layout.entry.reaches.now i).bundle granted.0 result }
+    ensures same { result.range.bundle ≡ (reached_at layout.entry.reaches.now i).bundle }
 {
-    let bounds = plan_bounds::interior_collector_bounds(r, rail, pitch, Bound::None, Bound::None);
-    let u = r.bundle;
-    let s = search_between(
-        points, starts, counts, pitch, u, bounds, granted, xs, scratch,
+    let r = layout.reaches.rows[i];
+    let bounds = plan_bounds::interior_collector_bounds(
+        r,
+        layout.rail,
+        layout.pitch,
+        Bound::None,
+        Bound::None,
     );
+    let u = r.bundle;
+    let s = search_between(layout, u, bounds, granted, work);
     Ranging {
         range: Range {
             bundle: u,
@@ -130,38 +126,17 @@ fn interior_collector_range(
 }
 
 // The first search of each bundle, in order.
-pub fn first_pass(
-    points: &[f64],
-    starts: &[usize],
-    counts: &[usize],
-    rail: f64,
-    pitch: f64,
-    t: Reaches,
-    granted: TapVisits,
-    xs: &mut [f64],
-    scratch: &mut [f64],
-) -> Ranges
-    requires searchable { Searchable points.now starts.now counts.now xs.old scratch.old }
-    requires all_among { AllAmong starts.now t }
-    ensures { (b : Board) (given : List Route) → AllTell b given points.now starts.now counts.now rail pitch t → passed t.count result ≡ first_pass search_of b given b.bundles granted.0 }
+pub fn first_pass(layout: Layout, granted: TapVisits, work: &mut SearchWork) -> Ranges
+    ensures told { (b : Board) (given : List Route) → LayoutTells b given layout.entry → passed layout.entry.reaches.now.count result ≡ first_pass search_of b given b.bundles granted.0 }
+    ensures same { SameRows result layout.entry.reaches.now }
 {
-    let none = Bundle {
-        id: 0,
-        port: 0,
-        role: Role::Input,
-        width: 0,
-        first: 0,
-        count: 0,
-    };
     let mut rows = [Range {
-        bundle: none,
+        bundle: NO_BUNDLE,
         bounds: CollectorBounds::Absent,
     }; MAX_BUNDLES];
     let mut left = granted;
-    for i in 0..t.count {
-        let s = interior_collector_range(
-            points, starts, counts, rail, pitch, t.rows[i], left, xs, scratch,
-        );
+    for i in 0..layout.reaches.count {
+        let s = interior_collector_range(layout, i, left, work);
         rows[i] = s.range;
         left = s.left;
     }
@@ -186,33 +161,22 @@ fn upper_at(pitch: f64, upper: Upper, x: Bound) -> Bound
 
 // The bundles in a list are searched anew, in order.
 pub fn search_again(
-    points: &[f64],
-    starts: &[usize],
-    counts: &[usize],
-    rail: f64,
-    pitch: f64,
-    t: Reaches,
+    layout: Layout,
     which: &[usize],
-    count: usize,
     lower: Bound,
     upper: Upper,
     p: Planning,
-    xs: &mut [f64],
-    scratch: &mut [f64],
+    work: &mut SearchWork,
 ) -> Planning
-    requires searchable { Searchable points.now starts.now counts.now xs.old scratch.old }
-    requires all_among { AllAmong starts.now t }
-    requires listing { Listing which.now count t.count }
-    ensures { (b : Board) (given : List Route) (ranges : List Ranged) → AllTell b given points.now starts.now counts.now rail pitch t → SameBundles ranges t → plan_in t.count result ≡ again search_of b given ranges (λ x. lower) (upper_at pitch upper) (take count which.now) (plan_in t.count p) }
+    requires listing { Listing which.now layout.reaches.now.count }
+    ensures { (b : Board) (given : List Route) (ranges : List Ranged) → LayoutTells b given layout.entry → SameBundles ranges layout.entry.reaches.now → plan_in layout.entry.reaches.now.count result ≡ again search_of b given ranges (λ x. lower) (upper_at layout.entry.pitch upper) which.now (plan_in layout.entry.reaches.now.count p) }
 {
     let mut rows = p.rows;
     let mut left = p.left;
-    for k in 0..count {
+    for k in 0..which.len() {
         let i = which[k];
-        let most = upper_at(pitch, upper, rows[i].x);
-        let s = interior_collector_range_bounded(
-            points, starts, counts, rail, pitch, t.rows[i], lower, most, left, xs, scratch,
-        );
+        let most = upper_at(layout.pitch, upper, rows[i].x);
+        let s = interior_collector_range_bounded(layout, i, lower, most, left, work);
         let x = plan_numbers::found_x(s.outcome);
         rows[i] = Planned { x };
         left = s.left;

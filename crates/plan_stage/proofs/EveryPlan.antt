@@ -1,39 +1,29 @@
 -- What is promised of every plan's sheet, proved: plans that no planner made, and minus zero in them, included. Assumes nothing.
-use Rattle.std.specs.Prelude.{ℕ, ◌≤◌, ◌<◌, ◌≡◌, refl, Bool, true, cond, ℤ, Float, length, take}
+use Rattle.std.specs.Prelude.{ℕ, ◌≤◌, ◌<◌, ◌≡◌, Bool, true, cond, length, take}
 use Rattle.std.proofs.Common.{sym, ap, ◌∙◌, subst, arith, lt-ltb, le-ltb}
-use mathlib.Core.List.{List, [], ◌∷◌, map}
-use Rattle.limits.specs.Limits.{answer_room, plan_room, largest_answer}
-use Rattle.sorting.specs.Lists.{Every}
+use mathlib.Core.List.{List, []}
+use Rattle.limits.specs.Limits.{answer_room, largest_answer}
 use Rattle.job.specs.Job.{Job, read_job}
 use Rattle.job.specs.Job as job
 use Rattle.job.proofs.Sound.{accepted_sound}
-use Rattle.plan.specs.declared.Bound.{Bound}
-use Rattle.plan.specs.declared.Bound.TheVariants as bounded
-use Rattle.plan.proofs.CarriedNumbers.{OfBound}
 use Rattle.plan.specs.Plan.{Plan}
-use Rattle.drawing.specs.Sheet as sheets
-use Rattle.answer.specs.Answer.{answer_bytes, notice_bytes}
-use Rattle.answer.proofs.Back.{Real}
+use Rattle.answer.specs.Answer.{answer_bytes}
 use Rattle.answer.proofs.Stores.{notice_length}
-use Rattle.plan_bytes.specs.PlanBytes.{Taken, rejected, taken, every_planned, plannable}
+use Rattle.plan_bytes.specs.PlanBytes.{taken}
 use Rattle.plan_bytes.specs.PlanBack.{Fair, taken_fair}
-use Rattle.plan_bytes.specs.PlanNumbers.{both, every_within, plannable_on_grid}
-use Rattle.promise.specs.Stage.{Finished, answer_of, Told, refused, drawn, sheet_drawn, after_sheet, told_bytes}
+use Rattle.plan_bytes.specs.PlanNumbers.{every_within}
+use Rattle.promise.specs.Stage.{Finished, answer_of, Told, sheet_drawn, after_sheet, told_bytes}
 use Rattle.promise.proofs.BoardDemand.{Shaped}
 use Rattle.promise.specs.Demand3.{crossing_bit}
 use Rattle.promise.proofs.Demand.{kept_on_sheet, best_places}
 use Rattle.promise.proofs.Flags.{on_grid_bit}
-use Rattle.promise.proofs.Size.{sheet_size, Room, too_short, enough, room_of, over}
+use Rattle.promise.proofs.Size.{Room, too_short, enough, room_of, over}
 use Rattle.last_shift.proofs.Answered.{carried_of}
-use Rattle.grid.specs.On.{on}
-use Rattle.grid_plan.specs.Image as I
-use Rattle.grid_plan.specs.Plan as P
-use Rattle.grid_plan.specs.Sizes.{Placed}
 use Rattle.grid_promise.proofs.ExactShift.{shift_exact}
 use Rattle.grid_promise.proofs.Theorem.{carried_on_grid}
 use Rattle.grid_promise.proofs.Whole.{in_wholes, drawn_is, answer_from}
-use Rattle.plan_stage.specs.Entries.{plan_written, plan_for, plan_phase, after_taking, with_plan, draw_told, draw_written, draw_of}
-use Rattle.plan_stage.specs.PlanDemand3.{ComesFrom, KeptFrom, Demand3From, KeptInAnswerFrom, Demand3InAnswerFrom, GridFrom, OnGridFrom, KeptOnGridFrom, Demand3OnGridFrom, PromisedFrom}
+use Rattle.plan_stage.specs.Entries.{plan_for, plan_phase, after_taking, with_plan, draw_told, draw_written, draw_of}
+use Rattle.plan_stage.specs.PlanDemand3.{ComesFrom, KeptFrom, Demand3From, Demand3InAnswerFrom, OnGridFrom, Demand3OnGridFrom, PromisedFrom}
 use Rattle.plan_stage.proofs.OwnPlan.{own_plan}
 use Rattle.plan_stage.proofs.EitherPlan.{ComesWith, CauseWith, a_refusal, a_sheet, cause_with, told_size, taken_shaped, taken_whole}
 

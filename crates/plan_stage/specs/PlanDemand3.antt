@@ -10,7 +10,7 @@ use Rattle.drawing.specs.Normal as drawing
 use Rattle.drawing.specs.Normal.{sheet_after}
 use Rattle.drawing.specs.Sheet.{Progress}
 use Rattle.drawing.specs.Sheet as sheets
-use Rattle.answer.specs.Answer.{Sheet, answer_bytes}
+use Rattle.answer.specs.Answer.{answer_bytes}
 use Rattle.plan_bytes.specs.PlanBytes.{taken}
 use Rattle.promise.specs.Stage.{Finished, answer_of, sheet_drawn}
 use Rattle.promise.specs.Demand3.{crossing_bit, KeptOnSheet, BestPlaces}

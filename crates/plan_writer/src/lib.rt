@@ -31,6 +31,9 @@ fn put_entry(out: &mut [u8], at: usize, x: Bound) -> usize
     }
 }
 
+// That n is at most the limit is asked by each function: it is a count of rows in tables that are given
+// whole, with no type of its own.
+
 // The entries of the first n bundles.
 fn put_entries(out: &mut [u8], from: usize, p: Planning, n: usize) -> usize
     requires { (n ≤ max_bundles) × (from + 9 * n ≤ length out.old) }

@@ -1,5 +1,5 @@
 -- The flags of an accepted job are the bits of its byte 5. Assumes nothing.
-use Rattle.std.specs.Prelude.{ℕ, ◌+◌, ◌/◌, ◌%◌, ◌≤◌, ◌≡◌, Bool, true, false, cond, List, leb, eqb, length, get_or, take, drop}
+use Rattle.std.specs.Prelude.{ℕ, ◌+◌, ◌/◌, ◌%◌, ◌≤◌, ◌≡◌, Bool, true, false, cond, List, leb, eqb, length, get_or, take, drop, Option, Some, None}
 use Rattle.std.proofs.Common.{sym, ap, ◌∙◌, subst, arith, length-drop, leb-true, ne_eqb, eq-eqb}
 use Rattle.board.specs.Board.{Board}
 use Rattle.geometry.specs.declared.Point.{Point}
@@ -9,7 +9,6 @@ use Rattle.wire.specs.Read.{got, after, field}
 use Rattle.wire.specs.ReadLaws.{field_at}
 use Rattle.job.specs.declared.Flags.{Flags}
 use Rattle.job.specs.declared.Header.{Header}
-use Rattle.job.specs.Keys.{Known, unknown, known}
 use Rattle.job.specs.LoopSteps.{came, got_both}
 use Rattle.job.proofs.Kept.{field_takes}
 use Rattle.job.proofs.GoodRecords.{picked}
@@ -54,10 +53,10 @@ header_flags s at h t e =
     subst (λ (x : Flags). FlagsAre (get_or s at 0) x) (ap (λ (x : Header). x.flags) q.0)
     (subst (λ (z : ℕ). FlagsAre z a.value) n.0 (flags_are m.value m.rest a.value a.rest m.second))
 
-nine_flags : (k : Known Board) (h : Header) (ps : List Point) (j : Job) → or_nine k h ps ≡ accepted j → h.flags ≡ j.flags
+nine_flags : (k : Option Board) (h : Header) (ps : List Point) (j : Job) → or_nine k h ps ≡ accepted j → h.flags ≡ j.flags
 unfolding or_nine
-nine_flags unknown h ps j e = let z : ◌≡◌ {A = ℕ} 0 1 = cc in absurd (omega arith)
-nine_flags (known b) h ps j e = let z : ◌≡◌ {A = Job} (record { flags = h.flags; grants = h.grants; board = b; points = ps }) j = cc in ap (λ (x : Job). x.flags) z
+nine_flags None h ps j e = let z : ◌≡◌ {A = ℕ} 0 1 = cc in absurd (omega arith)
+nine_flags (Some b) h ps j e = let z : ◌≡◌ {A = Job} (record { flags = h.flags; grants = h.grants; board = b; points = ps }) j = cc in ap (λ (x : Job). x.flags) z
 
 settled_flags : (h : Header) (t : Tables) (j : Job) → settled h t ≡ accepted j → h.flags ≡ j.flags
 unfolding settled

@@ -1,7 +1,7 @@
 -- No false joint: the first three sentences of demand 3, of a sheet whose numbers are finite and whose tests are all clear; so of every sheet that is drawn.
 -- Assumes nothing.
 use Rattle.std.specs.Prelude.{ℕ, zero, suc, ◌<◌, ◌≡◌, refl, Bool, true, false, ◌||◌, cond, T, eqb, length, get_or, Float, Some, None}
-use Rattle.std.proofs.Common.{sym, subst, arith, eqb-true, ne_eqb}
+use Rattle.std.proofs.Common.{subst, arith, eqb-true, ne_eqb}
 use mathlib.Core.List.Memᴰ
 use mathlib.Core.List.{List, [], ◌∷◌, Memᴰ}
 use Rattle.std.specs.Float.Ieee.Scale.{finite}

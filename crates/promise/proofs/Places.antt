@@ -1,11 +1,10 @@
 -- Best places: the last sentence of demand 3.
 -- Assumes nothing.
-use Rattle.std.specs.Prelude.{ℕ, zero, suc, ◌≤◌, ◌<◌, Bool, true, false, ◌&&◌, T, length, get_or, take, Float, Option, Some, None}
+use Rattle.std.specs.Prelude.{ℕ, zero, suc, ◌≤◌, ◌<◌, Bool, true, false, length, get_or, take, Float, Option, Some, None}
 use Rattle.std.proofs.Math.Path.{◌≡◌, refl, sym}
 use Rattle.std.proofs.Common.{ap, ◌∙◌, subst, inl, inr, arith, ne_eqb}
 use mathlib.Core.List.{List, [], ◌∷◌, map}
 use Rattle.std.specs.Float.Ieee.{le}
-use Rattle.std.specs.Float.Ieee.Fits.{and_i}
 use Rattle.binary64.proofs.Fraction.{AtMostℚ→le}
 use Rattle.binary64.specs.Rational.{Fraction, Sameℚ, value}
 use Rattle.geometry.specs.declared.Point.{Point}

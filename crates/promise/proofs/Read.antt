@@ -1,6 +1,6 @@
 -- What the reader leaves of an accepted job is what demand 3's proof asks for. Assumes nothing.
 use Prim.Native.Nat.{ℕ, zero, suc, ◌<◌}
-use Rattle.std.specs.Prelude.{◌≡◌, refl, Bool, true, false, ◌||◌, length, get_or, take, drop, T, pos, Float}
+use Rattle.std.specs.Prelude.{◌≡◌, refl, Bool, true, length, get_or, take, drop, T, pos, Float}
 use Rattle.std.proofs.Common.{sym, ap, ◌∙◌, subst, inl, inr, true≢false, arith, eq-eqb}
 use mathlib.Core.List.{List, [], ◌∷◌, ◌++◌, map}
 use Rattle.std.specs.Float.{fin}

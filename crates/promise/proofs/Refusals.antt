@@ -1,5 +1,5 @@
 -- The numbers that the reader refuses with, 1 to 9 or 15, and each exactly when it is due. Assumes nothing.
-use Rattle.std.specs.Prelude.{ℕ, zero, suc, ◌+◌, ◌-◌, ◌≤◌, ◌≡◌, refl, ◌⊎◌, Bool, true, false, ◌&&◌, cond, List, [], leb, eqb, Float, length, get_or, take, drop}
+use Rattle.std.specs.Prelude.{ℕ, zero, suc, ◌+◌, ◌-◌, ◌≤◌, ◌≡◌, refl, ◌⊎◌, Bool, true, false, cond, List, [], leb, eqb, Float, length, get_or, take, drop, Option, Some, None}
 use Rattle.std.proofs.Common.{sym, ◌∙◌, subst, inl, inr, true≢false, arith, leb-true, eqb-true, le-leb, eq-eqb, ne_eqb}
 use Rattle.std.proofs.lemmas.Bool.{eqb-false}
 use Rattle.limits.specs.Limits.{max_nodes, max_ports, max_edges, max_route_points, max_points, max_bundles, max_bundle_members, max_members, max_lane, max_tap_visits, max_geometry_visits}
@@ -14,11 +14,9 @@ use Rattle.wire.specs.Read.{Read, refused, got, Reader, after, read, give, field
 use Rattle.wire.specs.ReadLaws.{field_at}
 use Rattle.grid.specs.DraftingGrid.{on_drafting_grid}
 use Rattle.wire.specs.Accept.{number_in_bits, taken, number_in, gridded, coordinate, size, option}
-use Rattle.job.specs.Keys.{Known, unknown, known}
 use Rattle.job.specs.declared.Counts.{Counts}
 use Rattle.job.specs.declared.Header.{Header}
 use Rattle.job.specs.Job.{flags_of, side_of, role_of, options, grants, counts, header, node, port, point, member, within_total, counted, edge_head, bundle_head, push, EdgeList, BundleList, next_edge, next_bundle, Tables, ended, tables, some_twice, resolved, Outcome, refusal, or_nine, settled, outcome, fields, version, lengths_fit, read_job}
-use Rattle.drawing.specs.Sheet as drawing
 use Rattle.promise.specs.Due.{LengthFits, Begun, FieldsRead, DueInReading, one, three, in_head, in_tables, eight, nine}
 
 -- from low to high
@@ -207,10 +205,10 @@ cond_numbered : (b : Bool) (x : Outcome) (n : ℕ) → Numbered x → ReaderNumb
 cond_numbered true x n g h r e = g r e
 cond_numbered false x n g h r e = let z : n ≡ r = cc in subst (ReaderNumber) z h
 
-nine_numbered : (k : Known Board) (h : Header) (ps : List Point) → Numbered (or_nine k h ps)
+nine_numbered : (k : Option Board) (h : Header) (ps : List Point) → Numbered (or_nine k h ps)
 unfolding or_nine
-nine_numbered unknown h ps r e = let z : 9 ≡ r = cc in inl (omega arith, omega arith)
-nine_numbered (known b) h ps r e = let z : ◌≡◌ {A = ℕ} 0 1 = cc in absurd (omega arith)
+nine_numbered None h ps r e = let z : 9 ≡ r = cc in inl (omega arith, omega arith)
+nine_numbered (Some b) h ps r e = let z : ◌≡◌ {A = ℕ} 0 1 = cc in absurd (omega arith)
 
 settled_numbered : (h : Header) (t : Tables) → Numbered (settled h t)
 unfolding settled
@@ -283,9 +281,9 @@ settled_due : (s : List ℕ) (h : Header) (t : Tables) → FieldsRead s h t → 
 unfolding settled or_nine
 settled_due s h t r n e = go (some_twice t) refl e
   where
-    known_or : (k : Known Board) → some_twice t ≡ false → resolved h.options t ≡ k → or_nine k h t.edges.points ≡ refusal n → DueInReading s n
-    known_or unknown a q f = let z : 9 ≡ n = cc in subst (DueInReading s) z (nine h t r a q)
-    known_or (known b) a q f = let z : ◌≡◌ {A = ℕ} 0 1 = cc in absurd (omega arith)
+    known_or : (k : Option Board) → some_twice t ≡ false → resolved h.options t ≡ k → or_nine k h t.edges.points ≡ refusal n → DueInReading s n
+    known_or None a q f = let z : 9 ≡ n = cc in subst (DueInReading s) z (nine h t r a q)
+    known_or (Some b) a q f = let z : ◌≡◌ {A = ℕ} 0 1 = cc in absurd (omega arith)
 
     go : (b : Bool) → some_twice t ≡ b → cond b (refusal 8) (or_nine (resolved h.options t) h t.edges.points) ≡ refusal n → DueInReading s n
     go true a f = let z : 8 ≡ n = cc in subst (DueInReading s) z (eight h t r a)

@@ -2,54 +2,46 @@
 //
 // Ported from cachanova/schemweave, commit c4a1a2c60a, crates/schemweave/src/boundary_bundles.rs
 // (Apache-2.0, see NOTICE): common_horizontal_collector_xs, common_horizontal_collector_x and
-// promotion_collector_candidates. The members' routes are windows of points in one lent slice of
-// coordinates, the route of member m being counts[m] points from point starts[m] on.
+// promotion_collector_candidates.
 
 #![tactic(auto)]
 
 ghost use Rattle.std.specs.Prelude.{◌+◌, ◌*◌, ◌≤◌, ◌<◌, length, take};
-ghost use Rattle.search.specs.Stretches.{members, routes, Windows, runs_in};
+ghost use Rattle.search.specs.Stretches.{runs_in};
+ghost use Rattle.search.specs.Lent.{members_lent};
 ghost use Rattle.search.specs.Promotion.{with_adjacent, promotion_xs, Promotes};
 
-use geometry::Role;
-use search::{Bounds, Listed, Promoted, TapVisits};
+use search::{Bounds, Listed, MemberRoutes, Promoted, Sought, TapVisits};
 
 // ---- promotion_collector_candidates
 
 // A second search one pitch beside the desired x, behind the first n numbers of xs, which are the
 // first one's list. What the rest of xs and scratch hold afterwards is left open.
-fn add_adjacent(
-    points: &[f64],
-    starts: &[usize],
-    counts: &[usize],
-    role: Role,
-    pitch: f64,
-    b: Bounds,
+fn add_adjacent<'a>(
+    routes: MemberRoutes<'a>,
+    sought: Sought,
     n: usize,
     left: TapVisits,
     xs: &mut [f64],
     scratch: &mut [f64],
 ) -> Promoted
-    requires windows { Windows points.now starts.now counts.now }
-    requires counts_in_bounds { n + runs_in (members role pitch (routes points.now starts.now counts.now)) < length xs.old }
-    requires counts_in_bounds_2 { length xs.old + 2 * runs_in (members role pitch (routes points.now starts.now counts.now)) ≤ length scratch.old }
-    ensures { Promotes result xs.new (length xs.old) (with_adjacent role pitch b (members role pitch (routes points.now starts.now counts.now)) (take n xs.old) left.0) }
+    requires room { n + runs_in (members_lent sought.role sought.pitch routes) < length xs.old }
+    requires scratch_room { length xs.old + 2 * runs_in (members_lent sought.role sought.pitch routes) ≤ length scratch.old }
+    ensures { Promotes result xs.new (length xs.old) (with_adjacent sought.role sought.pitch sought.bounds (members_lent sought.role sought.pitch routes.entry) (take n xs.old) left.0) }
 {
-    let lane = search_runs::adjacent_lane(role, pitch, b.desired);
-    if !search_runs::is_between(b, lane) {
+    let lane = search_runs::adjacent_lane(sought.role, sought.pitch, sought.bounds.desired);
+    if !search_runs::is_between(sought.bounds, lane) {
         return Promoted::All(n, left);
     }
-    let second = Bounds {
-        minimum: b.minimum,
-        desired: lane,
-        maximum: b.maximum,
+    let second = Sought {
+        bounds: Bounds {
+            desired: lane,
+            ..sought.bounds
+        },
+        ..sought
     };
     let g = collector_xs::common_horizontal_collector_xs(
-        points,
-        starts,
-        counts,
-        role,
-        pitch,
+        routes,
         second,
         left,
         &mut xs[n..],
@@ -59,7 +51,7 @@ fn add_adjacent(
         Listed::Spent => Promoted::SecondSpent(n),
         Listed::All(m, rest) => {
             let both = n + m;
-            let k = search_lists::put_in_order(role, &mut xs[..both], scratch);
+            let k = search_lists::put_in_order(sought.role, &mut xs[..both], scratch);
             Promoted::All(k, rest)
         }
     }
@@ -67,29 +59,20 @@ fn add_adjacent(
 
 // The candidates of both searches, at the front of xs. What the rest of xs and scratch hold
 // afterwards is left open.
-pub fn promotion_candidates(
-    points: &[f64],
-    starts: &[usize],
-    counts: &[usize],
-    role: Role,
-    pitch: f64,
-    b: Bounds,
+pub fn promotion_candidates<'a>(
+    routes: MemberRoutes<'a>,
+    sought: Sought,
     granted: TapVisits,
     xs: &mut [f64],
     scratch: &mut [f64],
 ) -> Promoted
-    requires windows { Windows points.now starts.now counts.now }
-    requires counts_in_bounds { 2 * runs_in (members role pitch (routes points.now starts.now counts.now)) + 1 < length xs.old }
-    requires counts_in_bounds_2 { length xs.old + 2 * runs_in (members role pitch (routes points.now starts.now counts.now)) ≤ length scratch.old }
-    ensures { Promotes result xs.new (length xs.old) (promotion_xs role pitch b (members role pitch (routes points.now starts.now counts.now)) granted.0) }
+    requires room { 2 * runs_in (members_lent sought.role sought.pitch routes) + 1 < length xs.old }
+    requires scratch_room { length xs.old + 2 * runs_in (members_lent sought.role sought.pitch routes) ≤ length scratch.old }
+    ensures { Promotes result xs.new (length xs.old) (promotion_xs sought.role sought.pitch sought.bounds (members_lent sought.role sought.pitch routes.entry) granted.0) }
 {
-    let g = collector_xs::common_horizontal_collector_xs(
-        points, starts, counts, role, pitch, b, granted, xs, scratch,
-    );
+    let g = collector_xs::common_horizontal_collector_xs(routes, sought, granted, xs, scratch);
     match g {
         Listed::Spent => Promoted::Spent,
-        Listed::All(n, left) => add_adjacent(
-            points, starts, counts, role, pitch, b, n, left, xs, scratch,
-        ),
+        Listed::All(n, left) => add_adjacent(routes, sought, n, left, xs, scratch),
     }
 }

@@ -41,15 +41,15 @@ use Rattle.sorting.specs.Lists.{Every}
 use Rattle.plan.specs.Depths.{number, inward, lane_count, no_node, port_of, node_of, endpoint_of, members_in, pitch_of, parting_pitch}
 use Rattle.plan.proofs.SmallNumbers.{Small, Numbers, lane_count_small, zero_small}
 use Rattle.plan.proofs.Numbers.{members_good, pitch_small, rail_small, port_small, endpoint_small}
-use Rattle.drawing.specs.Build.{TapOn, Drawn, route_at, center, rail_tap, rail_corner}
+use Rattle.drawing.specs.Build.{route_at, center, rail_tap, rail_corner}
 use Rattle.drawing.specs.Sheet.{Turn, Progress, going, sheet_of, blank}
 use Rattle.drawing.proofs.CleanChecks.{every_both}
 use Rattle.drawing.proofs.Promise.{every_mem}
 use Rattle.binary64.proofs.Plain.{Plain, add_plain, sub_plain}
 use Rattle.ranges.proofs.Corridors.{Below, held}
 use Rattle.ranges.proofs.NoMinusZero.{PlainBoard, endpoint_plain, inward_plain}
-use Rattle.ranges.specs.Coordinates.{OfPoint, OfRoutes, OfTap, OfDrawn, OfSheet}
-use Rattle.ranges.specs.Extent.{Limits, OfFormat, InX, InY, OkPoint, OkTap, OkDrawn, OkSheet}
+use Rattle.ranges.specs.Coordinates.{OfPoint, OfRoutes, OfSheet}
+use Rattle.ranges.specs.Extent.{Limits, OfFormat, InX, InY, OkSheet}
 use Rattle.ranges.proofs.Drawn.{Kinds, OfPlan, OfTurn, sheet_of_kinds}
 
 -- a turn whose planned x, if it has one, is within 2 ^ 30

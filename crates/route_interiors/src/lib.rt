@@ -6,8 +6,9 @@
 
 #![tactic(auto)]
 
-ghost use Rattle.std.specs.Prelude.{◌≡◌, ◌+◌, ◌*◌, ◌≤◌, length};
-ghost use Rattle.geometry.specs.Points.{points_from, runs};
+ghost use Rattle.std.specs.Prelude.{◌≡◌};
+ghost use Rattle.geometry.specs.Points.{runs};
+ghost use Rattle.geometry.specs.Lent.{route_lent};
 ghost use Rattle.drawing.specs.Check.{walk, inside_tests};
 ghost use Rattle.checks.specs.Purse.{told};
 ghost use Rattle.checks.specs.CheckRows.{nodes_in};
@@ -26,8 +27,7 @@ pub fn route_inside(
     route: RouteView,
     visits: &mut GeometryVisits,
 ) -> Result<(), Refusal>
-    requires { 2 * (route.start + route.count) ≤ length route.points.now }
-    ensures { told result visits.new.0 ≡ walk 12 (inside_tests (nodes_in boxes.now) e (runs (points_from route.entry.points.now route.entry.start route.entry.count))) visits.old.0 }
+    ensures { told result visits.new.0 ≡ walk 12 (inside_tests (nodes_in boxes.now) e (runs (route_lent route.entry))) visits.old.0 }
 {
     for i in 0..route.count.saturating_sub(1) {
         let run = route_views::view_run(route, i);

@@ -37,31 +37,12 @@ pub fn put_point(out: &mut [f64], i: usize, p: Point)
 
 // ---- a route as a view over points
 //
-// A view says nothing of where its points lie: `view` asks nothing, so what a route needs of its slice
-// is asked where a point or a run of it is looked at. route_point, route_run and route_last are for
+// That a view's points lie in its slice is a field of it. route_point, route_run and route_last are for
 // callers that have the slice and the numbers apart.
-
-// The view of a route, wherever it lies.
-pub fn view<'a>(points: &'a [f64], start: usize, count: usize) -> RouteView<'a>
-    ensures { (result.points ≡ points.entry) × (result.start ≡ start) × (result.count ≡ count) }
-{
-    RouteView {
-        points,
-        start,
-        count,
-    }
-}
-
-// How many points the route has.
-pub fn view_count<'a>(v: RouteView<'a>) -> usize
-    ensures { result ≡ v.entry.count }
-{
-    v.count
-}
 
 // Point i of the route.
 pub fn view_point<'a>(v: RouteView<'a>, i: usize) -> Point
-    requires { (i < v.count) × (2 * (v.start + v.count) ≤ length v.points.now) }
+    requires { i < v.count }
     ensures { result ≡ point_at v.entry.points.now (v.entry.start + i) }
 {
     point_at(v.points, v.start + i)
@@ -69,7 +50,7 @@ pub fn view_point<'a>(v: RouteView<'a>, i: usize) -> Point
 
 // Run i of the route: from its point i to the next.
 pub fn view_run<'a>(v: RouteView<'a>, i: usize) -> Segment
-    requires { (i + 1 < v.count) × (2 * (v.start + v.count) ≤ length v.points.now) }
+    requires { i + 1 < v.count }
     ensures { result ≡ run_at v.entry.points.now (v.entry.start + i) }
 {
     Segment {
@@ -78,12 +59,29 @@ pub fn view_run<'a>(v: RouteView<'a>, i: usize) -> Segment
     }
 }
 
+// The last point of the route, which has one.
+pub fn view_last<'a>(v: RouteView<'a>) -> Point
+    requires { 0 < v.count }
+    ensures { result ≡ point_at v.entry.points.now (v.entry.start + (v.entry.count - 1)) }
+{
+    view_point(v, v.count - 1)
+}
+
+// The next three ask what a view has as its field, since they are given the slice and the numbers apart.
+
 // Point i of the route of count points from point start on.
 pub fn route_point(points: &[f64], start: usize, count: usize, i: usize) -> Point
     requires { (i < count) × (2 * (start + count) ≤ length points.now) }
     ensures { result ≡ point_at points.now (start + i) }
 {
-    view_point(view(points, start, count), i)
+    view_point(
+        RouteView {
+            points,
+            start,
+            count,
+        },
+        i,
+    )
 }
 
 // Run i of that route.
@@ -91,7 +89,14 @@ pub fn route_run(points: &[f64], start: usize, count: usize, i: usize) -> Segmen
     requires { (i + 1 < count) × (2 * (start + count) ≤ length points.now) }
     ensures { result ≡ run_at points.now (start + i) }
 {
-    view_run(view(points, start, count), i)
+    view_run(
+        RouteView {
+            points,
+            start,
+            count,
+        },
+        i,
+    )
 }
 
 // The last point of that route, which has one.
@@ -99,5 +104,9 @@ pub fn route_last(points: &[f64], start: usize, count: usize) -> Point
     requires { (0 < count) × (2 * (start + count) ≤ length points.now) }
     ensures { result ≡ point_at points.now (start + (count - 1)) }
 {
-    view_point(view(points, start, count), count - 1)
+    view_last(RouteView {
+        points,
+        start,
+        count,
+    })
 }

@@ -1,7 +1,6 @@
 -- Closed cases of the public entries: the count of points, and a promotion whose second search is spent.
 -- Assumes nothing.
 use Rattle.std.specs.Prelude.{◌≡◌, refl, Bool, true, false, not, ◌&&◌, cond, List, [], ◌∷◌, ℕ, leb, replicate, length, Float, pos}
-use Rattle.std.proofs.Common.{◌∙◌}
 use Rattle.std.specs.Float.{binary64}
 use Rattle.std.specs.Float.Ieee.{of_int, to_bits, of_bits, is_nan, lt, le, eq, ne, neg, add, sub, mul}
 use Rattle.limits.specs.Limits.{max_bundle_members, max_points, max_tap_visits}

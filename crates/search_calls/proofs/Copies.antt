@@ -10,15 +10,17 @@ use Rattle.std.specs.Float.{nan}
 use Rattle.std.specs.Float.Ieee.{eq}
 use Rattle.limits.specs.Limits.{max_bundle_members, max_route_points, max_points, max_tap_visits, route_numbers, member_numbers}
 use Rattle.binary64.specs.Bools.{both_true}
-use Rattle.binary64.specs.Accepted.{plus_zero, is_option}
+use Rattle.binary64.specs.Accepted.{plus_zero}
 use Rattle.binary64.proofs.Kind.{plus_zero_again}
 use Rattle.geometry.specs.declared.Point.{Point}
 use Rattle.geometry.specs.Points.{point_at, points_from}
 use Rattle.search.specs.Stretches.{members, routes}
+use Rattle.search.specs.declared.Bounds.{Bounds}
+use Rattle.search.specs.declared.CollectorBounds.{CollectorBounds}
 use Rattle.search.specs.Search.{common_xs}
 use Rattle.search_calls.specs.declared.SearchAnswer.{SearchAnswer}
-use Rattle.search_calls.specs.Entry.{plus_zeros, places_fit, counts_fit, refusal, role_of, Said, said, refused, bounds, bounds_fit, collector_bounds, collector_bounds_fit, search_room, search_number, search_says, promotion_room, promotion_number, promotion_says, promoted, Replied, Untouched}
-use Rattle.search_calls.specs.Copied.{windows_fit, Fitting, Put, Copied}
+use Rattle.search_calls.specs.Entry.{plus_zeros, places_fit, counts_fit, refusal, role_of, Said, said, refused, bounds_fit, collector_bounds_fit, search_room, search_number, search_says, promotion_room, promotion_number, promotion_says, promoted, Replied, Untouched}
+use Rattle.search_calls.specs.Copied.{windows_fit, Fitting, Put, Copied, SameCall}
 use Rattle.search_calls.proofs.RefusalSteps.{windows, Promise}
 
 -- ---- one route
@@ -185,10 +187,6 @@ plus_zeros_again [] = refl
 plus_zeros_again (x ∷ xs) = rw (plus_zero_again x, plus_zeros_again xs)
 
 -- ---- two calls that look at the same routes
-pub record SameCall (p q : List Float) (ss ts cs : List ℕ) (role : ℕ) (pitch : Float) (granted : ℕ) : Type 0 where
-  pub number : (room b : Bool) → refusal room p ss cs role pitch b granted ≡ refusal room q ts cs role pitch b granted
-  pub searched : (room b : Bool) → refusal room p ss cs role pitch b granted ≡ 0 → routes p ss cs ≡ routes q ts cs
-
 pub unfit_call : (points : List Float) (starts counts : List ℕ) (role : ℕ) (pitch : Float) (granted : ℕ) → windows_fit points starts counts ≡ false → SameCall points (plus_zeros points) starts starts counts role pitch granted
 unfit_call points starts counts role pitch granted e = record {
   number = λ room b. (unfit_same room points starts counts role pitch b granted e).0;
@@ -213,32 +211,30 @@ carried number number' s s' granted r xs xs' candidates candidates' scratch scra
     go false z = refl
 
 -- ---- the entries: what is said of the copies is said of the points with plus zeros
-module _ (xs candidates scratch : List Float) (cs : List ℕ) (role granted : ℕ) (r : SearchAnswer) (xs' candidates' scratch' : List Float) where
-  abbrev pub SearchSaid : List Float → List ℕ → Float → Float → Float → Float → Type 0
-  SearchSaid p ss pitch low near high =
-      Replied (search_number xs candidates scratch p ss cs role pitch (bounds low near high) granted) (search_says (search_number xs candidates scratch p ss cs role pitch (bounds low near high) granted) p ss cs role pitch (bounds low near high) granted) r xs xs'
-      × Untouched (search_number xs candidates scratch p ss cs role pitch (bounds low near high) granted) candidates candidates' scratch scratch'
+module _ (xs candidates scratch : List Float) (r : SearchAnswer) (xs' candidates' scratch' : List Float) where
+  abbrev pub SearchSaid : List Float → List ℕ → List ℕ → ℕ → Float → Bounds → ℕ → Type 0
+  SearchSaid p ss cs role pitch b granted =
+      Replied (search_number xs candidates scratch p ss cs role pitch b granted) (search_says (search_number xs candidates scratch p ss cs role pitch b granted) p ss cs role pitch b granted) r xs xs'
+      × Untouched (search_number xs candidates scratch p ss cs role pitch b granted) candidates candidates' scratch scratch'
 
-  abbrev pub PromotionSaid : Bool → List Float → List ℕ → Float → Float → Float → Float → Type 0
-  PromotionSaid present p ss pitch low near high =
-      Replied (promotion_number xs candidates scratch p ss cs role pitch (collector_bounds present low near high) granted) (promotion_says (promotion_number xs candidates scratch p ss cs role pitch (collector_bounds present low near high) granted) p ss cs role pitch (collector_bounds present low near high) granted) r xs xs'
-      × Untouched (promotion_number xs candidates scratch p ss cs role pitch (collector_bounds present low near high) granted) candidates candidates' scratch scratch'
+  abbrev pub PromotionSaid : List Float → List ℕ → List ℕ → ℕ → Float → CollectorBounds → ℕ → Type 0
+  PromotionSaid p ss cs role pitch b granted =
+      Replied (promotion_number xs candidates scratch p ss cs role pitch b granted) (promotion_says (promotion_number xs candidates scratch p ss cs role pitch b granted) p ss cs role pitch b granted) r xs xs'
+      × Untouched (promotion_number xs candidates scratch p ss cs role pitch b granted) candidates candidates' scratch scratch'
 
-  module _ (p q : List Float) (ss ts : List ℕ) (pitch low near high pitch' low' near' high' : Float) (e : pitch ≡ pitch') (f : low ≡ low') (g : near ≡ near') (h : high ≡ high') where
-    pub search_carried : SameCall p q ss ts cs role pitch granted → SearchSaid p ss pitch low near high → SearchSaid q ts pitch' low' near' high'
-    search_carried same said_of =
-        let b = bounds low near high in
+  module _ (p q : List Float) (ss ts cs cs' : List ℕ) (role role' granted granted' : ℕ) (pitch pitch' : Float) (d : cs ≡ cs') (e : pitch ≡ pitch') (g : role ≡ role') (h : granted ≡ granted') (same : SameCall p q ss ts cs' role pitch granted) where
+    pub search_carried : (b b' : Bounds) → b ≡ b' → SearchSaid p ss cs role pitch b granted → SearchSaid q ts cs' role' pitch' b' granted'
+    search_carried b b' f said_of =
         let room = search_room xs candidates scratch in
         let fit = bounds_fit b in
         rw (← e, ← f, ← g, ← h)
-        (carried (search_number xs candidates scratch p ss cs role pitch b granted) (search_number xs candidates scratch q ts cs role pitch b granted) _ _ granted r xs xs' candidates candidates' scratch scratch' (same.number room fit)
-        (λ z. ap (λ (rs : List (List Point)). said (common_xs (role_of role) b (members (role_of role) pitch rs) granted)) (same.searched room fit z)) said_of)
+        (carried (search_number xs candidates scratch p ss cs' role pitch b granted) (search_number xs candidates scratch q ts cs' role pitch b granted) _ _ granted r xs xs' candidates candidates' scratch scratch' (same.number room fit)
+        (λ z. ap (λ (rs : List (List Point)). said (common_xs (role_of role) b (members (role_of role) pitch rs) granted)) (same.searched room fit z)) (subst (λ (l : List ℕ). SearchSaid p ss l role pitch b granted) d said_of))
 
-    pub promotion_carried : (present : Bool) → SameCall p q ss ts cs role pitch granted → PromotionSaid present p ss pitch low near high → PromotionSaid present q ts pitch' low' near' high'
-    promotion_carried present same said_of =
-        let b = collector_bounds present low near high in
+    pub promotion_carried : (b b' : CollectorBounds) → b ≡ b' → PromotionSaid p ss cs role pitch b granted → PromotionSaid q ts cs' role' pitch' b' granted'
+    promotion_carried b b' f said_of =
         let room = promotion_room xs candidates scratch in
         let fit = collector_bounds_fit b in
         rw (← e, ← f, ← g, ← h)
-        (carried (promotion_number xs candidates scratch p ss cs role pitch b granted) (promotion_number xs candidates scratch q ts cs role pitch b granted) _ _ granted r xs xs' candidates candidates' scratch scratch' (same.number room fit)
-        (λ z. ap (λ (rs : List (List Point)). promoted (role_of role) pitch b (members (role_of role) pitch rs) granted) (same.searched room fit z)) said_of)
+        (carried (promotion_number xs candidates scratch p ss cs' role pitch b granted) (promotion_number xs candidates scratch q ts cs' role pitch b granted) _ _ granted r xs xs' candidates candidates' scratch scratch' (same.number room fit)
+        (λ z. ap (λ (rs : List (List Point)). promoted (role_of role) pitch b (members (role_of role) pitch rs) granted) (same.searched room fit z)) (subst (λ (l : List ℕ). PromotionSaid p ss l role pitch b granted) d said_of))

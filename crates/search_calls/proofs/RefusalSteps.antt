@@ -1,22 +1,19 @@
 -- The steps of the refusals' definitions, by place in the lists; what an accepted call may count on; and what is written for a list.
 -- Assumes nothing.
 use Rattle.std.specs.Prelude.{◌≡◌, refl, Bool, true, false, not, ◌&&◌, ◌||◌, cond, List, [], ◌∷◌, ◌++◌, leb, ltb, eqb, get_or, take, drop, Float, Option}
-use Rattle.std.proofs.Common.{sym, ◌∙◌, subst, true≢false, add-one, length-append, length-take, take-take, take_all, length-take-le, leb-true, le-leb, lt-ltb, le-ltb, ltb-true, ltb-false, ne_eqb}
+use Rattle.std.proofs.Common.{sym, ◌∙◌, subst, true≢false, add-one, length-append, take-take, take_all, length-take-le, leb-true, ltb-true, ltb-false, ne_eqb}
 use Rattle.std.proofs.Math.Path.{ap}
 use Rattle.std.proofs.Math.Bool.{and-false}
 use Prim.Native.Nat.{ℕ, zero, suc, ◌+◌, ◌-◌, ◌*◌, ◌≤◌, ◌<◌}
 use native.Mathlib.Omega.{arith}
 use Rattle.std.proofs.Math.ListN.{length, drop_of_length-le}
-use Rattle.std.proofs.Math.Seq.{drop-cons, take-nil}
+use Rattle.std.proofs.Math.Seq.{drop-cons}
 use Rattle.std.specs.Float.{nan}
-use Rattle.std.proofs.lemmas.Bool.{lt-leb}
 use Rattle.limits.specs.Limits.{most_kept, max_bundle_members, max_route_points, max_points, max_tap_visits}
 use Rattle.binary64.specs.Bools.{both_true}
 use Rattle.binary64.specs.Accepted.{is_coordinate, zero64}
-use Rattle.geometry.specs.declared.Point.{Point}
 use Rattle.geometry.specs.declared.Role.{Role}
-use Rattle.geometry.specs.declared.Segment.{Segment}
-use Rattle.geometry.specs.Points.{runs, point_at, points_from}
+use Rattle.geometry.specs.Points.{point_at, points_from}
 use Rattle.search.specs.declared.TapVisits.{TapVisits}
 use Rattle.search.specs.declared.Bounds.{Bounds}
 use Rattle.search.specs.declared.CollectorBounds.TheVariants.{Absent, Between}
@@ -25,8 +22,8 @@ use Rattle.search.specs.declared.Listed.TheVariants as listed
 use Rattle.search.specs.declared.Promoted.{Promoted}
 use Rattle.search.specs.declared.Promoted.TheVariants as promoted_as
 use Rattle.search.specs.Stretches.{members, routes, runs_in, Windows}
-use Rattle.search.specs.Search.{Listing, listing, spent, first, mark, told, Fits, Lists}
-use Rattle.search.specs.Promotion.{Promotion, kept, second_spent, promotion_xs, shortened, promotion_told, PromotionFits, Promotes}
+use Rattle.search.specs.Search.{Listing, first, mark, told, Fits, Lists}
+use Rattle.search.specs.Promotion.{Promotion, promotion_xs, shortened, promotion_told, PromotionFits, Promotes}
 use Rattle.search.proofs.Parts.{fits_in, told_front, promotion_fits_in, promotion_front, take_head}
 use Rattle.search_calls.specs.declared.SearchAnswer.{SearchAnswer}
 use Rattle.search_calls.specs.Entry.{places_fit, counts_fit, points_fit, routes_fit, refusal, Said, said, promotion_said, answer_of, refused, bounds_fit, collector_bounds_fit, promoted, Replied, Untouched}

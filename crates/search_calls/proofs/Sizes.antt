@@ -1,14 +1,12 @@
 -- How much a search that is accepted by its counts can have: 2,048 points in members of at most 64 are at most 2,016 runs, so there are at most 2,017 candidates, the desired x among them, and no list is longer. 32 members of 64 points have so many runs.
 -- Assumes nothing.
-use Rattle.std.specs.Prelude.{◌≡◌, refl, Bool, true, false, ◌&&◌, List, [], ◌∷◌, ◌++◌, ℕ, zero, suc, ◌+◌, ◌-◌, ◌*◌, ◌≤◌, length, replicate, Float}
-use Rattle.std.proofs.Common.{sym, ◌∙◌, ap, true≢false, arith, length-append}
+use Rattle.std.specs.Prelude.{◌≡◌, refl, true, ◌&&◌, List, [], ◌∷◌, ℕ, ◌+◌, ◌-◌, ◌*◌, ◌≤◌, length, replicate, Float}
+use Rattle.std.proofs.Common.{arith, length-append}
 use Rattle.std.proofs.Math.Dec.{leb}
 use borrow.Author.Tests.{leb-true}
 use Rattle.binary64.specs.Bools.{both_true}
 use Rattle.limits.specs.Limits.{max_route_points, max_points, largest_list}
-use Rattle.geometry.specs.declared.Point.{Point}
 use Rattle.geometry.specs.declared.Role.{Role}
-use Rattle.geometry.specs.declared.Segment.{Segment}
 use Rattle.geometry.specs.Points.{runs, points_from}
 use Rattle.geometry.specs.View.{points_length, runs_length}
 use Rattle.search.specs.declared.Bounds.{Bounds}

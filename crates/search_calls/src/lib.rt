@@ -3,7 +3,25 @@
 
 #![tactic(auto)]
 
-// What a public entry says: document 01's number of a refusal, or 0; the mark of the outcome (0
+// The members' routes as a caller lends them, route m being counts[m] points from point starts[m] on:
+// nothing says yet that the points are there.
+#[derive(Clone, Copy)]
+pub struct LentRoutes<'a> {
+    pub points: &'a [f64],
+    pub starts: &'a [usize],
+    pub counts: &'a [usize],
+}
+
+// What a caller asks, besides the bounds.
+#[derive(Clone, Copy)]
+pub struct Call<'a> {
+    pub routes: LentRoutes<'a>,
+    pub role: u8,
+    pub pitch: f64,
+    pub granted: u32,
+}
+
+// What a public entry says, a struct for C: document 01's number of a refusal, or 0; the mark of the outcome (0
 // nothing common, 1 found or kept, 2 spent, 3 bounds absent, 4 the second search of a promotion
 // spent); the visits left; how many numbers stand at the front of the output, and the first of
 // them.

@@ -4,19 +4,21 @@
 #![tactic(auto)]
 
 ghost use Rattle.std.specs.Prelude.{◌≡◌, ◌+◌, ◌≤◌, length};
-ghost use Rattle.limits.specs.Limits.{member_numbers};
-ghost use Rattle.search_calls.specs.Copied.{windows_fit, Fitting, Put, Copied};
+ghost use Rattle.limits.specs.Limits.{max_bundle_members, member_numbers};
+ghost use Rattle.search_calls.specs.Copied.{Fitting, Put, Copied};
+ghost use Rattle.search_calls.specs.Lent.{lent_windows_fit, PlainFor};
 
 use limits::{MAX_BUNDLE_MEMBERS, MAX_ROUTE_POINTS, ROUTE_NUMBERS};
+use search_calls::LentRoutes;
 
 // Whether the members' routes are within the points lent, and neither they nor their points are too
 // many.
-pub fn windows_fit(points: &[f64], starts: &[usize], counts: &[usize]) -> bool
-    ensures { result ≡ windows_fit points.now starts.now counts.now }
+pub fn windows_fit<'a>(lent: LentRoutes<'a>) -> bool
+    ensures { result ≡ lent_windows_fit lent.entry }
 {
-    search_refusals::places_fit(points, starts, counts)
-        && starts.len() <= MAX_BUNDLE_MEMBERS
-        && search_refusals::counts_fit(counts)
+    search_refusals::places_fit(lent)
+        && lent.starts.len() <= MAX_BUNDLE_MEMBERS
+        && search_refusals::counts_fit(lent.counts)
 }
 
 // n numbers of points, from place `from` on, into copy from place `at` on.
@@ -29,22 +31,41 @@ pub fn copy_numbers(points: &[f64], from: usize, n: usize, copy: &mut [f64], at:
     }
 }
 
+// The copy is lent by the entry, whose array it is: its length is asked.
+
 // The routes, each into a row of copy. rows says at which point each row begins.
-pub fn copy_routes(
-    points: &[f64],
-    starts: &[usize],
-    counts: &[usize],
-    copy: &mut [f64],
-    rows: &mut [usize],
-)
-    requires fitting { Fitting points.now starts.now counts.now }
-    requires copy_len { (length copy.old ≡ member_numbers) × (length rows.old ≡ length starts.now) }
-    ensures { Copied points.now starts.now counts.now (length starts.now) copy.new rows.new }
+pub fn copy_routes<'a>(lent: LentRoutes<'a>, copy: &mut [f64], rows: &mut [usize])
+    requires fitting { Fitting lent.points.now lent.starts.now lent.counts.now }
+    requires copy_len { (length copy.old ≡ member_numbers) × (length rows.old ≡ length lent.starts.now) }
+    ensures { Copied lent.entry.points.now lent.entry.starts.now lent.entry.counts.now (length lent.entry.starts.now) copy.new rows.new }
 {
-    for m in 0..starts.len() {
-        let from = 2 * starts[m];
-        let n = 2 * counts[m];
-        copy_numbers(points, from, n, &mut copy[..], ROUTE_NUMBERS * m);
+    for m in 0..lent.starts.len() {
+        let from = 2 * lent.starts[m];
+        let n = 2 * lent.counts[m];
+        copy_numbers(lent.points, from, n, &mut copy[..], ROUTE_NUMBERS * m);
         rows[m] = MAX_ROUTE_POINTS * m;
+    }
+}
+
+// The routes with plus zeros for minus zeros, in copy and rows. Routes that do not fit are not copied:
+// a call of them is refused before a number is looked at.
+pub fn with_plus_zeros<'a>(
+    lent: LentRoutes<'a>,
+    copy: &'a mut [f64],
+    rows: &'a mut [usize],
+) -> LentRoutes<'a>
+    requires { (length copy.old ≡ member_numbers) × (length rows.old ≡ max_bundle_members) }
+    ensures counted { result.counts.now ≡ lent.entry.counts.now }
+    ensures plain { PlainFor result lent.entry }
+{
+    if !windows_fit(lent) {
+        return lent;
+    }
+    let n = lent.starts.len();
+    copy_routes(lent, &mut copy[..], &mut rows[..n]);
+    LentRoutes {
+        points: &copy[..],
+        starts: &rows[..n],
+        counts: lent.counts,
     }
 }

@@ -2,54 +2,54 @@
 //
 // Ported from cachanova/schemweave, commit c4a1a2c60a, crates/schemweave/src/boundary_bundles.rs
 // (Apache-2.0, see NOTICE): common_horizontal_collector_xs, common_horizontal_collector_x and
-// promotion_collector_candidates. The members' routes are windows of points in one lent slice of
-// coordinates, the route of member m being counts[m] points from point starts[m] on.
+// promotion_collector_candidates.
 
 #![tactic(auto)]
 
 ghost use Rattle.std.specs.Prelude.{[], ◌*◌, ◌≤◌, ◌<◌, length};
-ghost use Rattle.search.specs.Stretches.{members, routes, Windows, all_runs, runs_in};
+ghost use Rattle.search.specs.Stretches.{all_runs, runs_in};
+ghost use Rattle.search.specs.Lent.{members_lent};
 ghost use Rattle.search.specs.Search.{gathered, tried, Lists, InOrder};
 ghost use Rattle.search.specs.Kept.{members_from, Keeps};
 
-use geometry::Role;
-use search::{Bounds, Candidate, Listed, TapVisits};
+use geometry::{Role, RouteView};
+use search::{Candidate, Listed, MemberRoutes, Sought, TapVisits};
 
 // The first pass: the desired x and a candidate of each run that has one, one visit paid before
 // each run. Each run's stretch, or that it has none, is kept as a pair at the front of kept.
-pub fn gather(
-    points: &[f64],
-    starts: &[usize],
-    counts: &[usize],
-    role: Role,
-    pitch: f64,
-    b: Bounds,
+pub fn gather<'a>(
+    routes: MemberRoutes<'a>,
+    sought: Sought,
     granted: TapVisits,
     xs: &mut [f64],
     kept: &mut [f64],
 ) -> Listed
-    requires windows { Windows points.now starts.now counts.now }
-    requires counts_in_bounds { runs_in (members role pitch (routes points.now starts.now counts.now)) < length xs.old }
-    requires counts_in_bounds_2 { 2 * runs_in (members role pitch (routes points.now starts.now counts.now)) ≤ length kept.old }
-    ensures found { Lists result xs.new (length xs.old) (gathered role b (members role pitch (routes points.now starts.now counts.now)) granted.0) }
-    ensures keeps { Keeps result kept.new (all_runs (members role pitch (routes points.now starts.now counts.now))) }
+    requires room { runs_in (members_lent sought.role sought.pitch routes) < length xs.old }
+    requires pair_room { 2 * runs_in (members_lent sought.role sought.pitch routes) ≤ length kept.old }
+    ensures found { Lists result xs.new (length xs.old) (gathered sought.role sought.bounds (members_lent sought.role sought.pitch routes.entry) granted.0) }
+    ensures keeps { Keeps result kept.new (all_runs (members_lent sought.role sought.pitch routes.entry)) }
 {
-    xs[0] = b.desired;
+    xs[0] = sought.bounds.desired;
     let mut n = 1;
     let mut k = 0;
     let mut left = granted.0;
-    for m in 0..starts.len() {
-        let start = starts[m];
-        let count = counts[m];
+    for m in 0..routes.starts.len() {
+        let start = routes.starts[m];
+        let count = routes.counts[m];
+        let route = RouteView {
+            points: routes.points,
+            start,
+            count,
+        };
         for i in 0..count.saturating_sub(1) {
             if left == 0 {
                 return Listed::Spent;
             }
             left -= 1;
-            let s = search_runs::run_stretch(points, start + i, count - i, role, pitch);
+            let s = search_runs::run_stretch(route, i, sought.role, sought.pitch);
             route_views::put_point(kept, k, search_runs::kept_of(s));
             k += 1;
-            let c = search_runs::candidate_of(role, b, s);
+            let c = search_runs::candidate_of(sought.role, sought.bounds, s);
             if let Candidate::At(x) = c {
                 xs[n] = x;
                 n += 1;

@@ -2,32 +2,34 @@
 
 #![tactic(auto)]
 
-ghost use Rattle.std.specs.Prelude.{◌≡◌, ◌&&◌, ◌+◌, ◌*◌, ◌≤◌, MatchResult, length};
+ghost use Rattle.std.specs.Prelude.{◌≡◌, ◌&&◌, MatchResult};
 ghost use Rattle.limits.specs.Limits.{max_points};
 ghost use Rattle.refusal.specs.Refusal.{refusal_number};
 ghost use Rattle.binary64.specs.Accepted.{is_coordinate};
-ghost use Rattle.geometry.specs.Points.{points_from};
-ghost use Rattle.search.specs.Stretches.{routes, Windows};
-ghost use Rattle.search_calls.specs.Entry.{places_fit, counts_fit, points_fit, routes_fit, bounds_fit, refusal, role_of};
+ghost use Rattle.geometry.specs.Lent.{route_lent};
+ghost use Rattle.search.specs.Lent.{routes_lent};
+ghost use Rattle.search_calls.specs.Entry.{counts_fit, points_fit, routes_fit, bounds_fit, role_of};
+ghost use Rattle.search_calls.specs.Lent.{lent_places_fit, call_refusal};
 
-use geometry::{Point, Role};
+use geometry::{Point, Role, RouteView};
 use limits::{MAX_BUNDLE_MEMBERS, MAX_POINTS, MAX_ROUTE_POINTS, MAX_TAP_VISITS};
 use refusal::Refusal;
-use search::Bounds;
+use search::{Bounds, MemberRoutes};
+use search_calls::{Call, LentRoutes};
 
 // ---- what the public entries refuse
 
 // Every member's points are within the points lent. Numbers that would wrap are out of them.
-pub fn places_fit(points: &[f64], starts: &[usize], counts: &[usize]) -> bool
-    ensures { result ≡ places_fit points.now starts.now counts.now }
+pub fn places_fit<'a>(lent: LentRoutes<'a>) -> bool
+    ensures { result ≡ lent_places_fit lent.entry }
 {
-    if starts.len() != counts.len() {
+    if lent.starts.len() != lent.counts.len() {
         return false;
     }
-    let n = points.len() / 2;
-    for m in 0..starts.len() {
-        let start = starts[m];
-        if start > n || counts[m] > n - start {
+    let n = lent.points.len() / 2;
+    for m in 0..lent.starts.len() {
+        let start = lent.starts[m];
+        if start > n || lent.counts[m] > n - start {
             return false;
         }
     }
@@ -54,24 +56,27 @@ pub fn is_point(p: Point) -> bool
     binary64::is_coordinate(p.x) & binary64::is_coordinate(p.y)
 }
 
-pub fn points_fit(points: &[f64], start: usize, count: usize) -> bool
-    requires { 2 * (start + count) ≤ length points.now }
-    ensures { result ≡ points_fit (points_from points.now start count) }
+pub fn points_fit<'a>(route: RouteView<'a>) -> bool
+    ensures { result ≡ points_fit (route_lent route.entry) }
 {
-    for k in 0..count {
-        if !is_point(route_views::route_point(points, start, count, k)) {
+    for k in 0..route.count {
+        if !is_point(route_views::view_point(route, k)) {
             return false;
         }
     }
     true
 }
 
-pub fn routes_fit(points: &[f64], starts: &[usize], counts: &[usize]) -> bool
-    requires { Windows points.now starts.now counts.now }
-    ensures { result ≡ routes_fit (routes points.now starts.now counts.now) }
+pub fn routes_fit<'a>(routes: MemberRoutes<'a>) -> bool
+    ensures { result ≡ routes_fit (routes_lent routes.entry) }
 {
-    for m in 0..starts.len() {
-        if !points_fit(points, starts[m], counts[m]) {
+    for m in 0..routes.starts.len() {
+        let route = RouteView {
+            points: routes.points,
+            start: routes.starts[m],
+            count: routes.counts[m],
+        };
+        if !points_fit(route) {
             return false;
         }
     }
@@ -88,33 +93,34 @@ pub fn is_bounds(b: Bounds) -> bool
 
 // The refusal of a call, in the order of document 01's numbers. `room` says that every lent output
 // and scratch is long enough, `bounds` that the bounds are accepted.
-pub fn refusal_of(
-    room: bool,
-    points: &[f64],
-    starts: &[usize],
-    counts: &[usize],
-    role: u8,
-    pitch: f64,
-    bounds: bool,
-    granted: u32,
-) -> Result<(), Refusal>
+#[tactic(auto, using(search_calls::proofs::RefusalSteps::windows))]
+pub fn refusal_of<'a>(room: bool, call: Call<'a>, bounds: bool) -> Result<(), Refusal>
     ensures { MatchResult result
-        (λ _. refusal room points.now starts.now counts.now role pitch bounds granted ≡ 0)
-        (λ r. refusal room points.now starts.now counts.now role pitch bounds granted ≡ refusal_number r) }
+        (λ _. call_refusal room call.entry bounds ≡ 0)
+        (λ r. call_refusal room call.entry bounds ≡ refusal_number r) }
 {
+    let lent = call.routes;
     if !room {
         return Err(Refusal::BufferTooShort);
     }
-    if !places_fit(points, starts, counts) {
+    if !places_fit(lent) {
         return Err(Refusal::FieldsMismatch);
     }
-    if starts.len() > MAX_BUNDLE_MEMBERS || !counts_fit(counts) || granted > MAX_TAP_VISITS {
+    if lent.starts.len() > MAX_BUNDLE_MEMBERS
+        || !counts_fit(lent.counts)
+        || call.granted > MAX_TAP_VISITS
+    {
         return Err(Refusal::LimitExceeded);
     }
-    if role > 1 {
+    if call.role > 1 {
         return Err(Refusal::ValueNotListed);
     }
-    if !routes_fit(points, starts, counts) || !binary64::is_option(pitch) || !bounds {
+    let routes = MemberRoutes {
+        points: lent.points,
+        starts: lent.starts,
+        counts: lent.counts,
+    };
+    if !routes_fit(routes) || !binary64::is_option(call.pitch) || !bounds {
         return Err(Refusal::NumberOutOfRange);
     }
     Ok(())
@@ -122,6 +128,7 @@ pub fn refusal_of(
 
 // ---- the public entries
 
+// No `From`: the impl would stand in geometry, below the definition that says what it gives.
 pub fn role_from(role: u8) -> Role
     ensures { result ≡ role_of role }
 {

@@ -2,7 +2,7 @@
 
 #![tactic(auto)]
 
-ghost use Rattle.std.specs.Prelude.{◌≡◌, cond, ◌≤◌, ltb, length, take};
+ghost use Rattle.std.specs.Prelude.{◌≡◌, cond, ◌≤◌, ltb, length, take, List, Float};
 ghost use Rattle.limits.specs.Limits.{most_kept};
 ghost use Rattle.search.specs.Search.{Fits, told, mark, first};
 ghost use Rattle.search.specs.Promotion.{PromotionFits, promotion_told, shortened};
@@ -50,12 +50,11 @@ pub fn reply(mark: u8, left: u32, n: usize, list: &[f64], xs: &mut [f64]) -> Sea
     }
 }
 
-// The mark of the first n numbers of a list: nothing common, or found.
-pub fn mark_of(n: usize, list: &[f64]) -> u8
-    requires { n ≤ length list.now }
-    ensures { result ≡ mark (first (take n list.now)) }
+// The mark of n numbers: nothing common, or found.
+pub fn mark_of(n: usize) -> u8
+    ensures { (list : List Float) → n ≤ length list → result ≡ mark (first (take n list)) }
 {
-    if n == 0 { 0 } else { 1 }
+    u8::from(n > 0)
 }
 
 pub fn search_reply(g: Listed, list: &[f64], xs: &mut [f64]) -> SearchAnswer
@@ -64,7 +63,7 @@ pub fn search_reply(g: Listed, list: &[f64], xs: &mut [f64]) -> SearchAnswer
 {
     match g {
         Listed::Spent => reply(2, 0, 0, list, xs),
-        Listed::All(n, left) => reply(mark_of(n, list), left.0, n, list, xs),
+        Listed::All(n, left) => reply(mark_of(n), left.0, n, list, xs),
     }
 }
 
@@ -83,7 +82,7 @@ pub fn promotion_reply(p: Promoted, list: &[f64], xs: &mut [f64]) -> SearchAnswe
         Promoted::SecondSpent(n) => reply(4, 0, at_most(n, MOST_KEPT), list, xs),
         Promoted::All(n, left) => {
             let k = at_most(n, MOST_KEPT);
-            reply(mark_of(k, list), left.0, k, list, xs)
+            reply(mark_of(k), left.0, k, list, xs)
         }
     }
 }

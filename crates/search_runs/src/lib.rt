@@ -7,28 +7,22 @@
 
 #![tactic(auto)]
 
-ghost use Rattle.std.specs.Prelude.{◌≡◌, ◌+◌, ◌*◌, ◌≤◌, ◌<◌, length};
+ghost use Rattle.std.specs.Prelude.{◌≡◌, ◌+◌, ◌*◌, ◌<◌, length};
 ghost use Rattle.geometry.specs.Stretch.{stretch, holds};
 ghost use Rattle.geometry.specs.Points.{point_at};
 ghost use Rattle.search.specs.Promotion.{adjacent, between};
 ghost use Rattle.search.specs.Search.{candidate, falls};
 ghost use Rattle.search.specs.Kept.{kept, spanned};
 
-use geometry::{Point, Role};
+use geometry::{Point, Role, RouteView};
 use search::{Bounds, Candidate};
 
-// The stretch of a route's first run.
-pub fn run_stretch(
-    points: &[f64],
-    start: usize,
-    count: usize,
-    role: Role,
-    pitch: f64,
-) -> Option<(f64, f64)>
-    requires { (1 < count) × (2 * (start + count) ≤ length points.now) }
-    ensures { result ≡ stretch role pitch (point_at points.now start) (point_at points.now (start + 1)) }
+// The stretch of run i of a route.
+pub fn run_stretch<'a>(route: RouteView<'a>, i: usize, role: Role, pitch: f64) -> Option<(f64, f64)>
+    requires { i + 1 < route.count }
+    ensures { result ≡ stretch role pitch (point_at route.entry.points.now (route.entry.start + i)) (point_at route.entry.points.now (route.entry.start + i + 1)) }
 {
-    let run = route_views::route_run(points, start, count, 0);
+    let run = route_views::view_run(route, i);
     shapes::shared_trunk_horizontal_range(run.start, run.end, role, pitch)
 }
 
@@ -44,6 +38,7 @@ pub fn kept_of(s: Option<(f64, f64)>) -> Point
 
 // Whether x lies between the ends of kept pair i: two loads and two comparisons, without a branch
 // for each, since most visits of a search end here and it would be mispredicted often.
+#[tactic(auto, unfolding(geometry::specs::Points::point_at))]
 pub fn kept_holds(pairs: &[f64], i: usize, x: f64) -> bool
     requires { 2 * i + 1 < length pairs.now }
     ensures { result ≡ holds x (spanned (point_at pairs.now i)) }

@@ -5,20 +5,21 @@
 
 #![tactic(auto)]
 
-ghost use Rattle.std.specs.Prelude.{◌≡◌, cond, List, [], ◌∷◌, ◌++◌, map, ℕ, ◌+◌, ◌≤◌, ◌<◌, length, take};
+ghost use Rattle.std.specs.Prelude.{◌≡◌, List, [], ◌∷◌, ◌++◌, map, ℕ, ◌+◌, ◌≤◌, ◌<◌, length, take};
 ghost use Rattle.limits.specs.Limits.{max_bundles};
-ghost use Rattle.binary64.specs.Order.{least, greatest};
 ghost use Rattle.geometry.specs.Points.{Route};
 ghost use Rattle.board.specs.Board.{Board};
 ghost use Rattle.search.specs.Search.{search_of};
-ghost use Rattle.plan.specs.declared.Bound.TheVariants.{At};
 ghost use Rattle.plan.specs.Depths.{pitch_of};
-ghost use Rattle.plan.specs.Plan.{clear, smallest_of, largest_of, moved, cut_to, if_clear, lanes_of, add_lane, beside, separated};
-ghost use Rattle.plan.specs.Prepared.{Searchable, Among, Routed, ranged_from, x_of, plan_in};
-ghost use Rattle.separation.specs.Taken.{taken, lanes_in, cut_past, none_taken, RangesTell, RangesFit};
+ghost use Rattle.plan.specs.Plan.{clear, moved, cut_to, if_clear, lanes_of, add_lane, beside, separated};
+ghost use Rattle.plan.specs.Prepared.{Among, ranged_from, x_of, plan_in};
+ghost use Rattle.plan.specs.Lent.{BundleTells};
+ghost use Rattle.separation.specs.Taken.{taken, lanes_in, outer, outmost, cut_past, none_taken, RangesTell, RangesFit};
 
 use geometry::Role;
 use limits::MAX_BUNDLES;
+use plan::layout::Layout;
+use plan::search_work::SearchWork;
 use plan::{Bound, Planned, Planning, Range, Ranges};
 use search::{Bounds, CollectorBounds, Outcome, Searched, TapVisits};
 
@@ -37,12 +38,11 @@ pub struct Lanes {
 }
 
 // Whether x is a pitch away from each of those taken.
-pub fn collector_has_lane_separation(pitch: f64, x: f64, used: &[f64], count: usize) -> bool
-    requires { count ≤ length used.now }
-    ensures { result ≡ clear pitch x (take count used.now) }
+pub fn collector_has_lane_separation(pitch: f64, x: f64, used: &[f64]) -> bool
+    ensures { result ≡ clear pitch x used.now }
 {
     let least = pitch - 0.0000001;
-    for i in 0..count {
+    for i in 0..used.len() {
         if !(binary64::abs(used[i] - x) >= least) {
             return false;
         }
@@ -50,46 +50,38 @@ pub fn collector_has_lane_separation(pitch: f64, x: f64, used: &[f64], count: us
     true
 }
 
-// The larger or the smaller of two.
-fn extreme(larger: bool, x: f64, y: f64) -> f64
-    ensures { result ≡ cond larger (greatest x y) (least x y) }
+// The smaller of two for inputs, the larger for outputs. No one function with `inner` of
+// component_extents: that would be called with the role turned round, which hides which of the two is meant.
+fn outer(role: Role, x: f64, y: f64) -> f64
+    ensures { result ≡ outer role x y }
 {
-    if larger {
-        binary64::max(x, y)
-    } else {
-        binary64::min(x, y)
+    match role {
+        Role::Input => binary64::min(x, y),
+        Role::Output => binary64::max(x, y),
     }
 }
 
-// The largest or the smallest of x and those taken.
-fn extreme_of(larger: bool, x: f64, used: &[f64], count: usize) -> f64
-    requires { count ≤ length used.now }
-    ensures { result ≡ cond larger (largest_of x (take count used.now)) (smallest_of x (take count used.now)) }
+// The smallest of x and those taken for inputs, the largest for outputs.
+fn outmost(role: Role, x: f64, used: &[f64]) -> f64
+    ensures { result ≡ outmost role x used.now }
 {
     let mut most = x;
-    for i in 0..count {
-        most = extreme(larger, most, used[i]);
+    for i in 0..used.len() {
+        most = outer(role, most, used[i]);
     }
     most
 }
 
 // Past all that are taken, but within the bounds.
-fn moved(pitch: f64, role: Role, r: Bounds, x: f64, used: &[f64], count: usize) -> f64
-    requires { count ≤ length used.now }
-    ensures { result ≡ moved pitch role r x (take count used.now) }
+fn moved(pitch: f64, role: Role, r: Bounds, x: f64, used: &[f64]) -> f64
+    ensures { result ≡ moved pitch role r x used.now }
 {
-    match role {
-        Role::Input => plan_numbers::clamp(
-            extreme_of(false, x, used, count) - pitch,
-            r.minimum,
-            r.maximum,
-        ),
-        Role::Output => plan_numbers::clamp(
-            extreme_of(true, x, used, count) + pitch,
-            r.minimum,
-            r.maximum,
-        ),
-    }
+    let most = outmost(role, x, used);
+    let past = match role {
+        Role::Input => most - pitch,
+        Role::Output => most + pitch,
+    };
+    plan_numbers::clamp(past, r.minimum, r.maximum)
 }
 
 fn cut_to(role: Role, r: Bounds, d: f64) -> Bounds
@@ -110,95 +102,53 @@ fn cut_to(role: Role, r: Bounds, d: f64) -> Bounds
 }
 
 // The bounds of a bundle, cut to what lies past all that are taken.
-fn cut_beside(
-    pitch: f64,
-    role: Role,
-    b: CollectorBounds,
-    x: f64,
-    used: &[f64],
-    count: usize,
-) -> CollectorBounds
-    requires { count ≤ length used.now }
-    ensures { result ≡ cut_past pitch role b x (take count used.now) }
+fn cut_beside(pitch: f64, role: Role, b: CollectorBounds, x: f64, used: &[f64]) -> CollectorBounds
+    ensures { result ≡ cut_past pitch role b x used.now }
 {
     match b {
         CollectorBounds::Absent => CollectorBounds::Absent,
         CollectorBounds::Between(r) => {
-            let d = moved(pitch, role, r, x, used, count);
+            let d = moved(pitch, role, r, x, used);
             CollectorBounds::Between(cut_to(role, r, d))
         }
     }
 }
 
-// An x stays if it is clear of those taken, and otherwise is sought anew.
+// One bundle: a planned x stays if it is clear of those taken, and otherwise is sought anew.
 fn beside(
-    points: &[f64],
-    starts: &[usize],
-    counts: &[usize],
-    pitch: f64,
+    layout: Layout,
     s: Range,
-    x: f64,
+    planned: Bound,
     used: &[f64],
-    count: usize,
     granted: TapVisits,
-    xs: &mut [f64],
-    scratch: &mut [f64],
+    work: &mut SearchWork,
 ) -> Searched
-    requires searchable { Searchable points.now starts.now counts.now xs.old scratch.old }
-    requires among { Among starts.now s.bundle }
-    requires count_in_bounds { count ≤ length used.now }
-    ensures { (b : Board) (given : List Route) → pitch ≡ pitch_of b s.bundle → Routed b given points.now starts.now counts.now s.bundle → result ≡ beside search_of b given (ranged_from s) (At x) (take count used.now) granted.0 }
+    requires among { Among layout.routes.starts.now s.bundle }
+    ensures { (b : Board) (given : List Route) → layout.entry.pitch ≡ pitch_of b s.bundle → BundleTells b given layout.entry.routes s.bundle → result ≡ beside search_of b given (ranged_from s) planned used.now granted.0 }
 {
-    if collector_has_lane_separation(pitch, x, used, count) {
+    let Bound::At(x) = planned else {
+        return Searched {
+            outcome: Outcome::Nothing,
+            left: granted,
+        };
+    };
+    if collector_has_lane_separation(layout.pitch, x, used) {
         return Searched {
             outcome: Outcome::Found(x),
             left: granted,
         };
     }
-    let cut = cut_beside(pitch, s.bundle.role, s.bounds, x, used, count);
-    plan_searches::search_between(
-        points, starts, counts, pitch, s.bundle, cut, granted, xs, scratch,
-    )
+    let cut = cut_beside(layout.pitch, s.bundle.role, s.bounds, x, used);
+    plan_searches::search_between(layout, s.bundle, cut, granted, work)
 }
 
-// One bundle: none stays none.
-fn beside_planned(
-    points: &[f64],
-    starts: &[usize],
-    counts: &[usize],
-    pitch: f64,
-    s: Range,
-    planned: Bound,
-    used: &[f64],
-    count: usize,
-    granted: TapVisits,
-    xs: &mut [f64],
-    scratch: &mut [f64],
-) -> Searched
-    requires searchable { Searchable points.now starts.now counts.now xs.old scratch.old }
-    requires among { Among starts.now s.bundle }
-    requires count_in_bounds { count ≤ length used.now }
-    ensures { (b : Board) (given : List Route) → pitch ≡ pitch_of b s.bundle → Routed b given points.now starts.now counts.now s.bundle → result ≡ beside search_of b given (ranged_from s) planned (take count used.now) granted.0 }
-{
-    match planned {
-        Bound::None => Searched {
-            outcome: Outcome::Nothing,
-            left: granted,
-        },
-        Bound::At(x) => beside(
-            points, starts, counts, pitch, s, x, used, count, granted, xs, scratch,
-        ),
-    }
-}
-
-fn if_clear(pitch: f64, x: Bound, used: &[f64], count: usize) -> Bound
-    requires { count ≤ length used.now }
-    ensures { result ≡ if_clear pitch x (take count used.now) }
+fn if_clear(pitch: f64, x: Bound, used: &[f64]) -> Bound
+    ensures { result ≡ if_clear pitch x used.now }
 {
     match x {
         Bound::None => Bound::None,
         Bound::At(y) => {
-            if collector_has_lane_separation(pitch, y, used, count) {
+            if collector_has_lane_separation(pitch, y, used) {
                 Bound::At(y)
             } else {
                 Bound::None
@@ -250,20 +200,9 @@ fn add_lane(role: Role, x: Bound, l: Lanes) -> Lanes
 }
 
 // Each bundle of the plan in order, clear of those of its role before it.
-pub fn separate(
-    points: &[f64],
-    starts: &[usize],
-    counts: &[usize],
-    pitch: f64,
-    t: Ranges,
-    n: usize,
-    p: Planning,
-    xs: &mut [f64],
-    scratch: &mut [f64],
-) -> Planning
-    requires searchable { Searchable points.now starts.now counts.now xs.old scratch.old }
-    requires ranges_fit { RangesFit starts.now t n }
-    ensures { (b : Board) (given : List Route) → RangesTell b given points.now starts.now counts.now pitch t n → plan_in n result ≡ separated search_of b given (map ranged_from (take n t.rows)) (map x_of (take n p.rows)) none_taken p.left.0 }
+pub fn separate(layout: Layout, t: Ranges, n: usize, p: Planning, work: &mut SearchWork) -> Planning
+    requires ranges_fit { RangesFit layout.routes.starts.now t n }
+    ensures { (b : Board) (given : List Route) → RangesTell b given layout.entry t n → plan_in n result ≡ separated search_of b given (map ranged_from (take n t.rows)) (map x_of (take n p.rows)) none_taken p.left.0 }
 {
     let none = Taken {
         xs: [0.0; MAX_BUNDLES],
@@ -279,21 +218,10 @@ pub fn separate(
         let s = t.rows[i];
         let role = s.bundle.role;
         let taken = lanes_of(role, lanes);
-        let r = beside_planned(
-            points,
-            starts,
-            counts,
-            pitch,
-            s,
-            rows[i].x,
-            &taken.xs,
-            taken.count,
-            left,
-            xs,
-            scratch,
-        );
+        let used = &taken.xs[..taken.count];
+        let r = beside(layout, s, rows[i].x, used, left, work);
         let found = plan_numbers::found_x(r.outcome);
-        let x = if_clear(pitch, found, &taken.xs, taken.count);
+        let x = if_clear(layout.pitch, found, used);
         rows[i] = Planned { x };
         lanes = add_lane(role, x, lanes);
         left = r.left;

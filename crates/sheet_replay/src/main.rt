@@ -12,15 +12,21 @@ ghost use Rattle.job_tables.specs.Came.{Came};
 ghost use Rattle.draw_job.specs.JobTables.{MembersOn, OnSheet, Lent};
 
 use answer::Frame;
-use board::{DrawnBundles, Edges, Members, Nodes};
+use board::{DrawnBundles, Nodes};
+use draw_job::SheetWork;
 use drawing::GeometryVisits;
 use job::Job;
 use limits::{
     ALL_SLOT_NUMBERS, ANY_ANSWER_ROOM, JOB_ROOM, MAX_BUNDLES, MAX_EDGES, MAX_MEMBERS,
     POINT_NUMBERS, SLOT_NUMBERS, TAP_NUMBERS,
 };
+use plan::tables::BoardTables;
 use plan::{Bound, Planned, Planning};
 use search::TapVisits;
+use turns::TurnWork;
+
+// The number of the one operation that is replayed here.
+const SHEET_OF_A_PLAN: u64 = 0x39;
 
 // ---- the plan of a record
 
@@ -65,31 +71,32 @@ fn put_bytes(from: &[u8], n: usize, out: &mut [u8], start: usize) -> usize {
     at
 }
 
-// A sheet, written as an answer is, by way of a page with room for every table.
-fn put_page(
-    page: &mut [u8],
-    f: Frame,
+// A sheet, written as an answer is, by way of a page with room for every table. The routes are in
+// slots (crate route), and the taps stand one after the other.
+#[derive(Clone, Copy)]
+struct WrittenSheet<'a> {
     nodes: Nodes,
-    table: Edges,
-    points: &[f64],
-    counts: &[usize],
     drawn: DrawnBundles,
-    members: Members,
-    taps: &[f64],
-    out: &mut [u8],
-    at: usize,
-) -> usize
-    requires count_le_max_nodes { (nodes.count ≤ max_nodes) × (table.count ≤ max_edges) × (drawn.count ≤ max_bundles) × (members.count ≤ max_members) }
-    requires count_in_bounds { (table.count ≤ length counts.now) × (slot_numbers * table.count ≤ length points.now) × Held counts.now }
-    requires windows { Windows drawn.count drawn.rows members.count × (2 * members.count ≤ length taps.now) }
-    requires members_on { MembersOn table members × (any_answer_room ≤ length page.old) }
+    points: &'a [f64],
+    counts: &'a [usize],
+    taps: &'a [f64],
+}
+
+// The page is a part of a longer buffer: that it has room is asked.
+
+fn put_page(page: &mut [u8], f: Frame, j: Job, s: WrittenSheet, out: &mut [u8], at: usize) -> usize
+    requires count_le_max_nodes { (s.nodes.count ≤ max_nodes) × (j.edges.count ≤ max_edges) × (s.drawn.count ≤ max_bundles) × (j.members.count ≤ max_members) }
+    requires count_in_bounds { (j.edges.count ≤ length s.counts.now) × (slot_numbers * j.edges.count ≤ length s.points.now) × Held s.counts.now }
+    requires windows { Windows s.drawn.count s.drawn.rows j.members.count × (2 * j.members.count ≤ length s.taps.now) }
+    requires members_on { MembersOn j.edges j.members × (any_answer_room ≤ length page.old) }
 {
-    let t = draw_job::tap_rows(table, members, taps);
-    let n = answer::write_answer(page, f, nodes, table, points, counts, drawn, t);
+    let t = draw_job::tap_rows(j.edges, j.members, s.taps);
+    let n = answer::write_answer(page, f, s.nodes, j.edges, s.points, s.counts, s.drawn, t);
     put_bytes(page, n, out, at)
 }
 
-// The sheet before the last shift, its width and height 0, and after it.
+// The sheet before the last shift, its width and height 0, and after it. Taps and points are slices of
+// their own: as fields of one lent struct, lent on at a time and told of afterwards, they did not prove.
 fn put_pages(
     j: Job,
     edges: &[usize],
@@ -106,43 +113,35 @@ fn put_pages(
     requires any_answer_room_in_bounds { any_answer_room ≤ length page.old }
 {
     let start = put_verdict(out, 0, drawn.count, rest);
-    let next = put_page(
-        page,
-        Frame {
-            tap_visits: left.0,
-            geometry_visits: rest.0,
-            width: 0.0,
-            height: 0.0,
-        },
-        j.nodes,
-        j.edges,
-        points,
-        counts,
+    let before = WrittenSheet {
+        nodes: j.nodes,
         drawn,
-        j.members,
-        taps,
-        out,
-        start,
-    );
-    let l = normalize::normalize_layout(j.nodes, drawn, points, counts, taps, j.members.count);
-    put_page(
-        page,
-        Frame {
-            tap_visits: left.0,
-            geometry_visits: rest.0,
-            width: l.width,
-            height: l.height,
-        },
-        l.nodes,
-        j.edges,
         points,
         counts,
-        l.drawn,
-        j.members,
         taps,
-        out,
-        next,
-    )
+    };
+    let unsized_frame = Frame {
+        tap_visits: left.0,
+        geometry_visits: rest.0,
+        width: 0.0,
+        height: 0.0,
+    };
+    let next = put_page(page, unsized_frame, j, before, out, start);
+    let l = normalize::normalize_layout(j.nodes, drawn, points, counts, taps, j.members.count);
+    let after = WrittenSheet {
+        nodes: l.nodes,
+        drawn: l.drawn,
+        points,
+        counts,
+        taps,
+    };
+    let frame = Frame {
+        tap_visits: left.0,
+        geometry_visits: rest.0,
+        width: l.width,
+        height: l.height,
+    };
+    put_page(page, frame, j, after, out, next)
 }
 
 // The sheet of a plan in lent slices.
@@ -150,31 +149,34 @@ fn draw_in(
     j: Job,
     given: &[f64],
     p: Planning,
-    edges: &mut [usize],
-    lanes: &mut [u32],
-    taps: &mut [f64],
+    work: SheetWork,
     points: &mut [f64],
-    counts: &mut [usize],
-    mask: &mut [bool],
-    scratch: &mut [f64],
     page: &mut [u8],
     out: &mut [u8],
 ) -> usize
     requires came { Came j given.now × (any_answer_room ≤ length page.old) }
-    requires lent { Lent j edges.old lanes.old taps.old points.old counts.old mask.old scratch.old }
+    requires lent { Lent j work.edges.now work.lanes.now work.taps.now points.old work.counts.now }
 {
-    let offsets = plan_depths::corridor_depth_offsets(
-        j.options, j.nodes, j.ports, j.bundles, j.members,
-    );
+    let board = BoardTables {
+        options: j.options,
+        nodes: &j.nodes,
+        ports: &j.ports,
+        edges: &j.edges,
+        bundles: &j.bundles,
+        members: &j.members,
+    };
+    let offsets = plan_depths::corridor_depth_offsets(board);
+    let SheetWork {
+        edges,
+        lanes,
+        taps,
+        counts,
+        turn_work,
+    } = work;
     let mut visits = GeometryVisits(j.grants.geometry_visits);
     let d = turns::draw_sheet(
-        j.options,
+        board,
         j.flags.permits_crossings,
-        j.nodes,
-        j.ports,
-        j.edges,
-        j.bundles,
-        j.members,
         p.rows,
         offsets,
         given,
@@ -183,8 +185,7 @@ fn draw_in(
         taps,
         points,
         counts,
-        mask,
-        scratch,
+        turn_work,
         &mut visits,
     );
     match d.ended {
@@ -204,24 +205,18 @@ fn draw(j: Job, given: &[f64], p: Planning, page: &mut [u8], out: &mut [u8]) -> 
     let mut taps = [0.0; TAP_NUMBERS];
     let mut points = [0.0; ALL_SLOT_NUMBERS];
     let mut counts = [0; MAX_EDGES];
-    let mut mask = [false; MAX_EDGES];
-    let mut scratch = [0.0; SLOT_NUMBERS];
-    let m = j.members.count;
-    let n = j.edges.count;
-    draw_in(
-        j,
-        given,
-        p,
-        &mut edges[..m],
-        &mut lanes[..m],
-        &mut taps,
-        &mut points,
-        &mut counts[..n],
-        &mut mask,
-        &mut scratch,
-        page,
-        out,
-    )
+    let mut turn_work = TurnWork {
+        mask: [false; MAX_EDGES],
+        scratch: [0.0; SLOT_NUMBERS],
+    };
+    let work = SheetWork {
+        edges: &mut edges[..j.members.count],
+        lanes: &mut lanes[..j.members.count],
+        taps: &mut taps[..],
+        counts: &mut counts[..j.edges.count],
+        turn_work: &mut turn_work,
+    };
+    draw_in(j, given, p, work, &mut points, page, out)
 }
 
 // ---- the records
@@ -244,7 +239,7 @@ fn answer(record: &[u8], given: &mut [f64], page: &mut [u8], out: &mut [u8]) -> 
     if record.len() < 1 {
         return 0;
     }
-    if records::u8_at(record, 0) != 0x39 {
+    if records::u8_at(record, 0) != SHEET_OF_A_PLAN {
         return 0;
     }
     let size = size_of(record, record.len() - 1);

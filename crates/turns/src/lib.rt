@@ -2,33 +2,42 @@
 // made, in job order.
 //
 // Ported from cachanova/schemweave, commit c4a1a2c60a, crates/schemweave/src/boundary_bundles.rs
-// (Apache-2.0, see NOTICE). The present routes are in slots (crate route). Member k of the table of
-// members has its edge at place k of edges, its tap lane at place k of lanes and its tap as x and y
-// at point k of taps. The turns read nodes, edges and ports from slices of numbers, filled before the
-// first: boxes and ends (crate checks), and spots, whose point i is where the port of bundle i stands.
+// (Apache-2.0, see NOTICE). The present routes are in slots (crate route). The turns read nodes, edges
+// and ports from slices of numbers, filled before the first: boxes and ends (crate checks), and spots,
+// whose point i is where the port of bundle i stands. The slices that are written, edges, lanes, taps,
+// points and counts, are in no struct: with several fields of one lent struct lent on at a time, and told of
+// afterwards, the proofs did not close.
 
 #![tactic(auto)]
 
 ghost use Rattle.std.specs.Prelude.{◌≡◌, ◌++◌, map, ◌+◌, ◌*◌, ◌<◌, ◌≤◌, length, take, IfOk};
-ghost use Rattle.limits.specs.Limits.{max_nodes, max_bundles, max_members, slot_numbers};
+ghost use Rattle.limits.specs.Limits.{max_bundles, slot_numbers};
 ghost use Rattle.route.specs.Slots.{routes_of, Held};
 ghost use Rattle.board.specs.Board.{Board};
-ghost use Rattle.plan.specs.BoardTables.{board_of, given_routes, Sound, RoutesIn};
+ghost use Rattle.plan.specs.BoardTables.{given_routes, RoutesIn};
+ghost use Rattle.plan.specs.Lent.{board_lent};
 ghost use Rattle.plan.specs.Prepared.{x_of};
 ghost use Rattle.drawing.specs.Sheet.{turn, turns_from, sheet_of, blank};
 ghost use Rattle.checks.specs.Purse.{told};
 ghost use Rattle.checks.specs.MemberSlices.{members_from, Row};
 ghost use Rattle.turns.specs.TurnTables.{turn_of, standing, ends_as, drawn_in, row_drawn, spot_of, Faced, Ready, Longer, Shows, Named, Lists, Room, Short, Rows, Full, members_all, GivenIn, Listed, Boxed, Ended, Spotted, Follow, Once};
 
-use board::{
-    Bundle, Bundles, DrawnBundle, DrawnBundles, Edges, Members, Nodes, Options, Port, Ports,
-};
-use checks::{MemberTaps, PresentRoutes};
+use board::{Bundle, Bundles, DrawnBundle, DrawnBundles, Edges, Members, Nodes, Port, Ports};
+use checks::{BoardSlices, BundleRows, MemberRows, MemberTaps, PresentRoutes, Rules};
 use drawing::GeometryVisits;
-use geometry::{Point, Segment};
-use limits::{MAX_BUNDLES, MAX_EDGES, MAX_NODES};
+use geometry::{Point, RouteView, Segment};
+use limits::{MAX_BUNDLES, MAX_EDGES, MAX_NODES, SLOT_NUMBERS};
+use member_rewriting::Lead;
+use plan::tables::BoardTables;
 use plan::{Bound, Offsets, Planned};
 use refusal::Refusal;
+
+// What a turn works in: a mask of the routes that it changes, and the numbers of one slot.
+#[derive(Clone, Copy)]
+pub struct TurnWork {
+    pub mask: [bool; MAX_EDGES],
+    pub scratch: [f64; SLOT_NUMBERS],
+}
 
 // The bundles drawn, and how the last turn ended.
 #[derive(Clone, Copy)]
@@ -39,54 +48,76 @@ pub struct Drawing {
 
 // ---- one bundle
 
+// A bundle whose turn it is: where its port stands, its planned x, and the offset of its corridor.
+#[derive(Clone, Copy)]
+struct BundleTurn {
+    bundle: Bundle,
+    end: Point,
+    planned: Bound,
+    offset: f64,
+}
+
 // One bundle: build_geometry, rewrite_member_routes, verify_one_bundle_route_node_interiors,
 // verify_new_bundle_route_contacts.
 fn draw_bundle(
-    o: Options,
-    allow: bool,
-    boxes: &[f64],
-    ends: &[usize],
-    end: Point,
-    u: Bundle,
-    planned: Bound,
-    offset: f64,
+    rules: Rules,
+    board: BoardSlices,
+    t: BundleTurn,
     priors: DrawnBundles,
-    edges: &[usize],
-    lanes: &[u32],
+    table: MemberRows,
     taps: &mut [f64],
     points: &mut [f64],
     counts: &mut [usize],
-    mask: &mut [bool],
-    scratch: &mut [f64],
+    work: &mut TurnWork,
     visits: &mut GeometryVisits,
 ) -> Result<DrawnBundle, Refusal>
-    requires { (2 * length counts.old ≤ length ends.now) × Ready u priors edges.now lanes.now taps.old points.old counts.old mask.old × (slot_numbers ≤ length scratch.old) }
-    ensures told { (b : Board) → Faced b o boxes.now ends.now u end (members_from edges.now lanes.now u.first u.count) → ends_as (told result visits.new.0) (routes_of points.new counts.new) (drawn_in edges.now taps.new priors ++ row_drawn edges.now taps.new result) ≡ turn b allow (turn_of u planned offset) (standing (routes_of points.old counts.old) (drawn_in edges.now taps.old priors) visits.old.0) }
-    ensures row { IfOk result (λ d. Row u d) }
+    requires { (2 * length counts.old ≤ length board.ends.now) × Ready t.bundle priors table.edges.now table.lanes.now taps.old points.old counts.old }
+    ensures told { (b : Board) → Faced b rules.options board.entry.boxes.now board.entry.ends.now t.bundle t.end (members_from table.entry.edges.now table.entry.lanes.now t.bundle.first t.bundle.count) → ends_as (told result visits.new.0) (routes_of points.new counts.new) (drawn_in table.entry.edges.now taps.new priors ++ row_drawn table.entry.edges.now taps.new result) ≡ turn b rules.permits_crossings (turn_of t.bundle t.planned t.offset) (standing (routes_of points.old counts.old) (drawn_in table.entry.edges.now taps.old priors) visits.old.0) }
+    ensures row { IfOk result (λ d. Row t.bundle d) }
     ensures hold { Held counts.new }
-    ensures longer { Longer (told result visits.new.0) counts.old counts.new (members_from edges.now lanes.now u.first u.count) }
+    ensures longer { Longer (told result visits.new.0) counts.old counts.new (members_from table.entry.edges.now table.entry.lanes.now t.bundle.first t.bundle.count) }
 {
-    let d = bundle_geometry::build_geometry(o, end, u, planned, edges, lanes, points, counts, taps);
-    if !member_rewriting::rewrite_member_routes(
-        d.interior,
-        u.role,
-        board::pitch_of_bundle(o, u),
-        offset,
-        edges,
-        lanes,
+    let u = t.bundle;
+    let before = PresentRoutes { points, counts };
+    let d = bundle_geometry::build_geometry(
+        rules.options,
+        t.end,
+        u,
+        t.planned,
+        table,
+        before,
         taps,
-        u.first,
-        u.count,
-        points,
-        counts,
-        scratch,
+    );
+    let lead = Lead {
+        inside: d.interior,
+        role: u.role,
+        pitch: board::pitch_of_bundle(rules.options, u),
+    };
+    let members = BundleRows {
+        table,
+        first: u.first,
+        count: u.count,
+    };
+    let scratch = &mut work.scratch;
+    if !member_rewriting::rewrite_member_routes(
+        lead, t.offset, members, taps, points, counts, scratch,
     ) {
         return Err(Refusal::TapUnreachable);
     }
-    let table = MemberTaps { edges, taps };
+    let tapped = MemberTaps {
+        edges: table.edges,
+        taps,
+    };
     let present = PresentRoutes { points, counts };
     bundle_checks::verify_bundle(
-        o, allow, boxes, ends, d, priors, table, present, mask, visits,
+        rules,
+        board,
+        d,
+        priors,
+        tapped,
+        present,
+        &mut work.mask,
+        visits,
     )?;
     Ok(d)
 }
@@ -94,9 +125,9 @@ fn draw_bundle(
 // ---- what is filled before the first turn
 
 // The four numbers of each node: corner x, corner y, width, height.
-fn node_boxes(nodes: Nodes, boxes: &mut [f64])
-    requires { (nodes.count ≤ max_nodes) × (4 * nodes.count ≤ length boxes.old) }
-    ensures { Boxed boxes.new nodes.rows nodes.count }
+fn node_boxes(nodes: &Nodes, boxes: &mut [f64])
+    requires { (nodes.now.count ≤ length nodes.now.rows) × (4 * nodes.now.count ≤ length boxes.old) }
+    ensures { Boxed boxes.new nodes.now.rows nodes.now.count }
 {
     for i in 0..nodes.count {
         let body = nodes.rows[i].body;
@@ -118,9 +149,9 @@ fn spot(boxes: &[f64], p: Port) -> Point
 }
 
 // Where each bundle's port stands.
-fn port_spots(boxes: &[f64], ports: Ports, bundles: Bundles, spots: &mut [f64])
-    requires { Named boxes.now ports bundles × (2 * bundles.count ≤ length spots.old) }
-    ensures { Spotted spots.new boxes.now ports bundles bundles.count }
+fn port_spots(boxes: &[f64], ports: &Ports, bundles: &Bundles, spots: &mut [f64])
+    requires { Named boxes.now ports.now bundles.now × (2 * bundles.now.count ≤ length spots.old) }
+    ensures { Spotted spots.new boxes.now ports.now bundles.now bundles.now.count }
 {
     for i in 0..bundles.count {
         let end = spot(boxes, ports.rows[bundles.rows[i].port]);
@@ -130,29 +161,34 @@ fn port_spots(boxes: &[f64], ports: Ports, bundles: Bundles, spots: &mut [f64])
 
 // The ends of each edge, and its given route in its slot.
 fn store_edges(
-    table: Edges,
+    table: &Edges,
     given: &[f64],
     ends: &mut [usize],
     points: &mut [f64],
     counts: &mut [usize],
 )
-    requires { GivenIn given.now table × (2 * table.count ≤ length ends.old) × (length counts.old ≡ table.count) × (slot_numbers * length counts.old ≤ length points.old) }
-    ensures ends { Ended ends.new table.rows table.count }
-    ensures routes { routes_of points.new counts.new ≡ given_routes given.now table }
+    requires { GivenIn given.now table.now × (2 * table.now.count ≤ length ends.old) × (length counts.old ≡ table.now.count) × (slot_numbers * length counts.old ≤ length points.old) }
+    ensures ends { Ended ends.new table.now.rows table.now.count }
+    ensures routes { routes_of points.new counts.new ≡ given_routes given.now table.now }
     ensures short { Short counts.new }
 {
     for i in 0..table.count {
         let e = table.rows[i];
-        route_slots::store_route(given, e.first, e.count, points, counts, i);
+        let route = RouteView {
+            points: given,
+            start: e.first,
+            count: e.count,
+        };
+        route_slots::store_route(route, points, counts, i);
         ends[2 * i] = e.source;
         ends[2 * i + 1] = e.target;
     }
 }
 
 // The edge and the tap lane of each member.
-fn member_rows(members: Members, edges: &mut [usize], lanes: &mut [u32])
-    requires { (members.count ≤ max_members) × (length edges.old ≡ members.count) × (length lanes.old ≡ members.count) }
-    ensures { Listed edges.new lanes.new members.rows members.count }
+fn member_rows(members: &Members, edges: &mut [usize], lanes: &mut [u32])
+    requires { (members.now.count ≤ length members.now.rows) × (length edges.old ≡ members.now.count) × (length lanes.old ≡ members.now.count) }
+    ensures { Listed edges.new lanes.new members.now.rows members.now.count }
 {
     for i in 0..members.count {
         let m = members.rows[i];
@@ -182,54 +218,50 @@ fn none_drawn() -> DrawnBundles
     }
 }
 
+// The bundles, the plan of each and the offset of its corridor, and where its port stands.
+#[derive(Clone, Copy)]
+struct Turns<'a> {
+    bundles: &'a Bundles,
+    plan: &'a [Planned],
+    offsets: &'a [f64],
+    spots: &'a [f64],
+    ghost bundles_few: { bundles.now.count ≤ max_bundles },
+    ghost bundles_fit: { bundles.now.count ≤ length bundles.now.rows },
+    ghost plan_long: { bundles.now.count ≤ length plan.now },
+    ghost offsets_long: { bundles.now.count ≤ length offsets.now },
+    ghost spots_long: { 2 * bundles.now.count ≤ length spots.now },
+}
+
 // Every bundle in job order; after a refusal, those drawn before it.
 fn draw_bundles(
-    o: Options,
-    allow: bool,
-    boxes: &[f64],
-    ends: &[usize],
-    spots: &[f64],
-    bundles: Bundles,
-    plan: [Planned; MAX_BUNDLES],
-    offsets: Offsets,
-    edges: &[usize],
-    lanes: &[u32],
+    rules: Rules,
+    board: BoardSlices,
+    turns: Turns,
+    table: MemberRows,
     taps: &mut [f64],
     points: &mut [f64],
     counts: &mut [usize],
-    mask: &mut [bool],
-    scratch: &mut [f64],
+    work: &mut TurnWork,
     visits: &mut GeometryVisits,
 ) -> Drawing
-    requires tables { (bundles.count ≤ max_bundles) × (2 * bundles.count ≤ length spots.now) × (2 * length counts.old ≤ length ends.now) }
-    requires lists { Lists (take bundles.count bundles.rows) edges.now lanes.now (length counts.old) }
-    requires room { Room (length edges.now) taps.old points.old counts.old mask.old scratch.old × Short counts.old }
-    ensures told { (b : Board) → Shows b o boxes.now ends.now spots.now bundles (members_all edges.now lanes.now) → ends_as (told result.ended visits.new.0) (routes_of points.new counts.new) (drawn_in edges.now taps.new result.drawn) ≡ sheet_of b allow (turns_from (take bundles.count bundles.rows) (map x_of (take bundles.count plan)) (take bundles.count offsets.rows)) (blank (routes_of points.old counts.old) visits.old.0) }
-    ensures rows { Rows (take result.drawn.count bundles.rows) (take result.drawn.count result.drawn.rows) }
-    ensures full { Full (told result.ended visits.new.0) result.drawn.count bundles.count }
+    requires ends { 2 * length counts.old ≤ length board.ends.now }
+    requires lists { Lists (take turns.bundles.now.count turns.bundles.now.rows) table.edges.now table.lanes.now (length counts.old) }
+    requires room { Room (length table.edges.now) taps.old points.old counts.old × Short counts.old }
+    ensures told { (b : Board) → Shows b rules.options board.entry.boxes.now board.entry.ends.now turns.entry.spots.now turns.entry.bundles.now (members_all table.entry.edges.now table.entry.lanes.now) → ends_as (told result.ended visits.new.0) (routes_of points.new counts.new) (drawn_in table.entry.edges.now taps.new result.drawn) ≡ sheet_of b rules.permits_crossings (turns_from (take turns.entry.bundles.now.count turns.entry.bundles.now.rows) (map x_of (take turns.entry.bundles.now.count turns.entry.plan.now)) (take turns.entry.bundles.now.count turns.entry.offsets.now)) (blank (routes_of points.old counts.old) visits.old.0) }
+    ensures rows { Rows (take result.drawn.count turns.entry.bundles.now.rows) (take result.drawn.count result.drawn.rows) }
+    ensures full { Full (told result.ended visits.new.0) result.drawn.count turns.entry.bundles.now.count }
     ensures hold { Held counts.new }
 {
     let mut drawn = none_drawn();
-    for i in 0..bundles.count {
-        let end = route_views::point_at(spots, i);
+    for i in 0..turns.bundles.count {
+        let t = BundleTurn {
+            bundle: turns.bundles.rows[i],
+            end: route_views::point_at(turns.spots, i),
+            planned: turns.plan[i].x,
+            offset: turns.offsets[i],
+        };
         match draw_bundle(
-            o,
-            allow,
-            boxes,
-            ends,
-            end,
-            bundles.rows[i],
-            plan[i].x,
-            offsets.rows[i],
-            drawn,
-            edges,
-            lanes,
-            taps,
-            points,
-            counts,
-            mask,
-            scratch,
-            visits,
+            rules, board, t, drawn, table, taps, points, counts, work, visits,
         ) {
             Ok(row) => {
                 drawn.rows[i] = row;
@@ -254,13 +286,8 @@ fn draw_bundles(
 // Every bundle in job order, from the given routes on: what points, counts, edges and taps hold then
 // is the sheet before the last shift. After a refusal they hold anything.
 pub fn draw_sheet(
-    o: Options,
-    allow: bool,
-    nodes: Nodes,
-    ports: Ports,
-    table: Edges,
-    bundles: Bundles,
-    members: Members,
+    board: BoardTables,
+    permits_crossings: bool,
     plan: [Planned; MAX_BUNDLES],
     offsets: Offsets,
     given: &[f64],
@@ -269,43 +296,42 @@ pub fn draw_sheet(
     taps: &mut [f64],
     points: &mut [f64],
     counts: &mut [usize],
-    mask: &mut [bool],
-    scratch: &mut [f64],
+    work: &mut TurnWork,
     visits: &mut GeometryVisits,
 ) -> Drawing
-    requires tables { Sound nodes ports bundles members × RoutesIn given.now table members }
-    requires once { Follow 0 members.count (take bundles.count bundles.rows) × Once (take members.count members.rows) (take bundles.count bundles.rows) }
-    requires exact { (length edges.old ≡ members.count) × (length lanes.old ≡ members.count) × (length counts.old ≡ table.count) }
-    requires room { Room members.count taps.old points.old counts.old mask.old scratch.old }
-    ensures told { ends_as (told result.ended visits.new.0) (routes_of points.new counts.new) (drawn_in edges.new taps.new result.drawn) ≡ sheet_of (board_of o nodes ports (take table.count table.rows) bundles members) allow (turns_from (take bundles.count bundles.rows) (map x_of (take bundles.count plan)) (take bundles.count offsets.rows)) (blank (given_routes given.now table) visits.old.0) }
-    ensures members { Listed edges.new lanes.new members.rows members.count }
-    ensures rows { Rows (take result.drawn.count bundles.rows) (take result.drawn.count result.drawn.rows) }
-    ensures full { Full (told result.ended visits.new.0) result.drawn.count bundles.count }
+    requires tables { RoutesIn given.now board.edges.now board.members.now }
+    requires once { Follow 0 board.members.now.count (take board.bundles.now.count board.bundles.now.rows) × Once (take board.members.now.count board.members.now.rows) (take board.bundles.now.count board.bundles.now.rows) }
+    requires exact { (length edges.old ≡ board.members.now.count) × (length lanes.old ≡ board.members.now.count) × (length counts.old ≡ board.edges.now.count) }
+    requires room { Room board.members.now.count taps.old points.old counts.old }
+    ensures told { ends_as (told result.ended visits.new.0) (routes_of points.new counts.new) (drawn_in edges.new taps.new result.drawn) ≡ sheet_of (board_lent board.entry) permits_crossings (turns_from (take board.entry.bundles.now.count board.entry.bundles.now.rows) (map x_of (take board.entry.bundles.now.count plan)) (take board.entry.bundles.now.count offsets.rows)) (blank (given_routes given.now board.entry.edges.now) visits.old.0) }
+    ensures members { Listed edges.new lanes.new board.entry.members.now.rows board.entry.members.now.count }
+    ensures rows { Rows (take result.drawn.count board.entry.bundles.now.rows) (take result.drawn.count result.drawn.rows) }
+    ensures full { Full (told result.ended visits.new.0) result.drawn.count board.entry.bundles.now.count }
     ensures hold { Held counts.new }
 {
     let mut boxes = [0.0; 4 * MAX_NODES];
     let mut ends = [0; 2 * MAX_EDGES];
     let mut spots = [0.0; 2 * MAX_BUNDLES];
-    member_rows(members, edges, lanes);
-    store_edges(table, given, &mut ends, points, counts);
-    node_boxes(nodes, &mut boxes);
-    port_spots(&boxes, ports, bundles, &mut spots);
+    member_rows(board.members, edges, lanes);
+    store_edges(board.edges, given, &mut ends, points, counts);
+    node_boxes(board.nodes, &mut boxes);
+    port_spots(&boxes, board.ports, board.bundles, &mut spots);
+    let rules = Rules {
+        options: board.options,
+        permits_crossings,
+    };
+    let slices = BoardSlices {
+        boxes: &boxes[..4 * board.nodes.count],
+        ends: &ends[..2 * board.edges.count],
+    };
+    let turns = Turns {
+        bundles: board.bundles,
+        plan: &plan,
+        offsets: &offsets.rows,
+        spots: &spots,
+    };
+    let table = MemberRows { edges, lanes };
     draw_bundles(
-        o,
-        allow,
-        &boxes[..4 * nodes.count],
-        &ends[..2 * table.count],
-        &spots,
-        bundles,
-        plan,
-        offsets,
-        edges,
-        lanes,
-        taps,
-        points,
-        counts,
-        mask,
-        scratch,
-        visits,
+        rules, slices, turns, table, taps, points, counts, work, visits,
     )
 }

@@ -1,10 +1,9 @@
 -- `binary64::is_coordinate` meets its contract. Assumes nothing.
 use mathlib.Core.Path.{sym, ◌∙◌, ap}
-use mathlib.Core.Bool.{Bool, true, false, not, ◌&&◌}
+use mathlib.Core.Bool.{Bool, true, not, ◌&&◌}
 use lib.IntN.{pos}
 use lib.Ieee.{fin, neg, le, of_bits}
-use borrow.Author.Rules.{rules}
-use Rattle.binary64.specs.Accepted.{zero64, two_to}
+use Rattle.binary64.specs.Accepted.{two_to}
 use Rattle.binary64.proofs.Kind.{by_tests}
 use Rattle.binary64.proofs.is_coordinate.Goals as goal
 

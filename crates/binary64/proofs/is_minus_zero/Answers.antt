@@ -1,7 +1,6 @@
 -- `binary64::is_minus_zero` meets its contract: a zero is told from the other by its pattern. Assumes nothing.
 use mathlib.Core.Path.{sym}
-use mathlib.Core.Bool.{true, false}
-use lib.Ieee.{of_bits, fits, binary64, is_nan, to_bits}
+use lib.Ieee.{of_bits, fits, binary64}
 use denote.Floats.{passes}
 use Rattle.binary64.proofs.Kind.{minus_zero_bits, minus_zero_other, zero_number}
 use Rattle.binary64.proofs.is_minus_zero.Goals as goal

@@ -1,9 +1,7 @@
 -- `binary64::is_size` meets its contract. Assumes nothing.
 use mathlib.Core.Path.{sym, ◌∙◌, ap}
-use mathlib.Core.Bool.{Bool, true, false, not, ◌&&◌}
-use lib.IntN.{pos}
-use lib.Ieee.{fin, neg, le, of_bits}
-use borrow.Author.Rules.{rules}
+use mathlib.Core.Bool.{Bool, not, ◌&&◌}
+use lib.Ieee.{neg, le, of_bits}
 use Rattle.binary64.specs.Accepted.{zero64, two_to}
 use Rattle.binary64.proofs.Kind.{by_tests}
 use Rattle.binary64.proofs.is_size.Goals as goal

@@ -1,6 +1,5 @@
 -- `binary64::same_place` meets its contract: what `abs` ensures, put under the comparison. Assumes nothing.
 use mathlib.Core.Path.{ap}
-use borrow.Author.Rules.{rules}
 use lib.Ieee.{Float, le, of_bits, binary64}
 use Rattle.binary64.specs.Order.{near}
 use Rattle.binary64.proofs.same_place.Goals as goal

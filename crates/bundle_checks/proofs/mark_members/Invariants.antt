@@ -1,4 +1,3 @@
-use Rattle.std.proofs.Common.{◌≡◌, length}
 use Rattle.bundle_checks.proofs.Marked.{MarkedTo}
 use Rattle.bundle_checks.proofs.mark_members.Given as goal
 

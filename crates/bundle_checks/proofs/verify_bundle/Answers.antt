@@ -1,4 +1,4 @@
-use Rattle.std.proofs.Common.{arith, ◌∙◌, ◌≡◌, ◌≤◌, length, take, map, []}
+use Rattle.std.proofs.Common.{arith, ◌∙◌, take, map, []}
 use Rattle.std.proofs.lemmas.Result.{err_from_is_err_and}
 use Rattle.route.specs.Slots.{routes_length}
 use Rattle.drawing.specs.Check.{among, contact_tests}
@@ -12,20 +12,20 @@ returns-in_err-verify_one_bundle_route_node_interiors c =
     let a = c.args in
     let f = c.mark_members in
     let k = f.auto.mask in
-    let x = c.requires.4.masked in
+    let x = c.requires.4 in
     let y = routes_length a.present.points.now 0 a.present.counts.now in
     let ms = members_from a.table.edges.now [] a.new.first a.new.count in
     let p = err_from_is_err_and c.from_residual.result c.from_residual.ensures.1 in
     rw (p.1, p.2)
-    (both_off _ _ (contact_tests a.o a.allow (drawn_lent a.table a.new) (among ms) (map (drawn_lent a.table) (take a.priors.count a.priors.rows)) (routes_lent a.present)) a.visits.now.0 _ _ c.in_err-verify_one_bundle_route_node_interiors.ensures (inside_masked ms f.new.mask (routes_lent a.present) f.ensures (omega (arith, k, x, y)) a.boxes.now a.ends.now))
+    (both_off _ _ (contact_tests a.rules.options a.rules.permits_crossings (drawn_lent a.table a.new) (among ms) (map (drawn_lent a.table) (take a.priors.count a.priors.rows)) (routes_lent a.present)) a.visits.now.0 _ _ c.in_err-verify_one_bundle_route_node_interiors.ensures (inside_masked ms f.new.mask (routes_lent a.present) f.ensures (omega (arith, k, x, y)) a.board.boxes.now a.board.ends.now))
 
 pub returns : goal.returns
 returns c =
     let a = c.args in
     let f = c.mark_members in
     let k = f.auto.mask in
-    let x = c.requires.4.masked in
+    let x = c.requires.4 in
     let y = routes_length a.present.points.now 0 a.present.counts.now in
     let ms = members_from a.table.edges.now [] a.new.first a.new.count in
     c.verify_new_bundle_route_contacts.ensures
-    ∙ both_on _ _ _ _ a.visits.now.0 _ c.in_ok-verify_one_bundle_route_node_interiors.ensures (inside_masked ms f.new.mask (routes_lent a.present) f.ensures (omega (arith, k, x, y)) a.boxes.now a.ends.now) (contact_masked ms f.new.mask (routes_lent a.present) f.ensures (omega (arith, k, x, y)) a.o a.allow (drawn_lent a.table a.new) (map (drawn_lent a.table) (take a.priors.count a.priors.rows)))
+    ∙ both_on _ _ _ _ a.visits.now.0 _ c.in_ok-verify_one_bundle_route_node_interiors.ensures (inside_masked ms f.new.mask (routes_lent a.present) f.ensures (omega (arith, k, x, y)) a.board.boxes.now a.board.ends.now) (contact_masked ms f.new.mask (routes_lent a.present) f.ensures (omega (arith, k, x, y)) a.rules.options a.rules.permits_crossings (drawn_lent a.table a.new) (map (drawn_lent a.table) (take a.priors.count a.priors.rows)))

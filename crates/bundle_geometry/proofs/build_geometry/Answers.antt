@@ -11,14 +11,14 @@ returns-then-trunk_taps c =
     let f = c.build_inside in
     let g = c.trunk_taps in
     let e = rw (c.if-trunk_taps.true, c.pitch_of_bundle-pitch.ensures) at g.ensures.told in
-    record { drawn = (λ b s. rw (c.in-At.is, f.ensures) (inside_built a.edges.now a.lanes.now _ a.o a.u a.end b s _ (routes_of a.points.now a.counts.now) e)); row = record { id = rw f.ensures; first = rw f.ensures; count = rw f.ensures }; kept = g.ensures.kept }
+    record { drawn = (λ b s. rw (c.in-At.is, f.ensures) (inside_built a.table.edges.now a.table.lanes.now _ a.o a.u a.end b s _ (routes_of a.present.points.now a.present.counts.now) e)); row = record { id = rw f.ensures; first = rw f.ensures; count = rw f.ensures }; kept = g.ensures.kept }
 
 pub returns-in-None : goal.returns-in-None
 unfolding drawn_row inside_with railed_with
 returns-in-None c =
     let a = c.args in
     let f = c.build_rail in
-    record { drawn = (λ b s. rw (c.in-None.is, f.ensures.row) (none_built a.edges.now a.lanes.now _ a.o a.u a.end b s (routes_of a.points.now a.counts.now) f.ensures.placed)); row = record { id = rw f.ensures.row; first = rw f.ensures.row; count = rw f.ensures.row }; kept = f.ensures.kept }
+    record { drawn = (λ b s. rw (c.in-None.is, f.ensures.row) (none_built a.table.edges.now a.table.lanes.now _ a.o a.u a.end b s (routes_of a.present.points.now a.present.counts.now) f.ensures.placed)); row = record { id = rw f.ensures.row; first = rw f.ensures.row; count = rw f.ensures.row }; kept = f.ensures.kept }
 
 pub returns-else-trunk_taps : goal.returns-else-trunk_taps
 unfolding drawn_row inside_with railed_with
@@ -27,4 +27,4 @@ returns-else-trunk_taps c =
     let f = c.build_rail-in-At in
     let g = c.trunk_taps in
     let e = rw (c.if-trunk_taps.false, c.pitch_of_bundle-pitch.ensures) at g.ensures.told in
-    record { drawn = (λ b s. rw (c.in-At.is, f.ensures.row) (rail_built a.edges.now a.lanes.now _ a.o a.u a.end b s _ (routes_of a.points.now a.counts.now) _ e f.ensures.placed)); row = record { id = rw f.ensures.row; first = rw f.ensures.row; count = rw f.ensures.row }; kept = untouched_both _ _ _ _ _ g.ensures.kept f.ensures.kept }
+    record { drawn = (λ b s. rw (c.in-At.is, f.ensures.row) (rail_built a.table.edges.now a.table.lanes.now _ a.o a.u a.end b s _ (routes_of a.present.points.now a.present.counts.now) _ e f.ensures.placed)); row = record { id = rw f.ensures.row; first = rw f.ensures.row; count = rw f.ensures.row }; kept = untouched_both _ _ _ _ _ g.ensures.kept f.ensures.kept }

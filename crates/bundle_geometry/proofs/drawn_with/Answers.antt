@@ -3,6 +3,7 @@ use mathlib.Core.Bool.{Bool}
 use Rattle.geometry.specs.declared.Segment.{Segment}
 use Rattle.board.specs.declared.Bundle.{Bundle}
 use Rattle.board.specs.declared.DrawnBundle.{DrawnBundle}
+use Rattle.drawing.specs.Build.{pt, seg}
 use Rattle.checks.specs.MemberSlices.{drawn_row}
 use Rattle.bundle_geometry.proofs.drawn_with.Goals as goal
 
@@ -14,4 +15,4 @@ unfolding drawn_row
 returns c =
     let a = c.args in
     let e = rw (c.pitch_of_bundle-pitch.ensures, c.boundary_bundle_rail_depth-depth.ensures) at c.counts_interior-interior.ensures in
-    ap (λ (i : Bool). marked a.u a.collector a.spine i) e
+    ap (λ (i : Bool). marked a.u (seg (pt a.corner.x a.reach.low) (pt a.corner.x a.reach.high)) (seg a.end a.corner) i) e

@@ -10,6 +10,6 @@ loop-i-preserved c =
     let a = c.args in
     let l = c.loop-i in
     record {
-      kept = rw c.put_point.ensures (untouched_next a.taps.now l.taps a.first l.i _ l.invariant.kept);
-      placed = rw c.put_point.ensures (placed_next l.taps a.first l.i _ (λ k. rail_point a.end a.middle a.pitch (get_or a.lanes.now (a.first + k) 0)) (omega arith) c.rail_tap-p.ensures l.invariant.placed);
+      kept = rw c.put_point.ensures (untouched_next a.taps.now l.taps a.members.first l.i _ l.invariant.kept);
+      placed = rw c.put_point.ensures (placed_next l.taps a.members.first l.i _ (λ k. rail_point a.end a.middle a.pitch (get_or a.members.table.lanes.now (a.members.first + k) 0)) (omega arith) c.rail_tap-p.ensures l.invariant.placed);
     }

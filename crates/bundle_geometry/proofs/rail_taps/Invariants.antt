@@ -5,6 +5,6 @@ use Rattle.bundle_geometry.proofs.rail_taps.Given as goal
 
 abbrev pub invariant-loop-i : goal.invariant-loop-i
 invariant-loop-i l = record {
-  kept : Untouched l.initial.taps l.taps l.first l.i;
-  placed : Placed l.taps l.first l.i (λ k. rail_point l.end l.middle l.pitch (get_or l.lanes (l.first + k) 0));
+  kept : Untouched l.initial.taps l.taps l.members.first l.i;
+  placed : Placed l.taps l.members.first l.i (λ k. rail_point l.end l.middle l.pitch (get_or l.members.table.lanes.now (l.members.first + k) 0));
 }

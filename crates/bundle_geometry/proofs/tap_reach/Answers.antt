@@ -7,8 +7,8 @@ loop-i-preserved c =
     let a = c.args in
     let l = c.loop-i in
     let h = c.loop-i-test.true in record {
-      low = rw (c.min-low.ensures, c.point_at-p.ensures) (low_next a.taps.now a.first a.count l.i l.low h ∙ l.invariant.low);
-      high = rw (c.max-high.ensures, c.point_at-p.ensures) (high_next a.taps.now a.first a.count l.i l.high h ∙ l.invariant.high);
+      low = rw (c.min-low.ensures, c.view_point-p.ensures) (low_next a.taps.points.now a.taps.start a.taps.count l.i l.low h ∙ l.invariant.low);
+      high = rw (c.max-high.ensures, c.view_point-p.ensures) (high_next a.taps.points.now a.taps.start a.taps.count l.i l.high h ∙ l.invariant.high);
     }
 
 pub returns : goal.returns
@@ -16,4 +16,4 @@ returns c =
     let a = c.args in
     let l = c.loop-i in
     let h = c.loop-i-test.false in
-    record { low = sym (low_end a.taps.now a.first a.count l.i l.low h) ∙ l.invariant.low; high = sym (high_end a.taps.now a.first a.count l.i l.high h) ∙ l.invariant.high }
+    record { low = sym (low_end a.taps.points.now a.taps.start a.taps.count l.i l.low h) ∙ l.invariant.low; high = sym (high_end a.taps.points.now a.taps.start a.taps.count l.i l.high h) ∙ l.invariant.high }

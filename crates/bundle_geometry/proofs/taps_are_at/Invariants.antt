@@ -6,4 +6,4 @@ use Rattle.bundle_geometry.proofs.Taps.{taps_rest}
 use Rattle.bundle_geometry.proofs.taps_are_at.Given as goal
 
 abbrev pub invariant-loop-i : goal.invariant-loop-i
-invariant-loop-i l = all_at l.x (taps_rest l.taps l.first l.count l.i) ≡ all_at l.x (taps_from [] l.taps l.first l.count)
+invariant-loop-i l = all_at l.x (taps_rest l.taps.points.now l.taps.start l.taps.count l.i) ≡ all_at l.x (taps_from [] l.taps.points.now l.taps.start l.taps.count)

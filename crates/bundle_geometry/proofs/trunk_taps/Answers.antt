@@ -8,32 +8,32 @@ use Rattle.bundle_geometry.proofs.trunk_taps.Goals as goal
 pub loop-i-init : goal.loop-i-init
 loop-i-init c =
     let a = c.args in
-    record { kept = untouched_start a.taps.now a.first; told = trunk_start a.role a.pitch a.x a.edges.now a.first a.count (routes_of a.points.now a.counts.now) a.taps.now }
+    record { kept = untouched_start a.taps.now a.members.first; told = trunk_start a.role a.pitch a.x a.members.table.edges.now a.members.first a.members.count (routes_of a.present.points.now a.present.counts.now) a.taps.now }
 
 pub returns-in-None-clause-told : goal.returns-in-None-clause-told
 returns-in-None-clause-told c =
     let a = c.args in
     let l = c.loop-i in
     let h = c.loop-i-test.true in
-    let g = c.requires.1.known l.i h in
-    let m = ap (trunk_met a.role a.pitch a.x) (slot_is a.points.now a.counts.now _ g) ∙ sym c.trunk_tap-c.ensures ∙ c.in-None.is in
-    trunk_off a.role a.pitch a.x a.edges.now a.first a.count (routes_of a.points.now a.counts.now) l.taps l.i h m ∙ l.invariant.told
+    let g = c.requires.slots.known l.i h in
+    let m = ap (trunk_met a.role a.pitch a.x) (slot_is a.present.points.now a.present.counts.now _ g) ∙ sym c.trunk_tap.ensures ∙ c.in-None.is in
+    trunk_off a.role a.pitch a.x a.members.table.edges.now a.members.first a.members.count (routes_of a.present.points.now a.present.counts.now) l.taps l.i h m ∙ l.invariant.told
 
 pub loop-i-preserved : goal.loop-i-preserved
 loop-i-preserved c =
     let a = c.args in
     let l = c.loop-i in
     let h = c.loop-i-test.true in
-    let g = c.requires.1.known l.i h in
-    let p = c.requires.0.places in
-    let m = ap (trunk_met a.role a.pitch a.x) (slot_is a.points.now a.counts.now _ g) ∙ sym c.trunk_tap-c.ensures ∙ c.in-Some.is in
+    let g = c.requires.slots.known l.i h in
+    let p = c.requires.tapped in
+    let m = ap (trunk_met a.role a.pitch a.x) (slot_is a.present.points.now a.present.counts.now _ g) ∙ sym c.trunk_tap.ensures ∙ c.in-Some.is in
     record {
-      kept = rw c.put_point.ensures (untouched_next a.taps.now l.taps a.first l.i _ l.invariant.kept);
-      told = rw c.put_point.ensures (trunk_on a.role a.pitch a.x a.edges.now a.first a.count (routes_of a.points.now a.counts.now) l.taps l.i _ _ h (omega arith) m ∙ l.invariant.told);
+      kept = rw c.put_point.ensures (untouched_next a.taps.now l.taps a.members.first l.i _ l.invariant.kept);
+      told = rw c.put_point.ensures (trunk_on a.role a.pitch a.x a.members.table.edges.now a.members.first a.members.count (routes_of a.present.points.now a.present.counts.now) l.taps l.i _ _ h (omega arith) m ∙ l.invariant.told);
     }
 
 pub returns-clause-told : goal.returns-clause-told
 returns-clause-told c =
     let a = c.args in
     let l = c.loop-i in
-    trunk_end a.role a.pitch a.x a.edges.now a.first a.count (routes_of a.points.now a.counts.now) l.taps l.i (omega arith) ∙ l.invariant.told
+    trunk_end a.role a.pitch a.x a.members.table.edges.now a.members.first a.members.count (routes_of a.present.points.now a.present.counts.now) l.taps l.i (omega arith) ∙ l.invariant.told

@@ -8,6 +8,6 @@ use Rattle.bundle_geometry.proofs.trunk_taps.Given as goal
 
 abbrev pub invariant-loop-i : goal.invariant-loop-i
 invariant-loop-i l = record {
-  kept : Untouched l.initial.taps l.taps l.first l.i;
-  told : trunk_at l.role l.pitch l.x l.edges l.first l.count (routes_of l.points l.counts) l.taps l.i ≡ trunk_taps l.role l.pitch l.x (members_from l.edges [] l.first l.count) (routes_of l.points l.counts);
+  kept : Untouched l.initial.taps l.taps l.members.first l.i;
+  told : trunk_at l.role l.pitch l.x l.members.table.edges.now l.members.first l.members.count (routes_of l.present.points.now l.present.counts.now) l.taps l.i ≡ trunk_taps l.role l.pitch l.x (members_from l.members.table.edges.now [] l.members.first l.members.count) (routes_of l.present.points.now l.present.counts.now);
 }

@@ -1,7 +1,5 @@
 -- `collector_xs::common_horizontal_collector_x` meets its contract. Assumes nothing.
-use mathlib.Core.Path.{◌≡◌}
 use native.Mathlib.Omega.{arith}
-use borrow.Author.Rules.{rules}
 use Rattle.search.proofs.Parts as parts
 use Rattle.collector_xs.proofs.common_horizontal_collector_x.Goals as goal
 

@@ -2,7 +2,6 @@
 use mathlib.Core.Path.{refl, ◌∙◌, ap}
 use mathlib.Core.List.{List, map}
 use Prim.Native.Nat.{ℕ}
-use native.Mathlib.Omega.{arith}
 use borrow.Author.Rules.{rules}
 use lib.ListN.{get_or, take, length-set}
 use Rattle.plan.specs.declared.Bound.{Bound}
@@ -16,15 +15,6 @@ use Rattle.component_extents.proofs.drop_all.Goals as goal
 pub loop-k-init : goal.loop-k-init
 loop-k-init c = record { rows_length = search (rules, rows.length_mapped); xs_are = λ m h. refl }
 
-pub bounds-which-k : goal.bounds-which-k
-bounds-which-k c = omega (arith, c.requires.count_in, c.loop-k-test.true)
-
-pub offset_bounds-rows-which : goal.offset_bounds-rows-which
-offset_bounds-rows-which c = let h = c.requires.each c.loop-k.k c.loop-k-test.true in search rules
-
-pub bounds-rows-which : goal.bounds-rows-which
-bounds-rows-which c = let h = c.requires.each c.loop-k.k c.loop-k-test.true in omega (arith, c.loop-k.invariant.rows_length)
-
 pub loop-k-preserved : goal.loop-k-preserved
 loop-k-preserved c =
     let a = c.args in
@@ -33,7 +23,7 @@ loop-k-preserved c =
     let i : ℕ = get_or a.which.now l.k 0 in record {
       rows_length = length-set l.rows i (record { x = None }) ∙ l.invariant.rows_length;
       xs_are = λ m e.
-          laws.drop_turn i _ _ (map x_of (take m l.rows)) _ (rows.part_cons a.which.now a.count l.k 0 h c.requires.count_in) (agains.x_set l.rows m i None (e.each l.k h))
+          laws.drop_turn i _ _ (map x_of (take m l.rows)) _ (rows.rest_cons a.which.now l.k 0 h) (agains.x_set l.rows m i None (e.each l.k h))
           ∙ l.invariant.xs_are m e;
     }
 
@@ -43,5 +33,5 @@ returns c =
     let l = c.loop-k in
     λ m e.
     ap (λ (z : List Bound). record { xs = z; left = a.p.left.0 })
-    (laws.drop_end _ (map x_of (take m l.rows)) (rows.part_none a.which.now a.count l.k c.loop-k-test.false c.requires.count_in)
+    (laws.drop_end _ (map x_of (take m l.rows)) (rows.rest_none a.which.now l.k c.loop-k-test.false)
     ∙ l.invariant.xs_are m e)

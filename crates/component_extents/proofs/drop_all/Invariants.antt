@@ -10,5 +10,5 @@ use Rattle.component_extents.proofs.drop_all.Given as goal
 abbrev pub invariant-loop-k : goal.invariant-loop-k
 invariant-loop-k l = record {
   rows_length : length l.rows ≡ max_bundles;
-  xs_are : (m : ℕ) → Listing l.which l.count m → drop_all (drop l.k (take l.count l.which)) (map x_of (take m l.rows)) ≡ drop_all (take l.count l.which) (map x_of (take m l.initial.rows));
+  xs_are : (m : ℕ) → Listing l.which m → drop_all (drop l.k l.which) (map x_of (take m l.rows)) ≡ drop_all l.which (map x_of (take m l.initial.rows));
 }

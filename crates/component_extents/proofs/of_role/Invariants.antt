@@ -12,5 +12,5 @@ abbrev pub invariant-loop-k : goal.invariant-loop-k
 invariant-loop-k l = record {
   few : l.count ≤ l.k;
   rows_length : length l.rows ≡ max_bundles;
-  rows_are : (m : ℕ) → Listing l.order l.n m → take l.count l.rows ++ of_role l.role (ranges_in m l.t) (drop l.k (take l.n l.order)) ≡ of_role l.role (ranges_in m l.t) (take l.n l.order);
+  rows_are : (m : ℕ) → Listing l.order m → take l.count l.rows ++ of_role l.role (ranges_in m l.t) (drop l.k l.order) ≡ of_role l.role (ranges_in m l.t) l.order;
 }

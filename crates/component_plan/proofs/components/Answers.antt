@@ -2,7 +2,7 @@
 use mathlib.Core.Path.{◌≡◌, refl, ◌∙◌, ap}
 use mathlib.Core.Bool.{Bool, true, false}
 use mathlib.Core.List.{List, ◌∷◌}
-use Prim.Native.Nat.{ℕ, ◌+◌, ◌-◌, ◌≤◌, ◌<◌}
+use Prim.Native.Nat.{ℕ, ◌+◌, ◌≤◌, ◌<◌}
 use native.Mathlib.Omega.{arith}
 use borrow.Author.Rules.{rules}
 use lib.ListN.{length, take, drop, set, replicate}
@@ -14,63 +14,53 @@ use Rattle.plan.specs.Plan.{Ranged, ranged_at, found?, indices_from, components}
 use Rattle.plan.specs.Prepared.{range_at, plan_in}
 use Rattle.plan.specs.Stack.{component_from}
 use Rattle.plan.proofs.TableReads as rows
-use Rattle.components.specs.Settled.{ranges_in, step_in, Known, Neighboured}
+use Rattle.components.specs.Settled.{ranges_in}
 use Rattle.components.proofs.Turns as turns
-use Rattle.components.proofs.Settles as settles
 use Rattle.component_plan.proofs.Joins as laws
-use Rattle.std.proofs.Common.{not}
 use Rattle.component_plan.proofs.components.Goals as goal
 use Rattle.component_plan.proofs.components.Goals.{Start, then-not-seen-i+then-is_found+in_ok-p, else-not-seen-i, else-not-seen-i-via-then-not-seen-i+else-is_found, else-not-seen-i-via-else-not-seen-i}
 use Rattle.std.proofs.lemmas.Result.{err_from_is_err_and}
 
-long : (s : Start) → length (ranges_in s.args.t.count s.args.ranges) ≡ s.args.t.count
+long : (s : Start) → length (ranges_in s.args.layout.reaches.now.count s.args.ranges) ≡ s.args.layout.reaches.now.count
 long s =
     let e : length s.args.ranges.rows ≡ max_bundles = search (rules, rows.length_mapped) in
-    laws.ranges_length s.args.t.count s.args.ranges (omega (arith, s.requires.all_among.bundles_few))
+    laws.ranges_length s.args.layout.reaches.now.count s.args.ranges (omega (arith, s.args.layout.among.bundles_few))
 
-next : (s : Start) (i : ℕ) → i < s.args.t.count
-    → drop i (indices_from 0 (ranges_in s.args.t.count s.args.ranges)) ≡ i ∷ drop (i + 1) (indices_from 0 (ranges_in s.args.t.count s.args.ranges))
-next s i h = laws.indices_cons (ranges_in s.args.t.count s.args.ranges) i (omega (arith, h, long s))
+next : (s : Start) (i : ℕ) → i < s.args.layout.reaches.now.count
+    → drop i (indices_from 0 (ranges_in s.args.layout.reaches.now.count s.args.ranges)) ≡ i ∷ drop (i + 1) (indices_from 0 (ranges_in s.args.layout.reaches.now.count s.args.ranges))
+next s i h = laws.indices_cons (ranges_in s.args.layout.reaches.now.count s.args.ranges) i (omega (arith, h, long s))
 
 -- the array of marks as the definition has it
 none_seen : (s : Start) (b : Board) (given : List Route)
-    → components search_of b given (ranges_in s.args.t.count s.args.ranges) (indices_from 0 (ranges_in s.args.t.count s.args.ranges)) (take s.args.t.count (replicate max_bundles false)) (plan_in s.args.t.count s.args.before)
-    ≡ components search_of b given (ranges_in s.args.t.count s.args.ranges) (indices_from 0 (ranges_in s.args.t.count s.args.ranges)) (replicate s.args.t.count false) (plan_in s.args.t.count s.args.before)
+    → components search_of b given (ranges_in s.args.layout.reaches.now.count s.args.ranges) (indices_from 0 (ranges_in s.args.layout.reaches.now.count s.args.ranges)) (take s.args.layout.reaches.now.count (replicate max_bundles false)) (plan_in s.args.layout.reaches.now.count s.args.before)
+    ≡ components search_of b given (ranges_in s.args.layout.reaches.now.count s.args.ranges) (indices_from 0 (ranges_in s.args.layout.reaches.now.count s.args.ranges)) (replicate s.args.layout.reaches.now.count false) (plan_in s.args.layout.reaches.now.count s.args.before)
 none_seen s b given =
-    ap (λ (l : List Bool). components search_of b given (ranges_in s.args.t.count s.args.ranges) (indices_from 0 (ranges_in s.args.t.count s.args.ranges)) l (plan_in s.args.t.count s.args.before))
-    (laws.none_seen s.args.t.count max_bundles s.requires.all_among.bundles_few)
+    ap (λ (l : List Bool). components search_of b given (ranges_in s.args.layout.reaches.now.count s.args.ranges) (indices_from 0 (ranges_in s.args.layout.reaches.now.count s.args.ranges)) l (plan_in s.args.layout.reaches.now.count s.args.before))
+    (laws.none_seen s.args.layout.reaches.now.count max_bundles s.args.layout.among.bundles_few)
 
-found-read : (s : Start) (i : ℕ) (f : Bool) → i < s.args.t.count → f ≡ found? (range_at s.args.ranges i).bounds → f ≡ found? (ranged_at (ranges_in s.args.t.count s.args.ranges) i).bounds
-found-read s i f h e = e ∙ ap (λ (z : Ranged). found? z.bounds) (turns.range_read s.args.ranges.rows s.args.t.count i h)
+found-read : (s : Start) (i : ℕ) (f : Bool) → i < s.args.layout.reaches.now.count → f ≡ found? (range_at s.args.ranges i).bounds → f ≡ found? (ranged_at (ranges_in s.args.layout.reaches.now.count s.args.ranges) i).bounds
+found-read s i f h e = e ∙ ap (λ (z : Ranged). found? z.bounds) (turns.range_read s.args.ranges.rows s.args.layout.reaches.now.count i h)
 
 pub loop-i-init : goal.loop-i-init
 loop-i-init c = record { seen_length = refl; plan_is = λ b given k e. refl }
 
-pub component-w-requires : goal.component-w-requires
-component-w-requires c = (c.requires.all_among.bundles_few, c.loop-i-test.true)
-
 pub treat-requires : goal.treat-requires
 treat-requires c =
     let a = c.args in
-    let n = a.t.count in
+    let n = a.layout.reaches.now.count in
     let l = c.loop-i in
     let w = c.component-w in
-    let p = c.requires.searchable in
     let k : length w.result.order ≡ max_bundles = search (rules, rows.length_mapped) in
-    let few : w.result.count ≤ max_bundles = omega (arith, w.ensures.0, c.requires.all_among.bundles_few) in
-    record {
-      searchable = record { paired = p.paired; windows = p.windows; room = omega (arith, p.room); scratch_room = omega (arith, p.scratch_room) };
-      all_among = c.requires.all_among;
-      count_le_max_bundles = (few, laws.component_listed a.adjacent.now n l.i w.result.count w.result.order (take n (set l.seen l.i true)) (take n w.result.seen) c.loop-i-test.true (omega (arith, few, k)) w.ensures.1);
-    }
+    let few : w.result.count ≤ length w.result.order = omega (arith, w.ensures.0, a.layout.among.bundles_few, k) in
+    record { listing = (omega (arith, rows.length_part w.result.order w.result.count few, k), laws.component_listed a.adjacent.now n l.i w.result.count w.result.order (take n (set l.seen l.i true)) (take n w.result.seen) c.loop-i-test.true few w.ensures.1) }
 
 pub returns-in_err-p : goal.returns-in_err-p
 returns-in_err-p c =
     let a = c.args in
-    let n = a.t.count in
+    let n = a.layout.reaches.now.count in
     let l = c.loop-i in
     let h = c.loop-i-test.true in
-    let m : l.i < length l.seen = omega (arith, h, l.invariant.seen_length, c.requires.all_among.bundles_few) in
+    let m : l.i < length l.seen = omega (arith, h, l.invariant.seen_length, c.args.layout.among.bundles_few) in
     let w = c.component-w in
     let r = err_from_is_err_and c.from_residual.result c.from_residual.ensures.1 in
     rw (r.1, r.2) (λ b given k e.
@@ -85,10 +75,10 @@ returns-in_err-p c =
 pub loop-i-preserved : goal.loop-i-preserved
 loop-i-preserved c =
     let a = c.args in
-    let n = a.t.count in
+    let n = a.layout.reaches.now.count in
     let l = c.loop-i in
     let h = c.loop-i-test.true in
-    let m : l.i < length l.seen = omega (arith, h, l.invariant.seen_length, c.requires.all_among.bundles_few) in
+    let m : l.i < length l.seen = omega (arith, h, l.invariant.seen_length, c.args.layout.among.bundles_few) in
     let s = (goal.at.loop-i-preserved c).Start in
     elim c.if-not-seen-i.branch [
       | then-not-seen-i+then-is_found+in_ok-p v ↦
@@ -119,7 +109,7 @@ loop-i-preserved c =
 pub returns : goal.returns
 returns c =
     let a = c.args in
-    let n = a.t.count in
+    let n = a.layout.reaches.now.count in
     let l = c.loop-i in
     let h : length (ranges_in n a.ranges) ≤ l.i = omega (arith, c.loop-i-test.false, long (goal.at.returns c).Start) in
     λ b given k e.

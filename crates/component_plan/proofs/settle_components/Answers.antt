@@ -5,7 +5,6 @@ use native.Mathlib.Omega.{arith}
 use borrow.Author.Rules.{rules}
 use lib.ListN.{length}
 use Rattle.limits.specs.Limits.{max_bundles}
-use Rattle.plan.specs.Plan.{components}
 use Rattle.plan.specs.Prepared.{plan_in}
 use Rattle.plan.proofs.TableReads as rows
 use Rattle.components.specs.Settled.{step_in}
@@ -13,19 +12,13 @@ use Rattle.component_plan.proofs.Joins as laws
 use Rattle.component_plan.proofs.settle_components.Goals as goal
 use Rattle.component_plan.proofs.settle_components.Goals.{Start}
 
-few : (s : Start) → s.args.t.count ≤ length s.args.ranges.rows
-few s = let e : length s.args.ranges.rows ≡ max_bundles = search (rules, rows.length_mapped) in omega (arith, s.requires.all_among.bundles_few)
-
-pub adjacency-a-requires : goal.adjacency-a-requires
-adjacency-a-requires c = c.requires.ranges_among
-
-pub initial-p-requires : goal.initial-p-requires
-initial-p-requires c = c.requires.all_among.bundles_few
+few : (s : Start) → s.args.layout.reaches.now.count ≤ length s.args.ranges.rows
+few s = let e : length s.args.ranges.rows ≡ max_bundles = search (rules, rows.length_mapped) in omega (arith, s.args.layout.among.bundles_few)
 
 pub returns : goal.returns
 returns c =
     let a = c.args in
-    let n = a.t.count in
+    let n = a.layout.reaches.now.count in
     let q = c.adjacency-a in
     let i = c.initial-p in
     λ b given k e.

@@ -12,16 +12,16 @@ pub put_row-requires : goal.put_row-requires
 put_row-requires c =
     let l = c.loop-k in
     let a = c.args in
-    let k = every_at (λ k. k < max_crossings) a.order.now 0 c.requires.2 l.k-index c.loop-k-test.true in
-    (omega arith, omega arith, omega arith)
+    let k = every_at (λ k. k < max_crossings) a.order.now 0 c.requires.1 l.k-index c.loop-k-test.true in
+    (omega arith, k)
 
 pub loop-k-preserved : goal.loop-k-preserved
 loop-k-preserved c =
     let a = c.args in
     let l = c.loop-k in record {
       place = omega arith;
-      bytes = entry_next a.places.now a.names.now a.order.now _ _ l.k-index l.at c.loop-k-test.true c.put_row.ensures ∙ l.invariant.bytes;
+      bytes = entry_next a.kept.now.places a.kept.now.names a.order.now _ _ l.k-index l.at c.loop-k-test.true c.put_row.ensures ∙ l.invariant.bytes;
     }
 
 pub returns : goal.returns
-returns c = let a = c.args in let l = c.loop-k in ap (λ z. sets l.out l.at z) (sym (entry_end a.places.now a.names.now a.order.now l.k-index c.loop-k-test.false)) ∙ l.invariant.bytes
+returns c = let a = c.args in let l = c.loop-k in ap (λ z. sets l.out l.at z) (sym (entry_end a.kept.now.places a.kept.now.names a.order.now l.k-index c.loop-k-test.false)) ∙ l.invariant.bytes

@@ -11,8 +11,8 @@ put_list-requires c =
     let a = c.args in
     let f = c.count_up.ensures in
     let g = c.sort.ensures.equal in
-    let l = order_length a.places.now a.names.now _ _ (length a.order.now) f g in
-    (omega arith, omega arith, c.requires.0, order_below a.places.now a.names.now _ _ (length a.order.now) f g c.requires.1)
+    let l = order_length a.kept.now.places a.kept.now.names _ _ (length a.order.now) f g in
+    (omega arith, omega arith, order_below a.kept.now.places a.kept.now.names _ _ (length a.order.now) f g c.requires.0)
 
 pub returns : goal.returns
 returns c =
@@ -20,6 +20,6 @@ returns c =
     let f = c.count_up.ensures in
     let g = c.sort.ensures.equal in
     let w = c.put_list.ensures in
-    let r = c.requires.0.0 in
-    let n = c.requires.1 in
-    w ∙ ap (sets a.out.now 0) (order_written a.places.now a.names.now _ _ (length a.order.now) f g (omega arith))
+    let r = a.kept.now.places_room in
+    let n = c.requires.0 in
+    w ∙ ap (sets a.out.now 0) (order_written a.kept.now.places a.kept.now.names _ _ (length a.order.now) f g (omega arith))

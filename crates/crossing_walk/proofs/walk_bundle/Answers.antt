@@ -11,7 +11,7 @@ pub loop-e-preserved : goal.loop-e-preserved
 loop-e-preserved c =
     let a = c.args in
     let l = c.loop-e in
-    further _ _ _ _ _ _ _ _ _ _ _ _ _ l.invariant c.walk_route-k.ensures (routes_step a.d a.ids.now a.points.now a.counts.now l.e c.loop-e-test.true)
+    further _ _ _ _ _ _ _ _ _ _ _ _ _ l.invariant c.walk_route.ensures (routes_step a.row a.routes.ids.now a.routes.points.now a.routes.counts.now l.e c.loop-e-test.true)
 
 pub returns : goal.returns
-returns c = let a = c.args in let l = c.loop-e in at_last _ _ _ _ _ _ _ _ l.invariant (routes_end a.d a.ids.now a.points.now a.counts.now l.e c.loop-e-test.false)
+returns c = let a = c.args in let l = c.loop-e in at_last _ _ _ _ _ _ _ _ l.invariant (routes_end a.row a.routes.ids.now a.routes.points.now a.routes.counts.now l.e c.loop-e-test.false)

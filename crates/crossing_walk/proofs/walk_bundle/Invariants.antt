@@ -5,4 +5,4 @@ use Rattle.route.specs.Slots.{routes_of}
 use Rattle.crossing_walk.proofs.walk_bundle.Given as goal
 
 abbrev pub invariant-loop-e : goal.invariant-loop-e
-invariant-loop-e l = SoFar l.initial.places l.initial.names l.n l.places l.names l.k (routes_at l.d l.ids l.points l.counts l.e) (bundle_rows l.d l.ids (routes_of l.points l.counts) 0)
+invariant-loop-e l = SoFar l.initial.kept.places l.initial.kept.names l.initial.kept.count l.kept.places l.kept.names l.kept.count (routes_at l.fn.row l.routes.ids.now l.routes.points.now l.routes.counts.now l.e) (bundle_rows l.fn.row l.routes.ids.now (routes_of l.routes.points.now l.routes.counts.now) 0)

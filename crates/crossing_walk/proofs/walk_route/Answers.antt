@@ -4,4 +4,4 @@ use Rattle.geometry.specs.Points.{points_from}
 use Rattle.crossing_walk.proofs.walk_route.Goals as goal
 
 pub returns : goal.returns
-returns c = let a = c.args in route_grown a.d a.edge (points_from a.points.now a.start a.long) _ _ _ _ _ _ _ _ _ c.walk_runs-k.ensures c.walk_runs.ensures
+returns c = let a = c.args in route_grown a.d.row a.edge (points_from a.route.points.now a.route.start a.route.count) _ _ _ _ _ _ _ _ _ c.walk_runs.ensures c.walk_runs-2.ensures

@@ -5,4 +5,4 @@ use Rattle.geometry.specs.Points.{runs, points_from}
 use Rattle.crossing_walk.proofs.walk_runs.Given as goal
 
 abbrev pub invariant-loop-i : goal.invariant-loop-i
-invariant-loop-i l = SoFar l.initial.places l.initial.names l.n l.places l.names l.k (runs_at l.bus l.bundle l.edge l.points l.start l.long l.i) (run_rows l.bus l.bundle l.edge (runs (points_from l.points l.start l.long)))
+invariant-loop-i l = SoFar l.initial.kept.places l.initial.kept.names l.initial.kept.count l.kept.places l.kept.names l.kept.count (runs_at l.bus.segment l.bundle l.edge l.route.points.now l.route.start l.route.count l.i) (run_rows l.bus.segment l.bundle l.edge (runs (points_from l.route.points.now l.route.start l.route.count)))

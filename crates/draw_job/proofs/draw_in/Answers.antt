@@ -1,10 +1,10 @@
 -- `draw_job::draw_in` meets its contract. Assumes nothing.
 use mathlib.Core.Path.{◌≡◌, refl, sym, ◌∙◌, ap, subst}
 use mathlib.Core.Bool.{not, ◌&&◌}
-use mathlib.Core.List.{List, ◌++◌}
-use Prim.Native.Nat.{ℕ, ◌+◌, ◌*◌, ◌≤◌, ◌<◌}
+use mathlib.Core.List.{List}
+use Prim.Native.Nat.{ℕ, ◌≤◌}
 use native.Mathlib.Omega.{arith}
-use lib.ListN.{length, get_or, take, drop}
+use lib.ListN.{length, take}
 use lib.Seq.{sets, length-take-le, length_front}
 use lib.Ieee.{Float}
 use Rattle.limits.specs.Limits.{max_bundles, id_columns, search_work}
@@ -91,8 +91,8 @@ on_sheet c =
     let s = start c in
     let a = s.args in
     let d = c.draw_sheet-d in
-    let lent = laws.lent_as a.j _ _ _ _ c.if-wants.points _ _ _ (points_kept (goal.at.In-Ok-ended c).Joined-wants) s.requires.lent in
-    laws.on_sheet a.j a.given.now s.requires.came.0 (sizes s) _ _ _ _ _ _ _ lent (told d.result.ended d.new.visits.0) (drawn_by c) (edges_by c) d.new.lanes (taps_by c) (points-by c) (counts-by c) d.auto.taps d.auto.points d.auto.counts _ (laws.ended_clean d.result.ended d.new.visits.0 _ c.in-Ok-ended.is) d.ensures.members d.ensures.rows d.ensures.full d.ensures.hold
+    let lent = laws.lent_as a.j _ _ _ _ c.if-wants.points _ (points_kept (goal.at.In-Ok-ended c).Joined-wants) s.requires.lent in
+    laws.on_sheet a.j a.given.now s.requires.came.0 (sizes s) _ _ _ _ _ lent (told d.result.ended d.new.visits.0) (drawn_by c) (edges_by c) d.new.lanes (taps_by c) (points-by c) (counts-by c) d.auto.taps d.auto.points d.auto.counts _ (laws.ended_clean d.result.ended d.new.visits.0 _ c.in-Ok-ended.is) d.ensures.members d.ensures.rows d.ensures.full d.ensures.hold
 
 windows : (c : In-Ok-ended) → Windows (drawn_by c).count (drawn_by c).rows (start c).args.j.members.count
 windows c = answers.windows (start c).args.j (edges_by c) (drawn_by c) (points-by c) (counts-by c) (taps_by c) (on_sheet c) (sizes (start c))
@@ -110,10 +110,10 @@ listed_by c rest =
       | else-wants-2 x ↦ listing.unwanted_listed a.wants _ _ _ _ x.if-wants-2.false x.crossings-is
     ]
 
-pub corridor_depth_offsets-offsets-requires : goal.corridor_depth_offsets-offsets-requires
-corridor_depth_offsets-offsets-requires c =
+pub invariant_of-board : goal.invariant_of-board
+invariant_of-board c =
     let a = c.args in
-    tables_sound a.j a.given.now c.requires.came.0 (sizes (goal.at.corridor_depth_offsets-offsets-requires c).Start)
+    record { sound = tables_sound a.j a.given.now c.requires.came.0 (sizes (goal.at.invariant_of-board c).Start) }
 
 pub read_plan-p-requires : goal.read_plan-p-requires
 read_plan-p-requires c = c.requires.came.0.fits.bundles
@@ -127,7 +127,7 @@ pub plan_interior_collectors-requires : goal.plan_interior_collectors-requires
 plan_interior_collectors-requires c =
     let a = c.args in
     let x = length-take-le search_work a.points.now c.requires.search_work_in_bounds.0 in
-    record { sound = (tables_sound a.j a.given.now c.requires.came.0 (sizes (goal.at.plan_interior_collectors-requires c).Start), routes_in a.j a.given.now c.requires.came.0 (sizes (goal.at.plan_interior_collectors-requires c).Start)); search_room = (omega (arith, c.requires.search_work_in_bounds.1), omega (arith, x, c.requires.search_work_in_bounds.1)); offsets_of = c.corridor_depth_offsets-offsets.ensures }
+    record { routes_in = routes_in a.j a.given.now c.requires.came.0 (sizes (goal.at.plan_interior_collectors-requires c).Start); search_room = (omega (arith, c.requires.search_work_in_bounds.1), omega (arith, x, c.requires.search_work_in_bounds.1)); offsets_of = c.corridor_depth_offsets-offsets.ensures }
 
 pub write_notice-requires : goal.write_notice-requires
 write_notice-requires c = c.requires.came.1
@@ -141,8 +141,8 @@ returns-in-Err c =
 pub draw_sheet-d-requires : goal.draw_sheet-d-requires
 draw_sheet-d-requires c =
     let a = c.args in
-    let lent = laws.lent_as a.j _ _ _ _ _ _ _ _ (points_kept (goal.at.draw_sheet-d-requires c).Joined-wants) c.requires.lent in
-    record { tables = (tables_sound a.j a.given.now c.requires.came.0 (sizes (goal.at.draw_sheet-d-requires c).Start), routes_in a.j a.given.now c.requires.came.0 (sizes (goal.at.draw_sheet-d-requires c).Start)); once = (ready.follow a.j a.given.now c.requires.came.0 (sizes (goal.at.draw_sheet-d-requires c).Start), ready.once_a_role a.j a.given.now c.requires.came.0 (sizes (goal.at.draw_sheet-d-requires c).Start)); exact = (lent.edges_long, lent.lanes_long, lent.counts_long); room = lent.room }
+    let lent = laws.lent_as a.j _ _ _ _ _ _ (points_kept (goal.at.draw_sheet-d-requires c).Joined-wants) c.requires.lent in
+    record { tables = routes_in a.j a.given.now c.requires.came.0 (sizes (goal.at.draw_sheet-d-requires c).Start); once = (ready.follow a.j a.given.now c.requires.came.0 (sizes (goal.at.draw_sheet-d-requires c).Start), ready.once_a_role a.j a.given.now c.requires.came.0 (sizes (goal.at.draw_sheet-d-requires c).Start)); exact = (lent.edges_long, lent.lanes_long, lent.counts_long); room = lent.room }
 
 pub write_notice-requires-in-Err-ended : goal.write_notice-requires-in-Err-ended
 write_notice-requires-in-Err-ended c = c.requires.came.1
@@ -229,19 +229,19 @@ returns-in-Err-ended c =
     let w = c.write_notice-in-Err-ended.ensures in
     laws.notice_writes _ _ _ _ _ (laws.refused_outputs a.wants _ _ (laws.all_refused a.j a.given.now c.requires.came.0 (sizes (goal.at.returns-in-Err-ended c).Start) a.wants.plan a.plan.now c.if-wants.p (chosen (goal.at.returns-in-Err-ended c).Joined-wants) c.in-Ok.made c.in-Ok.is (take a.j.bundles.count o.result.rows) (told d.result.ended d.new.visits.0) d.new.edges d.result.drawn d.new.points d.new.counts d.new.taps (o.ensures (take a.j.edges.count a.j.edges.rows)) d.ensures.told _ _ (laws.ended_refused d.result.ended d.new.visits.0 _ _ c.from-in-Err-ended.ensures c.in-Err-ended.is))) w.bytes refl refl w.place
 
-pub returns-after-wants-3 : goal.returns-after-wants-3
-returns-after-wants-3 c =
+pub returns : goal.returns
+returns c =
     let a = c.args in
     let o = c.corridor_depth_offsets-offsets in
     let d = c.draw_sheet-d in
     let n = c.normalize_layout-l in
     let t = c.tap_rows-t in
-    let on = on_sheet (goal.at.returns-after-wants-3 c).In-Ok-ended in
+    let on = on_sheet (goal.at.returns c).In-Ok-ended in
     let w = c.write_answer.ensures in
     let r = n.result.drawn in
-    let same = page_of_tables id_columns (record { tap_visits = 0; geometry_visits = 0; width = n.result.width; height = n.result.height }) n.result.nodes a.j.edges n.new.points (counts-by (goal.at.returns-after-wants-3 c).In-Ok-ended) r t.result in
-    let l = listed_by (goal.at.returns-after-wants-3 c).Joined-wants-2 in
-    laws.drawn_writes a.wants _ _ (laws.all_drawn a.j a.given.now c.requires.came.0 (sizes (goal.at.returns-after-wants-3 c).Start) a.wants.plan a.plan.now c.if-wants.p (chosen (goal.at.returns-after-wants-3 c).Joined-wants) c.in-Ok.made c.in-Ok.is (take a.j.bundles.count o.result.rows) (told d.result.ended d.new.visits.0) (edges_by (goal.at.returns-after-wants-3 c).In-Ok-ended) (drawn_by (goal.at.returns-after-wants-3 c).In-Ok-ended) (points-by (goal.at.returns-after-wants-3 c).In-Ok-ended) (counts-by (goal.at.returns-after-wants-3 c).In-Ok-ended) (taps_by (goal.at.returns-after-wants-3 c).In-Ok-ended) (o.ensures (take a.j.edges.count a.j.edges.rows)) d.ensures.told _ (laws.ended_clean d.result.ended d.new.visits.0 _ c.in-Ok-ended.is)) (l _).few c.if-off_grid.false _ _ _ _ (laws.all_told a.j a.given.now c.requires.came.0 (sizes (goal.at.returns-after-wants-3 c).Start) a.wants.plan a.plan.now c.if-wants.p (chosen (goal.at.returns-after-wants-3 c).Joined-wants) c.in-Ok.made c.in-Ok.is (take a.j.bundles.count o.result.rows) (told d.result.ended d.new.visits.0) (edges_by (goal.at.returns-after-wants-3 c).In-Ok-ended) (drawn_by (goal.at.returns-after-wants-3 c).In-Ok-ended) (points-by (goal.at.returns-after-wants-3 c).In-Ok-ended) (counts-by (goal.at.returns-after-wants-3 c).In-Ok-ended) (taps_by (goal.at.returns-after-wants-3 c).In-Ok-ended) (o.ensures (take a.j.edges.count a.j.edges.rows)) d.ensures.told _ on n.result n.new.points n.new.taps t.result t.ensures (n.ensures.page (edges_by (goal.at.returns-after-wants-3 c).In-Ok-ended)) n.ensures.drawn n.ensures.rows) w.bytes
+    let same = page_of_tables id_columns (record { tap_visits = 0; geometry_visits = 0; width = n.result.width; height = n.result.height }) n.result.nodes a.j.edges n.new.points (counts-by (goal.at.returns c).In-Ok-ended) r t.result in
+    let l = listed_by (goal.at.returns c).Joined-wants-2 in
+    laws.drawn_writes a.wants _ _ (laws.all_drawn a.j a.given.now c.requires.came.0 (sizes (goal.at.returns c).Start) a.wants.plan a.plan.now c.if-wants.p (chosen (goal.at.returns c).Joined-wants) c.in-Ok.made c.in-Ok.is (take a.j.bundles.count o.result.rows) (told d.result.ended d.new.visits.0) (edges_by (goal.at.returns c).In-Ok-ended) (drawn_by (goal.at.returns c).In-Ok-ended) (points-by (goal.at.returns c).In-Ok-ended) (counts-by (goal.at.returns c).In-Ok-ended) (taps_by (goal.at.returns c).In-Ok-ended) (o.ensures (take a.j.edges.count a.j.edges.rows)) d.ensures.told _ (laws.ended_clean d.result.ended d.new.visits.0 _ c.in-Ok-ended.is)) (l _).few c.if-off_grid.false _ _ _ _ (laws.all_told a.j a.given.now c.requires.came.0 (sizes (goal.at.returns c).Start) a.wants.plan a.plan.now c.if-wants.p (chosen (goal.at.returns c).Joined-wants) c.in-Ok.made c.in-Ok.is (take a.j.bundles.count o.result.rows) (told d.result.ended d.new.visits.0) (edges_by (goal.at.returns c).In-Ok-ended) (drawn_by (goal.at.returns c).In-Ok-ended) (points-by (goal.at.returns c).In-Ok-ended) (counts-by (goal.at.returns c).In-Ok-ended) (taps_by (goal.at.returns c).In-Ok-ended) (o.ensures (take a.j.edges.count a.j.edges.rows)) d.ensures.told _ on n.result n.new.points n.new.taps t.result t.ensures (n.ensures.page (edges_by (goal.at.returns c).In-Ok-ended)) n.ensures.drawn n.ensures.rows) w.bytes
     (elim c.if-wants-3.branch [
       | then-wants-3 x ↦ laws.page_put _ _ _ _ x.if-wants-3.true (x.page-is ∙ x.put_page.ensures.bytes ∙ ap (sets a.page.now 0) same)
       | else-wants-3 x ↦ laws.page_left _ _ _ _ x.if-wants-3.false x.page-is

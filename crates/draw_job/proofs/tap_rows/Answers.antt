@@ -1,10 +1,10 @@
 -- `draw_job::tap_rows` meets its contract. Assumes nothing.
-use Rattle.std.proofs.Common.{arith, ap, ◌∙◌, ◌≡◌, ◌<◌, ◌≤◌, length, get_or, length-set}
+use Rattle.std.proofs.Common.{arith, ap, ◌∙◌, ◌≡◌, length-set}
 use Rattle.geometry.specs.declared.Point.{Point}
 use Rattle.geometry.specs.Points.{point_at}
 use Rattle.board.specs.declared.DrawnTap.{DrawnTap}
 use Rattle.planner.specs.Members.{edge_row}
-use Rattle.planner.proofs.MemberTurns.{filled}
+use Rattle.plan.proofs.TableReads.{filled}
 use Rattle.draw_job.proofs.tap_rows.Goals as goal
 
 pub loop-i-preserved : goal.loop-i-preserved

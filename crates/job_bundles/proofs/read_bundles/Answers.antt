@@ -1,14 +1,14 @@
 -- `job_bundles::read_bundles` meets its contract. Assumes nothing.
-use Rattle.std.proofs.Common.{◌≡◌, ℕ, ◌+◌, ◌*◌, [], ◌∷◌, ◌++◌, map, take, drop, refl, sym, ap, subst, ◌∙◌, arith, length-set, unwrap_or}
+use Rattle.std.proofs.Common.{◌≡◌, ℕ, ◌+◌, ◌*◌, [], ◌∷◌, ◌++◌, length, take, take_all, drop, refl, sym, ap, subst, ◌∙◌, arith, length-set, unwrap_or}
 use Rattle.std.proofs.lemmas.Result.{err_from_is_err_and}
 use Rattle.geometry.specs.Port.{role_number}
 use Rattle.geometry.specs.declared.Role.{Role}
 use Rattle.wire.specs.ReadLaws.{many_refused}
-use Rattle.job.specs.Job.{push, member_key, next_bundle, member, bundle_of}
+use Rattle.job.specs.Job.{push, bundle_key, member_key, next_bundle, member, bundle_of}
 use Rattle.job.specs.Keys.{Key, each}
-use Rattle.job.specs.LoopSteps.{keys, keys_more, one_more, begun, done, pushed, push_stopped, bundle_turn, bundle_head_refused, bundle_members_refused}
+use Rattle.job.specs.LoopSteps.{one_more, begun, done, pushed, push_stopped, bundle_turn, bundle_head_refused, bundle_members_refused}
 use Rattle.job.specs.Heads.{member_role}
-use Rattle.job.specs.Reads.{known_as, first_keys, bundle_id}
+use Rattle.job.specs.Reads.{known_as}
 use Rattle.job.proofs.Windows.{bundle_window}
 use Rattle.job.proofs.Lookups.{looked_up, bundle_row, member_row, none_yet, one_more_read}
 use Rattle.job_bundles.proofs.read_bundles.Goals as goal
@@ -17,10 +17,9 @@ member-keys : (edge : ℕ) (r role : Role) (n : ℕ) → r ≡ role → n ≡ ro
 member-keys edge r role n e h = rw (e, h)
 
 pub loop-i-init : goal.loop-i-init
-unfolding keys
 loop-i-init c =
     let a = c.args in
-    (refl, refl, omega arith, omega arith, none_yet member_key _ _ (none_yet bundle_id _ _ (begun next_bundle a.count (record { bundles = []; members = [] }) (drop a.from a.s.now))))
+    (refl, refl, omega arith, omega arith, none_yet member_key _ _ (none_yet bundle_key _ _ (begun next_bundle (length a.keys.now) (record { bundles = []; members = [] }) (drop a.from a.s.now))))
 
 pub returns-in_err-b : goal.returns-in_err-b
 returns-in_err-b c =
@@ -30,7 +29,7 @@ returns-in_err-b c =
     let o = l.invariant.4 in
     let p = err_from_is_err_and c.from_residual.result c.from_residual.ensures.1 in
     rw (p.1, p.2)
-    (sym o.left.left ∙ many_refused next_bundle a.count l.i (record { bundles = o.left.raw; members = o.raw }) (drop l.at s) _ (omega arith)
+    (sym o.left.left ∙ many_refused next_bundle (length a.keys.now) l.i (record { bundles = o.left.raw; members = o.raw }) (drop l.at s) _ (omega arith)
     (bundle_head_refused o.left.raw o.raw l.total o.size (drop l.at s) _ (sym c.in_err-b.ensures)))
 
 pub loop-j-init : goal.loop-j-init
@@ -53,7 +52,7 @@ returns-in_err-x c =
     let f = c.from_residual-in_err-x in
     let p = err_from_is_err_and f.result f.ensures.1 in
     rw (p.1, p.2)
-    (sym o.left.left ∙ many_refused next_bundle a.count l.i (record { bundles = o.left.raw; members = o.raw }) (drop l.at s) _ (omega arith)
+    (sym o.left.left ∙ many_refused next_bundle (length a.keys.now) l.i (record { bundles = o.left.raw; members = o.raw }) (drop l.at s) _ (omega arith)
     (bundle_members_refused o.left.raw o.raw l.total o.size (drop l.at s) _ (drop (l.at + 19) s) _ (sym c.in_ok-b.ensures)
     (sym w.left.rest ∙ push_stopped (member _) _ y.j w.raw (drop (l.at + 19 + 6 * y.j) s) _ c.loop-j-test.true (sym c.in_err-x.ensures))))
 
@@ -70,10 +69,10 @@ loop-j-preserved c =
       omega arith,
       simp length-set y.invariant.1,
       y.invariant.2,
-      one_more_read member_key _ _ _ y.total (first_keys y.edges y.roles y.total) _ y.members_known _ (take y.total y.member_rows) _ w _ _
-          (keys_more y.edges y.roles y.total _ _ (omega arith) (omega arith)
-          ∙ ap (λ (k : Key). first_keys y.edges y.roles y.total ++ (k ∷ [])) (member-keys _ _ _ _ (member_role _ (drop place s) _ (drop (place + 6) s) one) c.number_of_role-role_key.ensures))
-          (member_row (first_keys a.edge_ids.now a.zeros.now a.e) c.in_ok-x.x c.is_some-members_known.result c.unwrap_or.result
+      one_more_read member_key _ _ _ y.total (take y.total y.member_keys) _ y.members_known _ (take y.total y.member_rows) _ w _ _
+          (one_more y.member_keys y.total _ (omega arith)
+          ∙ ap (λ (k : Key). take y.total y.member_keys ++ (k ∷ [])) (member-keys _ _ _ _ (member_role _ (drop place s) _ (drop (place + 6) s) one) c.number_of_role-role_key.ensures))
+          (member_row a.tables.edges.now c.in_ok-x.x c.is_some-members_known.result c.unwrap_or.result
           (rw (c.is_some-members_known.ensures, c.unwrap_or.ensures) (looked_up c.find-f.result 0 c.find-f.ensures)))
           (one_more y.member_rows y.total _ (omega arith))
           (record { earlier = w.left.earlier; rest = rw z (pushed (member _) _ y.j w.raw (drop place s) _ _ (drop (place + 6) s) c.loop-j-test.true one refl ∙ w.left.rest) }),
@@ -97,13 +96,13 @@ loop-i-preserved c =
       record {
         raw = w.raw;
         left = rw z
-            (one_more_read bundle_id _ _ _ l.i (take l.i l.ids) _ l.known _ (take l.i l.rows) _ o.left _ _
-            (one_more l.ids l.i _ (omega arith))
-            (bundle_row (first_keys a.node_ids.now a.zeros.now a.n) (first_keys a.port_nodes.now a.port_ids.now a.p) b c.is_some.result c.is_some-in-loop-i.result (unwrap_or c.find-f-in-loop-i.result 0) c.unwrap_or-in-loop-i.result
+            (one_more_read bundle_key _ _ _ l.i (take l.i l.keys) _ l.known _ (take l.i l.rows) _ o.left _ _
+            (one_more l.keys l.i _ (omega arith))
+            (bundle_row a.tables.nodes.now a.tables.ports.now b c.is_some.result c.is_some-in-loop-i.result (unwrap_or c.find-f-in-loop-i.result 0) c.unwrap_or-in-loop-i.result
             (rw c.is_some.ensures (looked_up c.find-f-in-loop-i.result 0 c.find-f-in-loop-i.ensures))
             (rw (c.is_some-in-loop-i.ensures, c.unwrap_or-in-loop-i.ensures) (looked_up c.find-g.result 0 c.find-g.ensures)))
             (one_more l.rows l.i _ (omega arith))
-            (bundle_turn o.left.raw a.count l.i l.total l.at (l.at + 19 + 6 * y.j) o.raw w.raw s b (omega arith) o.size (sym c.in_ok-b.ensures)
+            (bundle_turn o.left.raw (length a.keys.now) l.i l.total l.at (l.at + 19 + 6 * y.j) o.raw w.raw s b (omega arith) o.size (sym c.in_ok-b.ensures)
             (sym w.left.rest ∙ done (push (member _)) _ y.j w.raw (drop (l.at + 19 + 6 * y.j) s) c.loop-j-test.false) ∙ o.left.left));
         size = w.size;
         keyed = w.keyed;
@@ -116,14 +115,14 @@ returns c =
     let a = c.args in
     let l = c.loop-i in
     let o = l.invariant.4 in
-    let q : l.i ≡ a.count = omega arith in
+    let q : l.i ≡ (length a.keys.now) = omega arith in
     record {
       raw = o.left.raw;
       raw_members = o.raw;
-      is = sym o.left.left ∙ done next_bundle a.count l.i (record { bundles = o.left.raw; members = o.raw }) (drop l.at a.s.now) (omega arith);
-      keyed = subst (λ (z : ℕ). take z l.ids ≡ map bundle_id o.left.raw) q o.left.keyed;
+      is = sym o.left.left ∙ done next_bundle (length a.keys.now) l.i (record { bundles = o.left.raw; members = o.raw }) (drop l.at a.s.now) (omega arith);
+      keyed = sym (take_all l.i l.keys (omega arith)) ∙ o.left.keyed;
       member_keyed = o.keyed;
-      known = subst (λ (z : ℕ). known_as l.known (take z l.rows) ≡ each (bundle_of (first_keys a.node_ids.now a.zeros.now a.n) (first_keys a.port_nodes.now a.port_ids.now a.p)) o.left.raw []) q o.left.known;
+      known = subst (λ (z : ℕ). known_as l.known (take z l.rows) ≡ each (bundle_of a.tables.nodes.now a.tables.ports.now) o.left.raw []) q o.left.known;
       members_known = o.known;
       rows = refl;
       total = l.invariant.2;

@@ -23,38 +23,10 @@ returns-in-Err c =
     let w = c.write_notice.ensures in
     laws.notice_writes _ _ _ c.from.result _ (laws.refused_outputs a.wants _ _ (laws.read_refused c.in-Err.r _ _ a.job.now c.from.ensures c.in-Err.ensures a.wants.plan a.plan.now)) w.bytes refl refl w.place
 
-pub slice_bounds-draw_in-end : goal.slice_bounds-draw_in-end
-slice_bounds-draw_in-end c =
-    let a = c.args in
-    omega (arith, c.in-Ok.ensures.fits.members, c.requires.edges_len.0)
-
-pub slice_bounds-draw_in-end-then-n-le-FEW_ROUTES : goal.slice_bounds-draw_in-end-then-n-le-FEW_ROUTES
-slice_bounds-draw_in-end-then-n-le-FEW_ROUTES c =
-    let a = c.args in
-    let e : c.in-Ok.j.members.count ≤ length a.edges.now = omega (arith, c.in-Ok.ensures.fits.members, c.requires.edges_len.0) in
-    sym (length-take-le _ _ e)
-
-pub slice_bounds-draw_in-end-then-n-le-FEW_ROUTES-2 : goal.slice_bounds-draw_in-end-then-n-le-FEW_ROUTES-2
-slice_bounds-draw_in-end-then-n-le-FEW_ROUTES-2 c =
-    let a = c.args in
-    omega (arith, c.in-Ok.ensures.fits.members, c.requires.edges_len.1)
-
-pub slice_bounds-draw_in-end-then-n-le-FEW_ROUTES-3 : goal.slice_bounds-draw_in-end-then-n-le-FEW_ROUTES-3
-slice_bounds-draw_in-end-then-n-le-FEW_ROUTES-3 c =
-    let a = c.args in
-    let e : c.in-Ok.j.members.count ≤ length a.lanes.now = omega (arith, c.in-Ok.ensures.fits.members, c.requires.edges_len.1) in
-    sym (length-take-le _ _ e)
-
-pub slice_bounds-draw_in-end-then-n-le-FEW_ROUTES-5 : goal.slice_bounds-draw_in-end-then-n-le-FEW_ROUTES-5
-slice_bounds-draw_in-end-then-n-le-FEW_ROUTES-5 c =
-    let a = c.args in
-    omega (arith, c.in-Ok.ensures.fits.edges, c.requires.edges_len.3)
-
-pub slice_bounds-draw_in-end-then-n-le-FEW_ROUTES-6 : goal.slice_bounds-draw_in-end-then-n-le-FEW_ROUTES-6
-slice_bounds-draw_in-end-then-n-le-FEW_ROUTES-6 c =
-    let a = c.args in
-    let e : c.in-Ok.j.edges.count ≤ length a.counts.now = omega (arith, c.in-Ok.ensures.fits.edges, c.requires.edges_len.3) in
-    sym (length-take-le _ _ e)
+pub work_for-drawn-requires : goal.work_for-drawn-requires
+work_for-drawn-requires c =
+    let p = c.requires.edges_len in
+    (omega (arith, c.in-Ok.ensures.fits.members, p.0), omega (arith, c.in-Ok.ensures.fits.members, p.1), omega (arith, c.in-Ok.ensures.fits.edges, p.3))
 
 pub draw_in-requires : goal.draw_in-requires
 draw_in-requires c =
@@ -62,17 +34,15 @@ draw_in-requires c =
     let long : length c.read_job.new.points ≡ point_numbers = omega (arith, c.read_job.auto.points, c.requires.given_len.0) in
     let fits = c.in-Ok.ensures.fits in
     let p = c.requires.edges_len in
-    let edges : c.in-Ok.j.members.count ≤ length a.edges.now = omega (arith, fits.members, p.0) in
-    let lanes : c.in-Ok.j.members.count ≤ length a.lanes.now = omega (arith, fits.members, p.1) in
-    let counts : c.in-Ok.j.edges.count ≤ length a.counts.now = omega (arith, fits.edges, p.3) in record {
+    let w = c.work_for-drawn.ensures in record {
       came = (came c.in-Ok.j _ a.job.now c.in-Ok.ensures long, omega (arith, c.requires.given_len.1), c.requires.given_len.2, c.requires.given_len.3);
       plan_in_bounds = laws.phase_room c.in-Ok.j _ a.job.now c.in-Ok.ensures a.wants.plan a.plan.now (length a.answer.now) c.requires.given_len.1;
       search_work_in_bounds = (omega arith, c.requires.sorted_len);
       lent = record {
-        edges_long = length-take-le _ _ edges;
-        lanes_long = length-take-le _ _ lanes;
-        counts_long = length-take-le _ _ counts;
-        room = laws.room_for _ _ _ _ _ _ _ fits.members fits.edges p.2 (omega (arith, c.if-n-le-FEW_ROUTES.true)) (length-take-le _ _ counts) p.4 p.5;
+        edges_long = w.members.0;
+        lanes_long = w.members.1;
+        counts_long = w.routes;
+        room = laws.room_for _ _ _ _ _ fits.members fits.edges (w.taps ∙ p.2) (omega (arith, c.if-n-le-FEW_ROUTES.true)) w.routes;
       };
     }
 
@@ -84,56 +54,21 @@ returns-then-n-le-FEW_ROUTES c =
     let a = c.args in
     laws.writes_as _ _ _ _ _ (ap (laws.outputs_for a.wants) (sym (laws.told_phase c.in-Ok.j _ a.job.now c.in-Ok.ensures a.wants.plan a.plan.now))) c.draw_in.ensures
 
-pub slice_bounds-draw_in-end-2 : goal.slice_bounds-draw_in-end-2
-slice_bounds-draw_in-end-2 c =
-    let a = c.args in
-    omega (arith, c.in-Ok.ensures.fits.members, c.requires.edges_len.0)
-
-pub slice_bounds-draw_in-end-3 : goal.slice_bounds-draw_in-end-3
-slice_bounds-draw_in-end-3 c =
-    let a = c.args in
-    let e : c.in-Ok.j.members.count ≤ length a.edges.now = omega (arith, c.in-Ok.ensures.fits.members, c.requires.edges_len.0) in
-    sym (length-take-le _ _ e)
-
-pub slice_bounds-draw_in-end-4 : goal.slice_bounds-draw_in-end-4
-slice_bounds-draw_in-end-4 c =
-    let a = c.args in
-    omega (arith, c.in-Ok.ensures.fits.members, c.requires.edges_len.1)
-
-pub slice_bounds-draw_in-end-5 : goal.slice_bounds-draw_in-end-5
-slice_bounds-draw_in-end-5 c =
-    let a = c.args in
-    let e : c.in-Ok.j.members.count ≤ length a.lanes.now = omega (arith, c.in-Ok.ensures.fits.members, c.requires.edges_len.1) in
-    sym (length-take-le _ _ e)
-
-pub slice_bounds-draw_in-end-7 : goal.slice_bounds-draw_in-end-7
-slice_bounds-draw_in-end-7 c =
-    let a = c.args in
-    omega (arith, c.in-Ok.ensures.fits.edges, c.requires.edges_len.3)
-
-pub slice_bounds-draw_in-end-8 : goal.slice_bounds-draw_in-end-8
-slice_bounds-draw_in-end-8 c =
-    let a = c.args in
-    let e : c.in-Ok.j.edges.count ≤ length a.counts.now = omega (arith, c.in-Ok.ensures.fits.edges, c.requires.edges_len.3) in
-    sym (length-take-le _ _ e)
-
 pub draw_in-requires-2 : goal.draw_in-requires-2
 draw_in-requires-2 c =
     let a = c.args in
     let long : length c.read_job.new.points ≡ point_numbers = omega (arith, c.read_job.auto.points, c.requires.given_len.0) in
     let fits = c.in-Ok.ensures.fits in
     let p = c.requires.edges_len in
-    let edges : c.in-Ok.j.members.count ≤ length a.edges.now = omega (arith, fits.members, p.0) in
-    let lanes : c.in-Ok.j.members.count ≤ length a.lanes.now = omega (arith, fits.members, p.1) in
-    let counts : c.in-Ok.j.edges.count ≤ length a.counts.now = omega (arith, fits.edges, p.3) in record {
+    let w = c.work_for-drawn.ensures in record {
       came = (came c.in-Ok.j _ a.job.now c.in-Ok.ensures long, omega (arith, c.requires.given_len.1), c.requires.given_len.2, c.requires.given_len.3);
       plan_in_bounds = laws.phase_room c.in-Ok.j _ a.job.now c.in-Ok.ensures a.wants.plan a.plan.now (length a.answer.now) c.requires.given_len.1;
       search_work_in_bounds = (omega arith, c.requires.sorted_len);
       lent = record {
-        edges_long = length-take-le _ _ edges;
-        lanes_long = length-take-le _ _ lanes;
-        counts_long = length-take-le _ _ counts;
-        room = laws.room_for _ _ _ _ _ _ _ fits.members fits.edges p.2 (omega (arith, fits.edges)) (length-take-le _ _ counts) p.4 p.5;
+        edges_long = w.members.0;
+        lanes_long = w.members.1;
+        counts_long = w.routes;
+        room = laws.room_for _ _ _ _ _ fits.members fits.edges (w.taps ∙ p.2) (omega (arith, fits.edges)) w.routes;
       };
     }
 
@@ -142,12 +77,6 @@ shape_of-given c = omega (arith, c.read_job.auto.points)
 
 pub shape_of-sorted : goal.shape_of-sorted
 shape_of-sorted c = omega (arith, c.read_job.auto.points)
-
-pub shape_of-edges : goal.shape_of-edges
-shape_of-edges c = omega (arith, length_front c.args.edges.now c.draw_in-2.new.edges c.in-Ok.j.members.count c.draw_in-2.auto.edges)
-
-pub shape_of-lanes : goal.shape_of-lanes
-shape_of-lanes c = omega (arith, length_front c.args.lanes.now c.draw_in-2.new.lanes c.in-Ok.j.members.count c.draw_in-2.auto.lanes)
 
 pub returns : goal.returns
 returns c =

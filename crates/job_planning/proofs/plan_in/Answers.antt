@@ -20,15 +20,15 @@ sizes s = record {
   members = let g = s.well_formed.0.1.1.1.1.1.1.1.1.1.0 in search (rules, rows.length_mapped, g);
 }
 
-pub corridor_depth_offsets-offsets-requires : goal.corridor_depth_offsets-offsets-requires
-corridor_depth_offsets-offsets-requires c =
+pub invariant_of-t : goal.invariant_of-t
+invariant_of-t c =
     let a = c.args in
-    tables_sound a.j a.given.now c.requires.came.0 (sizes (goal.at.corridor_depth_offsets-offsets-requires c).Start)
+    record { sound = tables_sound a.j a.given.now c.requires.came.0 (sizes (goal.at.invariant_of-t c).Start) }
 
 pub plan_interior_collectors-s-requires : goal.plan_interior_collectors-s-requires
 plan_interior_collectors-s-requires c =
     let a = c.args in
-    record { sound = (tables_sound a.j a.given.now c.requires.came.0 (sizes (goal.at.plan_interior_collectors-s-requires c).Start), routes_in a.j a.given.now c.requires.came.0 (sizes (goal.at.plan_interior_collectors-s-requires c).Start)); search_room = (omega (arith, c.requires.sorted_len.0), omega (arith, c.requires.sorted_len.0, c.requires.sorted_len.1)); offsets_of = c.corridor_depth_offsets-offsets.ensures }
+    record { routes_in = routes_in a.j a.given.now c.requires.came.0 (sizes (goal.at.plan_interior_collectors-s-requires c).Start); search_room = (omega (arith, c.requires.sorted_len.0), omega (arith, c.requires.sorted_len.0, c.requires.sorted_len.1)); offsets_of = c.corridor_depth_offsets-offsets.ensures }
 
 pub write_notice-requires : goal.write_notice-requires
 write_notice-requires c = omega (arith, c.requires.came.1)

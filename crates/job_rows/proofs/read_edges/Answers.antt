@@ -1,20 +1,21 @@
 -- `job_rows::read_edges` meets its contract. Assumes nothing.
-use Rattle.std.proofs.Common.{◌≡◌, ℕ, ◌+◌, [], take, map, drop, refl, sym, subst, ◌∙◌, arith, length-set, rules}
+use Rattle.std.proofs.Common.{◌≡◌, ℕ, ◌+◌, [], take, length, drop, refl, sym, subst, ◌∙◌, arith, length-set, rules}
+use Rattle.std.proofs.Common.{take_all}
 use Rattle.std.proofs.lemmas.Result.{err_from_is_err_and}
 use Rattle.wire.specs.ReadLaws.{many_refused}
 use Rattle.geometry.specs.Points.{points_from}
 use Rattle.route.specs.Window.{points_length}
 use Rattle.job.specs.Keys.{each}
-use Rattle.job.specs.Job.{edge_of, next_edge}
+use Rattle.job.specs.Job.{edge_key, edge_of, next_edge}
 use Rattle.job.specs.LoopSteps.{one_more, begun, done, edge_turn, edge_head_refused, edge_points_refused}
-use Rattle.job.specs.Reads.{known_as, first_keys, edge_id}
+use Rattle.job.specs.Reads.{known_as}
 use Rattle.job.proofs.Windows.{edge_window}
 use Rattle.job.proofs.Lookups.{looked_up, edge_row, none_yet, one_more_read}
 use Rattle.job_rows.proofs.read_edges.Goals as goal
 
 pub loop-i-init : goal.loop-i-init
 unfolding points_from
-loop-i-init c = let a = c.args in (refl, omega arith, omega arith, none_yet edge_id _ _ (begun (next_edge a.grid) a.count (record { edges = []; points = [] }) (drop a.from a.s.now)))
+loop-i-init c = let a = c.args in (refl, omega arith, omega arith, none_yet edge_key _ _ (begun (next_edge a.grid) (length a.keys.now) (record { edges = []; points = [] }) (drop a.from a.s.now)))
 
 pub returns-in_err-e : goal.returns-in_err-e
 returns-in_err-e c =
@@ -24,7 +25,7 @@ returns-in_err-e c =
     let ps = points_from l.points 0 l.total in
     let p = err_from_is_err_and c.from_residual.result c.from_residual.ensures.1 in
     rw (p.1, p.2)
-    (sym r.left ∙ many_refused (next_edge a.grid) a.count l.i (record { edges = r.raw; points = ps }) (drop l.at a.s.now) _ (omega arith)
+    (sym r.left ∙ many_refused (next_edge a.grid) (length a.keys.now) l.i (record { edges = r.raw; points = ps }) (drop l.at a.s.now) _ (omega arith)
     (edge_head_refused a.grid r.raw ps l.total (points_length l.points 0 l.total) (drop l.at a.s.now) _ (sym c.in_err-e.ensures)))
 
 pub read_points-requires : goal.read_points-requires
@@ -42,7 +43,7 @@ returns-in_err-read_points c =
     let f = c.from_residual-in_err-read_points in
     let p = err_from_is_err_and f.result f.ensures.1 in
     rw (p.1, p.2)
-    (sym r.left ∙ many_refused (next_edge a.grid) a.count l.i (record { edges = r.raw; points = ps }) (drop l.at a.s.now) _ (omega arith)
+    (sym r.left ∙ many_refused (next_edge a.grid) (length a.keys.now) l.i (record { edges = r.raw; points = ps }) (drop l.at a.s.now) _ (omega arith)
     (edge_points_refused a.grid r.raw ps l.total (points_length l.points 0 l.total) (drop l.at a.s.now) _ (drop (l.at + 22) a.s.now) _ (sym c.in_ok-e.ensures) (sym c.in_err-read_points.ensures)))
 
 pub overflow_mul-at : goal.overflow_mul-at
@@ -80,13 +81,13 @@ loop-i-preserved c =
       simp length-set l.invariant.0,
       omega arith,
       omega arith,
-      one_more_read edge_id _ _ _ l.i (take l.i l.ids) _ l.known _ (take l.i l.rows) _ r _ _
-          (one_more l.ids l.i _ (omega arith))
-          (edge_row (first_keys a.node_ids.now a.zeros.now a.n) c.in_ok-e.e c.is_some.result c.is_some-in-loop-i.result c.unwrap_or.result c.unwrap_or-in-loop-i.result
+      one_more_read edge_key _ _ _ l.i (take l.i l.keys) _ l.known _ (take l.i l.rows) _ r _ _
+          (one_more l.keys l.i _ (omega arith))
+          (edge_row a.nodes.now c.in_ok-e.e c.is_some.result c.is_some-in-loop-i.result c.unwrap_or.result c.unwrap_or-in-loop-i.result
           (rw (c.is_some.ensures, c.unwrap_or.ensures) (looked_up c.find-f.result 0 c.find-f.ensures))
           (rw (c.is_some-in-loop-i.ensures, c.unwrap_or-in-loop-i.ensures) (looked_up c.find-g.result 0 c.find-g.ensures)))
           (one_more l.rows l.i _ (omega arith))
-          (edge_turn a.grid r.raw a.count l.i l.total l.at (points_from l.points 0 l.total) _ s _ (omega arith) (points_length l.points 0 l.total) head
+          (edge_turn a.grid r.raw (length a.keys.now) l.i l.total l.at (points_from l.points 0 l.total) _ s _ (omega arith) (points_length l.points 0 l.total) head
           (sym c.in_ok-read_points.ensures) ∙ r.left),
     )
 
@@ -96,12 +97,12 @@ returns c =
     let l = c.loop-i in
     let s = a.s.now in
     let r = l.invariant.3 in
-    let q : l.i ≡ a.count = omega arith in
+    let q : l.i ≡ (length a.keys.now) = omega arith in
     record {
       raw = r.raw;
-      is = sym r.left ∙ done (next_edge a.grid) a.count l.i (record { edges = r.raw; points = points_from l.points 0 l.total }) (drop l.at s) (omega arith);
-      keyed = subst (λ (z : ℕ). take z l.ids ≡ map edge_id r.raw) q r.keyed;
-      known = subst (λ (z : ℕ). known_as l.known (take z l.rows) ≡ each (edge_of (first_keys a.node_ids.now a.zeros.now a.n)) r.raw []) q r.known;
+      is = sym r.left ∙ done (next_edge a.grid) (length a.keys.now) l.i (record { edges = r.raw; points = points_from l.points 0 l.total }) (drop l.at s) (omega arith);
+      keyed = sym (take_all l.i l.keys (omega arith)) ∙ r.keyed;
+      known = subst (λ (z : ℕ). known_as l.known (take z l.rows) ≡ each (edge_of a.nodes.now) r.raw []) q r.known;
       total = l.invariant.1;
       place = omega arith;
     }

@@ -10,10 +10,10 @@ use Rattle.member_rewriting.proofs.rewrite_member_routes.Goals as goal
 pub loop-i-init : goal.loop-i-init
 loop-i-init c =
     let a = c.args in
-    record { roomy = c.requires.2; told = all_start a.inside a.role a.pitch a.offset a.edges.now a.lanes.now a.taps.now a.first a.count (routes_of a.points.now a.counts.now) }
+    record { roomy = c.requires.roomy; told = all_start a.lead.inside a.lead.role a.lead.pitch a.offset a.members.table.edges.now a.members.table.lanes.now a.taps.now a.members.first a.members.count (routes_of a.points.now a.counts.now) }
 
 pub corridor_depth-depth-requires : goal.corridor_depth-depth-requires
-corridor_depth-depth-requires c = c.requires.1.small (c.args.first + c.loop-i.i)
+corridor_depth-depth-requires c = c.requires.small (c.args.members.first + c.loop-i.i)
 
 pub rewrite_member-requires : goal.rewrite_member-requires
 rewrite_member-requires c =
@@ -28,7 +28,7 @@ returns-then-not-rewrite_member c =
     let l = c.loop-i in
     let f = c.rewrite_member in
     let w = rw (c.corridor_depth-depth.ensures, c.point_at-tap.ensures) at f.ensures.told in
-    record { told = all_off a.inside a.role a.pitch a.offset a.edges.now a.lanes.now a.taps.now a.first a.count l.i (routes_of l.points l.counts) f.result _ _ c.loop-i-test.true (not-true f.result (ap not c.if-not-rewrite_member.true)) w ∙ l.invariant.told; hold = f.ensures.kept.hold }
+    record { told = all_off a.lead.inside a.lead.role a.lead.pitch a.offset a.members.table.edges.now a.members.table.lanes.now a.taps.now a.members.first a.members.count l.i (routes_of l.points l.counts) f.result _ _ c.loop-i-test.true (not-true f.result (ap not c.if-not-rewrite_member.true)) w ∙ l.invariant.told; hold = f.ensures.kept.hold }
 
 pub loop-i-preserved : goal.loop-i-preserved
 loop-i-preserved c =
@@ -37,12 +37,12 @@ loop-i-preserved c =
     let f = c.rewrite_member in
     let w = rw (c.corridor_depth-depth.ensures, c.point_at-tap.ensures) at f.ensures.told in
     record {
-      roomy = roomy_next a.edges.now a.first l.i a.count l.points _ l.counts _ l.invariant.roomy f.ensures.kept (omega arith) (omega arith) c.loop-i-test.true;
-      told = all_on a.inside a.role a.pitch a.offset a.edges.now a.lanes.now a.taps.now a.first a.count l.i (routes_of l.points l.counts) f.result _ _ c.loop-i-test.true (not-false f.result (ap not c.if-not-rewrite_member.false)) w ∙ l.invariant.told;
+      roomy = roomy_next a.members.table.edges.now a.members.first l.i a.members.count l.points _ l.counts _ l.invariant.roomy f.ensures.kept (omega arith) (omega arith) c.loop-i-test.true;
+      told = all_on a.lead.inside a.lead.role a.lead.pitch a.offset a.members.table.edges.now a.members.table.lanes.now a.taps.now a.members.first a.members.count l.i (routes_of l.points l.counts) f.result _ _ c.loop-i-test.true (not-false f.result (ap not c.if-not-rewrite_member.false)) w ∙ l.invariant.told;
     }
 
 pub returns : goal.returns
 returns c =
     let a = c.args in
     let l = c.loop-i in
-    record { told = all_end a.inside a.role a.pitch a.offset a.edges.now a.lanes.now a.taps.now a.first a.count l.i l.points l.counts c.loop-i-test.false ∙ l.invariant.told; hold = l.invariant.roomy.hold }
+    record { told = all_end a.lead.inside a.lead.role a.lead.pitch a.offset a.members.table.edges.now a.members.table.lanes.now a.taps.now a.members.first a.members.count l.i l.points l.counts c.loop-i-test.false ∙ l.invariant.told; hold = l.invariant.roomy.hold }

@@ -8,7 +8,7 @@ use Rattle.member_rewriting.proofs.rewrite_member_routes.Given as goal
 
 abbrev pub invariant-loop-i : goal.invariant-loop-i
 invariant-loop-i l = record {
-  roomy : Roomy l.edges l.first l.i l.count l.points l.counts;
-  told : rest_all l.inside l.role l.pitch l.offset l.edges l.lanes l.taps l.first l.count l.i (routes_of l.points l.counts)
-      ≡ rewrite_all l.inside l.role l.pitch l.offset (taps_from l.edges l.taps l.first l.count) (members_from l.edges l.lanes l.first l.count) (routes_of l.initial.points l.initial.counts);
+  roomy : Roomy l.members.table.edges.now l.members.first l.i l.members.count l.points l.counts;
+  told : rest_all l.lead.inside l.lead.role l.lead.pitch l.offset l.members.table.edges.now l.members.table.lanes.now l.taps l.members.first l.members.count l.i (routes_of l.points l.counts)
+      ≡ rewrite_all l.lead.inside l.lead.role l.lead.pitch l.offset (taps_from l.members.table.edges.now l.taps l.members.first l.members.count) (members_from l.members.table.edges.now l.members.table.lanes.now l.members.first l.members.count) (routes_of l.initial.points l.initial.counts);
 }

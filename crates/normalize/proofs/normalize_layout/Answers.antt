@@ -10,7 +10,7 @@ use Rattle.normalize.proofs.normalize_layout.Goals as goal
 pub outermost_of_sheet-o-requires : goal.outermost_of_sheet-o-requires
 outermost_of_sheet-o-requires c =
     let a = c.args in
-    (c.requires.tables.0, c.requires.tables.1, taps_in a.drawn.count a.drawn.rows a.tap_count a.taps.now c.requires.taps.0 c.requires.taps.1, c.requires.slots.0, c.requires.slots.1)
+    (c.requires.tables.0, c.requires.tables.1, taps_in a.drawn.count a.drawn.rows a.tap_count a.taps.now c.requires.taps.0 c.requires.taps.1)
 
 pub shift_routes-requires : goal.shift_routes-requires
 shift_routes-requires c =
@@ -43,7 +43,7 @@ outermost_of_sheet-size-requires c =
     let slots = c.requires.slots.0 in
     let z = p.auto.points in
     let y = r.auto.points in
-    (omega arith, omega arith, taps_in d.result.count d.result.rows a.tap_count p.new.points (omega arith) (windows_kept a.tap_count a.drawn d.result (rows_shifted _ a.drawn d.result d.ensures.rows) d.ensures.count c.requires.taps.1), omega arith, c.requires.slots.1)
+    (omega arith, omega arith, taps_in d.result.count d.result.rows a.tap_count p.new.points (omega arith) (windows_kept a.tap_count a.drawn d.result (rows_shifted _ a.drawn d.result d.ensures.rows) d.ensures.count c.requires.taps.1))
 
 pub returns-then-o : goal.returns-then-o
 unfolding of_bits
@@ -67,7 +67,7 @@ returns-then-o c =
 pub outermost_of_sheet-size-requires-2 : goal.outermost_of_sheet-size-requires-2
 outermost_of_sheet-size-requires-2 c =
     let a = c.args in
-    (c.requires.tables.0, c.requires.tables.1, taps_in a.drawn.count a.drawn.rows a.tap_count a.taps.now c.requires.taps.0 c.requires.taps.1, c.requires.slots.0, c.requires.slots.1)
+    (c.requires.tables.0, c.requires.tables.1, taps_in a.drawn.count a.drawn.rows a.tap_count a.taps.now c.requires.taps.0 c.requires.taps.1)
 
 pub returns : goal.returns
 unfolding of_bits

@@ -4,4 +4,4 @@ use Rattle.normalize.proofs.Outer.{rows_rest}
 use Rattle.normalize.proofs.outermost_of_drawn.Given as goal
 
 abbrev pub invariant-loop-d : goal.invariant-loop-d
-invariant-loop-d l = outermost l.far l.most (rows_rest l.taps l.drawn l.d-index) ≡ outermost l.far l.initial.most (row_points l.taps l.drawn)
+invariant-loop-d l = outermost l.corner l.most (rows_rest l.taps l.drawn l.d-index) ≡ outermost l.corner l.initial.most (row_points l.taps l.drawn)

@@ -5,4 +5,4 @@ use Rattle.normalize.proofs.Outer.{points_rest}
 use Rattle.normalize.proofs.outermost_of_points.Given as goal
 
 abbrev pub invariant-loop-i : goal.invariant-loop-i
-invariant-loop-i l = outermost l.far l.most (points_rest l.points l.start l.count l.i) ≡ outermost l.far l.initial.most (points_from l.points l.start l.count)
+invariant-loop-i l = outermost l.corner l.most (points_rest l.route.points.now l.route.start l.route.count l.i) ≡ outermost l.corner l.initial.most (points_from l.route.points.now l.route.start l.route.count)

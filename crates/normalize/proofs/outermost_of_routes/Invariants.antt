@@ -6,4 +6,4 @@ use Rattle.normalize.proofs.Outer.{routes_rest}
 use Rattle.normalize.proofs.outermost_of_routes.Given as goal
 
 abbrev pub invariant-loop-e : goal.invariant-loop-e
-invariant-loop-e l = outermost l.far l.most (routes_rest l.points l.counts l.e) ≡ outermost l.far l.initial.most (route_points (routes_of l.points l.counts))
+invariant-loop-e l = outermost l.corner l.most (routes_rest l.present.points.now l.present.counts.now l.e) ≡ outermost l.corner l.initial.most (route_points (routes_of l.present.points.now l.present.counts.now))

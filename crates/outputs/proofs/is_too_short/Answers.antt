@@ -4,7 +4,6 @@ use mathlib.Core.Bool.{Bool, ◌||◌}
 use lib.Dec.{ltb}
 use Rattle.limits.specs.Limits.{answer_room}
 use Rattle.outputs.specs.Outputs.{too_short}
-use borrow.Author.Rules.{rules}
 use Rattle.outputs.proofs.is_too_short.Goals as goal
 
 any_of : (a p q c d : Bool) → p ≡ q → c ≡ d → (a || p || c) ≡ (a || q || d)

@@ -1,5 +1,5 @@
 -- `plan_bounds::reach_all` meets its contract. Assumes nothing.
-use mathlib.Core.Path.{◌≡◌, refl, ◌∙◌, ap}
+use mathlib.Core.Path.{◌≡◌, ◌∙◌, ap}
 use mathlib.Core.List.{List, ◌∷◌}
 use Prim.Native.Nat.{ℕ, ◌+◌, ◌≤◌, ◌<◌}
 use native.Mathlib.Omega.{arith}
@@ -13,7 +13,6 @@ use Rattle.plan.specs.BoardTables.{no_member}
 use Rattle.plan.specs.Prepared.{other, end_x, Rowed}
 use Rattle.plan.proofs.TableReads as rows
 use Rattle.plan_bounds.proofs.Bounding as laws
-use borrow.Author.Rules.{rules}
 use Rattle.plan_bounds.proofs.reach_all.Goals as goal
 
 -- the member that a turn reads, and what it reads of it
@@ -30,36 +29,8 @@ module _ (b : Board) (edges lanes : List ℕ) (u : Bundle) (i : ℕ) (w : Rowed 
   part : drop i (members_in b u) ≡ member ∷ drop (i + 1) (members_in b u)
   part = rows.part_at no_member b.members u.first u.count k i h
 
-pub loop-i-init : goal.loop-i-init
-loop-i-init c = λ b given lanes r w k q i o. refl
-
-pub overflow_add-k : goal.overflow_add-k
-overflow_add-k c = omega (arith, c.loop-i-test.true, c.requires.0.fits)
-
-pub offset_bounds-edges-k : goal.offset_bounds-edges-k
-offset_bounds-edges-k c = let f = c.requires.0.fits in search rules
-
-pub bounds-edges-k : goal.bounds-edges-k
-bounds-edges-k c = omega (arith, c.loop-i-test.true, c.requires.0.fits)
-
 pub corridor_of-corridor-requires : goal.corridor_of-corridor-requires
-corridor_of-corridor-requires c = c.requires.0.low c.loop-i.i c.loop-i-test.true
-
-pub offset_bounds-starts-k : goal.offset_bounds-starts-k
-offset_bounds-starts-k c = let f = c.requires.0.fits in search rules
-
-pub bounds-starts-k : goal.bounds-starts-k
-bounds-starts-k c = omega (arith, c.loop-i-test.true, c.requires.0.fits)
-
-pub offset_bounds-counts-k : goal.offset_bounds-counts-k
-offset_bounds-counts-k c = let f = c.requires.0.fits in search rules
-
-pub bounds-counts-k : goal.bounds-counts-k
-bounds-counts-k c = omega (arith, c.loop-i-test.true, c.requires.0.fits)
-
-pub end_x-end-requires : goal.end_x-end-requires
-end_x-end-requires c =
-    c.requires.1.inside (c.args.u.first + c.loop-i.i) (omega (arith, c.loop-i-test.true, c.requires.0.fits))
+corridor_of-corridor-requires c = c.requires.below.low c.loop-i.i c.loop-i-test.true
 
 pub returns-in_default : goal.returns-in_default
 returns-in_default c =
@@ -68,13 +39,13 @@ returns-in_default c =
     let u = a.u in
     let h = c.loop-i-test.true in
     let m = c.member_reach in
-    λ b given lanes r w k q i o.
-    laws.reach_none b given a.role l.d (member b a.edges.now lanes u l.i w k h) _ _ (part b a.edges.now lanes u l.i w k h) m.result
-    (m.ensures ∙ laws.reach_is b given a.role (member b a.edges.now lanes u l.i w k h) a.reserve _ c.end_x-end.result r
-    (c.corridor_of-corridor.ensures b i o ∙ ap (λ (z : Role). corridor_of b z (get_or a.edges.now (u.first + l.i) 0)) c.other-across.ensures ∙ ap (corridor_of b (other a.role)) (edge_is b a.edges.now lanes u l.i w k h))
-    (c.end_x-end.ensures ∙ ap (end_x a.role) (q.routes_are (u.first + l.i) (there b a.edges.now lanes u l.i w k h))))
+    λ b given lanes r w k q o.
+    laws.reach_none b given a.role l.d (member b a.places.edges.now lanes u l.i w k h) _ _ (part b a.places.edges.now lanes u l.i w k h) m.result
+    (m.ensures ∙ laws.reach_is b given a.role (member b a.places.edges.now lanes u l.i w k h) a.reserve _ c.end_x-end.result r
+    (c.corridor_of-corridor.ensures b o ∙ ap (λ (z : Role). corridor_of b z (get_or a.places.edges.now (u.first + l.i) 0)) c.other-across.ensures ∙ ap (corridor_of b (other a.role)) (edge_is b a.places.edges.now lanes u l.i w k h))
+    (c.end_x-end.ensures ∙ ap (end_x a.role) (q.routes_are (u.first + l.i) (there b a.places.edges.now lanes u l.i w k h))))
     c.in_default.is
-    ∙ l.invariant b given lanes r w k q i o
+    ∙ l.invariant b given lanes r w k q o
 
 pub loop-i-preserved : goal.loop-i-preserved
 loop-i-preserved c =
@@ -83,18 +54,18 @@ loop-i-preserved c =
     let u = a.u in
     let h = c.loop-i-test.true in
     let m = c.member_reach in
-    λ b given lanes r w k q i o.
-    laws.reach_some b given a.role l.d (member b a.edges.now lanes u l.i w k h) _ _ (part b a.edges.now lanes u l.i w k h) m.result
-    (m.ensures ∙ laws.reach_is b given a.role (member b a.edges.now lanes u l.i w k h) a.reserve _ c.end_x-end.result r
-    (c.corridor_of-corridor.ensures b i o ∙ ap (λ (z : Role). corridor_of b z (get_or a.edges.now (u.first + l.i) 0)) c.other-across.ensures ∙ ap (corridor_of b (other a.role)) (edge_is b a.edges.now lanes u l.i w k h))
-    (c.end_x-end.ensures ∙ ap (end_x a.role) (q.routes_are (u.first + l.i) (there b a.edges.now lanes u l.i w k h))))
+    λ b given lanes r w k q o.
+    laws.reach_some b given a.role l.d (member b a.places.edges.now lanes u l.i w k h) _ _ (part b a.places.edges.now lanes u l.i w k h) m.result
+    (m.ensures ∙ laws.reach_is b given a.role (member b a.places.edges.now lanes u l.i w k h) a.reserve _ c.end_x-end.result r
+    (c.corridor_of-corridor.ensures b o ∙ ap (λ (z : Role). corridor_of b z (get_or a.places.edges.now (u.first + l.i) 0)) c.other-across.ensures ∙ ap (corridor_of b (other a.role)) (edge_is b a.places.edges.now lanes u l.i w k h))
+    (c.end_x-end.ensures ∙ ap (end_x a.role) (q.routes_are (u.first + l.i) (there b a.places.edges.now lanes u l.i w k h))))
     c.in-At.x c.tighten.result c.in-At.is c.tighten.ensures
-    ∙ l.invariant b given lanes r w k q i o
+    ∙ l.invariant b given lanes r w k q o
 
 pub returns : goal.returns
 returns c =
     let a = c.args in
     let l = c.loop-i in
-    λ b given lanes r w k q i o.
+    λ b given lanes r w k q o.
     laws.reach_end b given a.role l.d _ (rows.part_end no_member b.members a.u.first a.u.count k l.i c.loop-i-test.false)
-    ∙ l.invariant b given lanes r w k q i o
+    ∙ l.invariant b given lanes r w k q o

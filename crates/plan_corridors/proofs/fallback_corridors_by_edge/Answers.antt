@@ -1,5 +1,5 @@
 -- `plan_corridors::fallback_corridors_by_edge` meets its contract. Assumes nothing.
-use mathlib.Core.Path.{◌≡◌, refl, sym, ◌∙◌, ap}
+use mathlib.Core.Path.{◌≡◌, sym, ◌∙◌, ap}
 use Prim.Native.Nat.{◌≤◌, ◌<◌}
 use native.Mathlib.Omega.{arith}
 use lib.ListN.{length, get_or}
@@ -9,70 +9,46 @@ use Rattle.board.specs.declared.Options.{Options}
 use Rattle.board.specs.declared.Bundle.{Bundle}
 use Rattle.board.specs.Board.{bundle_pitch, rail_depth}
 use Rattle.plan.specs.Depths.{inward, endpoint_of}
-use Rattle.plan.specs.BoardTables.{corridor_in, no_bundle}
+use Rattle.plan.specs.declared.Bound.TheVariants.{None}
+use Rattle.plan.specs.BoardTables.{no_bundle}
 use Rattle.plan.proofs.TableReads as laws
 use Rattle.plan_corridors.proofs.Among as among
 use borrow.Author.Rules.{rules}
 use Rattle.plan_corridors.proofs.fallback_corridors_by_edge.Goals as goal
 use Rattle.plan_corridors.proofs.fallback_corridors_by_edge.Goals.{Start, then-is_same_role, else-is_same_role}
 
-bundles-length : (s : Start) → length s.args.bundles.rows ≡ max_bundles
-bundles-length s = search (rules, laws.length_mapped)
-
 offsets_length : (s : Start) → length s.args.offsets.rows ≡ max_bundles
 offsets_length s = search (rules, laws.length_mapped)
-
-pub loop-i-init : goal.loop-i-init
-loop-i-init c = λ b e w n. refl
-
-pub offset_bounds-bundles-i : goal.offset_bounds-bundles-i
-offset_bounds-bundles-i c = let k = c.requires.all_below.0.bundles_few in search rules
-
-pub bounds-bundles-i : goal.bounds-bundles-i
-bounds-bundles-i c = omega (arith, c.loop-i-test.true, c.requires.all_below.0.bundles_few)
-
-pub offset_bounds-ends-i : goal.offset_bounds-ends-i
-offset_bounds-ends-i c = let k = c.requires.all_below.0.bundles_few in search rules
-
-pub bounds-ends-i : goal.bounds-ends-i
-bounds-ends-i c = omega (arith, c.loop-i-test.true, c.requires.all_below.0.bundles_few)
-
-pub offset_bounds-offsets-i : goal.offset_bounds-offsets-i
-offset_bounds-offsets-i c = let k = c.requires.all_below.0.bundles_few in search rules
-
-pub bounds-offsets-i : goal.bounds-offsets-i
-bounds-offsets-i c = omega (arith, c.loop-i-test.true, c.requires.all_below.0.bundles_few)
 
 pub add_corridors-requires : goal.add_corridors-requires
 add_corridors-requires c =
     let l = c.loop-i in
     let h = c.loop-i-test.true in
-    record { below = (c.requires.all_below.0.each l.i h, c.requires.all_below.1.each l.i h); marks_len = (omega arith, omega arith) }
+    record { below = (c.requires.all_below.0.each l.i h, c.requires.all_below.1.each l.i h); room = omega arith }
 
 pub loop-i-preserved : goal.loop-i-preserved
 loop-i-preserved c =
     let a = c.args in
     let l = c.loop-i in
-    let h : l.i < a.bundles.count = c.loop-i-test.true in
+    let h : l.i < a.bundles.now.count = c.loop-i-test.true in
     let same = c.is_same_role in
     let rail = c.boundary_bundle_rail_depth-rail in
-    let k = bundles-length (goal.at.loop-i-preserved c).Start in
     let ko = offsets_length (goal.at.loop-i-preserved c).Start in
-    let q : a.bundles.count ≤ length a.bundles.rows = omega (arith, c.requires.all_below.0.bundles_few) in
-    let qo : a.bundles.count ≤ length a.offsets.rows = omega (arith, c.requires.all_below.0.bundles_few) in
-    let u : Bundle = get_or a.bundles.rows l.i no_bundle in
+    let q = c.requires.all_below.0.bundles_fit in
+    let qo : a.bundles.now.count ≤ length a.offsets.rows = omega (arith, c.requires.all_below.0.bundles_few) in
+    let u : Bundle = get_or a.bundles.now.rows l.i no_bundle in
     let d : Float = get_or a.offsets.rows l.i nan in
     elim c.if-is_same_role.branch [
-      | then-is_same_role v ↦ rw (v.marks-is, v.xs-is) (λ b e w n.
-          among.from_turn b a.role e u d _ _ _ _ (laws.part_cons a.bundles.rows a.bundles.count l.i no_bundle h q) (laws.part_cons a.offsets.rows a.bundles.count l.i nan h qo)
-          (corridor_in l.marks l.xs e) _ (sym same.ensures ∙ v.if-is_same_role.true)
+      | then-is_same_role v ↦ rw v.corridors-is (λ b e w n.
+          among.from_turn b a.role e u d _ _ _ _ (laws.part_cons a.bundles.now.rows a.bundles.now.count l.i no_bundle h q) (laws.part_cons a.offsets.rows a.bundles.now.count l.i nan h qo)
+          (get_or l.corridors e None) _ (sym same.ensures ∙ v.if-is_same_role.true)
           (v.add_corridors.ensures b e w (n.members_in l.i h)
           (v.inward-tap.ensures ∙ ap (λ (z : Float). inward u.role z rail.result) (n.end_is l.i h) ∙ ap (inward u.role (endpoint_of b u).x) (rail.ensures ∙ ap rail_depth n.options_are))
           (v.pitch_of_bundle-pitch.ensures ∙ ap (λ (z : Options). bundle_pitch z u) n.options_are))
           ∙ l.invariant b e w n)
-      | else-is_same_role v ↦ rw (v.marks-is, v.xs-is) (λ b e w n.
-          among.from_skip b a.role e u d _ _ _ _ (laws.part_cons a.bundles.rows a.bundles.count l.i no_bundle h q) (laws.part_cons a.offsets.rows a.bundles.count l.i nan h qo)
-          (corridor_in l.marks l.xs e) (sym same.ensures ∙ v.if-is_same_role.false)
+      | else-is_same_role v ↦ rw v.corridors-is (λ b e w n.
+          among.from_skip b a.role e u d _ _ _ _ (laws.part_cons a.bundles.now.rows a.bundles.now.count l.i no_bundle h q) (laws.part_cons a.offsets.rows a.bundles.now.count l.i nan h qo)
+          (get_or l.corridors e None) (sym same.ensures ∙ v.if-is_same_role.false)
           ∙ l.invariant b e w n)
     ]
 
@@ -80,8 +56,7 @@ pub returns : goal.returns
 returns c =
     let a = c.args in
     let l = c.loop-i in
-    let k = bundles-length (goal.at.returns c).Start in
-    let q : a.bundles.count ≤ length a.bundles.rows = omega (arith, c.requires.all_below.0.bundles_few) in
+    let q = c.requires.all_below.0.bundles_fit in
     λ b e w n.
-    among.from_end b a.role e _ _ (corridor_in l.marks l.xs e) (laws.part_none a.bundles.rows a.bundles.count l.i c.loop-i-test.false q)
+    among.from_end b a.role e _ _ (get_or l.corridors e None) (laws.part_none a.bundles.now.rows a.bundles.now.count l.i c.loop-i-test.false q)
     ∙ l.invariant b e w n

@@ -1,14 +1,14 @@
 use mathlib.Core.Path.{◌≡◌}
 use Prim.Native.Nat.{ℕ}
-use lib.ListN.{take, drop}
+use lib.ListN.{get_or, take, drop}
 use Rattle.board.specs.Board.{Board}
 use Rattle.plan.specs.Depths.{first_of, corridor_from}
-use Rattle.plan.specs.BoardTables.{corridor_in}
+use Rattle.plan.specs.declared.Bound.TheVariants.{None}
 use Rattle.plan.specs.Prepared.{Rowed, Ended}
 use Rattle.plan_corridors.proofs.fallback_corridors_by_edge.Given as goal
 
 abbrev pub invariant-loop-i : goal.invariant-loop-i
 invariant-loop-i l =
-    (b : Board) (e : ℕ) → Rowed b l.edges l.lanes → Ended b l.o l.bundles l.ends.rows
-    → first_of (corridor_in l.marks l.xs e) (corridor_from b l.role e (drop l.i (take l.bundles.count l.bundles.rows)) (drop l.i (take l.bundles.count l.offsets.rows)))
-    ≡ first_of (corridor_in l.initial.marks l.initial.xs e) (corridor_from b l.role e (take l.bundles.count l.bundles.rows) (take l.bundles.count l.offsets.rows))
+    (b : Board) (e : ℕ) → Rowed b l.places.edges.now l.places.lanes.now → Ended b l.o l.bundles l.ends.rows
+    → first_of (get_or l.corridors e None) (corridor_from b l.role e (drop l.i (take l.bundles.count l.bundles.rows)) (drop l.i (take l.bundles.count l.offsets.rows)))
+    ≡ first_of (get_or l.initial.corridors e None) (corridor_from b l.role e (take l.bundles.count l.bundles.rows) (take l.bundles.count l.offsets.rows))

@@ -10,6 +10,6 @@ use Rattle.plan_depths.proofs.corridor_depth_offsets.Given as goal
 abbrev pub invariant-loop-i : goal.invariant-loop-i
 invariant-loop-i l = record {
   rows_length : length l.rows ≡ max_bundles;
-  offsets_are : (edges : List Edge) → take l.i l.rows ++ offsets_from (board_of l.o l.nodes l.ports edges l.bundles l.members) (drop l.i (take l.bundles.count l.bundles.rows)) l.w
-      ≡ offsets_from (board_of l.o l.nodes l.ports edges l.bundles l.members) (take l.bundles.count l.bundles.rows) l.initial.w;
+  offsets_are : (edges : List Edge) → take l.i l.rows ++ offsets_from (board_of l.t.options l.t.nodes.now l.t.ports.now edges l.t.bundles.now l.t.members.now) (drop l.i (take l.t.bundles.now.count l.t.bundles.now.rows)) l.w
+      ≡ offsets_from (board_of l.t.options l.t.nodes.now l.t.ports.now edges l.t.bundles.now l.t.members.now) (take l.t.bundles.now.count l.t.bundles.now.rows) l.initial.w;
 }

@@ -44,7 +44,7 @@ returns-in-None-d c =
     let a = c.args in
     let d = c.input_shared_trunk_divergence_x-d in
     λ b given p t.
-    asked-none b given a.u a.x d.result c.in-At.c c.in-At.is (diverged b given a.points.now a.starts.now a.counts.now a.u a.pitch c.in-At.c d.result p t d.ensures) c.in-None-d.is
+    asked-none b given a.u a.x d.result c.in-At.c c.in-At.is (diverged b given a.routes.points.now a.routes.starts.now a.routes.counts.now a.u a.pitch c.in-At.c d.result p t d.ensures) c.in-None-d.is
 
 pub returns-in-At-d : goal.returns-in-At-d
 returns-in-At-d c =
@@ -52,4 +52,4 @@ returns-in-At-d c =
     let d = c.input_shared_trunk_divergence_x-d in
     λ b given p t.
     asked-some b given a.u a.x d.result c.in-At.c c.in-At-d.y a.pitch c.max.result c.in-At.is
-    (diverged b given a.points.now a.starts.now a.counts.now a.u a.pitch c.in-At.c d.result p t d.ensures) c.in-At-d.is p c.max.ensures
+    (diverged b given a.routes.points.now a.routes.starts.now a.routes.counts.now a.u a.pitch c.in-At.c d.result p t d.ensures) c.in-At-d.is p c.max.ensures

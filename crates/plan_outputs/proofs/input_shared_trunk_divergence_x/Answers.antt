@@ -1,20 +1,13 @@
 -- `plan_outputs::input_shared_trunk_divergence_x` meets its contract. Assumes nothing.
 use mathlib.Core.Path.{◌∙◌}
-use Prim.Native.Nat.{◌+◌}
-use native.Mathlib.Omega.{arith}
 use Rattle.plan.proofs.Ends as laws
 use Rattle.plan_outputs.proofs.input_shared_trunk_divergence_x.Goals as goal
-
-pub run_end-requires : goal.run_end-requires
-run_end-requires c =
-    let l = c.loop-i in
-    c.requires.inside.inside (c.args.u.first + l.i) (omega (arith, c.requires.count_in_bounds, c.loop-i-test.true))
 
 pub returns-in_default : goal.returns-in_default
 returns-in_default c =
     let a = c.args in
     let l = c.loop-i in
-    laws.over_none a.u.role a.pitch a.x l.d _ _ _ (laws.route_at a.points.now a.starts.now a.counts.now c.requires.starts_len a.u.first a.u.count c.requires.count_in_bounds l.i c.loop-i-test.true) c.run_end.result c.run_end.ensures c.in_default.is
+    laws.over_none a.u.role a.pitch a.x l.d _ _ _ (laws.route_at a.routes.points.now a.routes.starts.now a.routes.counts.now a.routes.windows.paired a.u.first a.u.count c.requires l.i c.loop-i-test.true) c.run_end.result c.run_end.ensures c.in_default.is
     ∙ l.invariant
 
 pub loop-i-preserved : goal.loop-i-preserved
@@ -22,7 +15,7 @@ loop-i-preserved c =
     let a = c.args in
     let l = c.loop-i in
     let t = c.loop-i-test.true in
-    laws.over_some a.u.role a.pitch a.x l.d _ _ _ (laws.route_at a.points.now a.starts.now a.counts.now c.requires.starts_len a.u.first a.u.count c.requires.count_in_bounds l.i t) c.run_end.result c.run_end.ensures
+    laws.over_some a.u.role a.pitch a.x l.d _ _ _ (laws.route_at a.routes.points.now a.routes.starts.now a.routes.counts.now a.routes.windows.paired a.u.first a.u.count c.requires l.i t) c.run_end.result c.run_end.ensures
     c.in-At.y c.furthest-d.result c.in-At.is c.furthest-d.ensures
     ∙ l.invariant
 
@@ -30,4 +23,4 @@ pub returns : goal.returns
 returns c =
     let a = c.args in
     let l = c.loop-i in
-    laws.over_end a.u.role a.pitch a.x l.d _ (laws.route_end a.points.now a.starts.now a.counts.now c.requires.starts_len a.u.first a.u.count c.requires.count_in_bounds l.i c.loop-i-test.false) ∙ l.invariant
+    laws.over_end a.u.role a.pitch a.x l.d _ (laws.route_end a.routes.points.now a.routes.starts.now a.routes.counts.now a.routes.windows.paired a.u.first a.u.count c.requires l.i c.loop-i-test.false) ∙ l.invariant

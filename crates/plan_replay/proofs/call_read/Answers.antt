@@ -15,8 +15,12 @@ sizes s = record {
   members = let g = s.well_formed.0.1.1.1.1.1.1.1.1.1.0 in search (rules, length_mapped, g);
 }
 
-pub call-requires : goal.call-requires
-call-requires c =
+pub invariant_of-tables : goal.invariant_of-tables
+invariant_of-tables c =
     let a = c.args in
-    let size = sizes (goal.at.call-requires c).Start in
-    record { sound = (tables_sound a.j a.points.now c.requires.0 size, routes_in a.j a.points.now c.requires.0 size); search_room = c.requires.1 }
+    record { sound = tables_sound a.j a.points.now c.requires (sizes (goal.at.invariant_of-tables c).Start) }
+
+pub invariant_of-q : goal.invariant_of-q
+invariant_of-q c =
+    let a = c.args in
+    record { routes_in = routes_in a.j a.points.now c.requires (sizes (goal.at.invariant_of-q c).Start) }

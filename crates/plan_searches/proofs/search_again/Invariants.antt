@@ -1,18 +1,19 @@
 use mathlib.Core.Path.{◌≡◌}
 use mathlib.Core.List.{List}
-use lib.ListN.{length, take, drop}
+use lib.ListN.{length, drop}
 use Rattle.limits.specs.Limits.{max_bundles}
 use Rattle.geometry.specs.Points.{Route}
 use Rattle.board.specs.Board.{Board}
 use Rattle.search.specs.Search.{search_of}
 use Rattle.plan.specs.Plan.{Ranged, again}
-use Rattle.plan.specs.Prepared.{AllTell, SameBundles, plan_in, upper_at}
+use Rattle.plan.specs.Prepared.{SameBundles, plan_in, upper_at}
+use Rattle.plan.specs.Lent.{LayoutTells}
 use Rattle.plan_searches.proofs.search_again.Given as goal
 
 abbrev pub invariant-loop-k : goal.invariant-loop-k
 invariant-loop-k l = record {
   rows_length : length l.rows ≡ max_bundles;
-  plan_is : (b : Board) (given : List Route) (ranges : List Ranged) → AllTell b given l.points l.starts l.counts l.rail l.pitch l.t → SameBundles ranges l.t
-      → again search_of b given ranges (λ x. l.lower) (upper_at l.pitch l.upper) (drop l.k (take l.count l.which)) (plan_in l.t.count (record { rows = l.rows; left = l.left }))
-      ≡ again search_of b given ranges (λ x. l.lower) (upper_at l.pitch l.upper) (take l.count l.which) (plan_in l.t.count (record { rows = l.initial.rows; left = l.initial.left }));
+  plan_is : (b : Board) (given : List Route) (ranges : List Ranged) → LayoutTells b given l.layout → SameBundles ranges l.layout.reaches.now
+      → again search_of b given ranges (λ x. l.lower) (upper_at l.layout.pitch l.upper) (drop l.k l.which) (plan_in l.layout.reaches.now.count (record { rows = l.rows; left = l.left }))
+      ≡ again search_of b given ranges (λ x. l.lower) (upper_at l.layout.pitch l.upper) l.which (plan_in l.layout.reaches.now.count (record { rows = l.initial.rows; left = l.initial.left }));
 }

@@ -13,10 +13,12 @@ use Rattle.plan_searches.proofs.search_between.Goals as goal
 pub common_horizontal_collector_x-requires : goal.common_horizontal_collector_x-requires
 common_horizontal_collector_x-requires c =
     let a = c.args in
+    let r = a.layout.routes in
     let k : ℕ = a.u.first + a.u.count - a.u.first in
-    let e : k ≡ a.u.count = omega arith in
-    let h : a.u.first + k ≤ length a.starts.now = omega (arith, c.requires.among.fits) in
-    let few : k ≤ max_bundle_members = omega (arith, c.requires.among.few) in let rest = laws.part_rooms a.points.now a.starts.now a.counts.now a.xs.now a.scratch.now c.requires.searchable a.u.first k h few a.u.role a.pitch in record { windows = laws.part_windows a.points.now a.starts.now a.counts.now a.xs.now a.scratch.now c.requires.searchable a.u.first k h few; counts_in_bounds = rest.0; counts_in_bounds_2 = rest.1 }
+    let h : a.u.first + k ≤ length r.starts.now = omega (arith, c.requires.among.fits) in
+    let few : k ≤ max_bundle_members = omega (arith, c.requires.among.few) in
+    let rooms = laws.part_rooms r.points.now r.starts.now r.counts.now r.windows a.layout.short a.u.first k h few a.work.now.xs.now a.work.now.scratch.now a.work.now.room a.u.role a.layout.pitch in
+    record { room = rooms.0; scratch_room = rooms.1 }
 
 pub returns-in-Absent : goal.returns-in-Absent
 returns-in-Absent c =
@@ -29,5 +31,5 @@ returns-in-Between c =
     let k : ℕ = a.u.first + a.u.count - a.u.first in
     let e : k ≡ a.u.count = omega arith in
     λ b given p t.
-    laws.sought b given a.points.now a.starts.now a.counts.now a.u k a.pitch a.bounds c.in-Between.s a.granted.0 c.common_horizontal_collector_x.result
+    laws.sought b given a.layout.routes.points.now a.layout.routes.starts.now a.layout.routes.counts.now a.u k a.layout.pitch a.bounds c.in-Between.s a.granted.0 c.common_horizontal_collector_x.result
     e p t c.in-Between.is c.common_horizontal_collector_x.ensures

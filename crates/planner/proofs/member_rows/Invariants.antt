@@ -1,14 +1,7 @@
-use mathlib.Core.Path.{◌≡◌, refl, sym, ◌∙◌, ap, subst}
-use mathlib.Core.List.{List, map}
-use Prim.Native.Nat.{ℕ, ◌+◌, ◌-◌, ◌≤◌, ◌<◌}
-use native.Mathlib.Omega.{arith}
-use lib.ListN.{length, get_or, take, drop, set, length-set}
-use Rattle.limits.specs.Limits.{max_members}
-use Rattle.plan.proofs.TableReads as rows
-use Rattle.planner.proofs.MemberTurns as laws
-use Rattle.plan.specs.BoardTables.{no_member, no_edge}
+use mathlib.Core.Path.{◌≡◌}
+use Prim.Native.Nat.{ℕ, ◌≤◌, ◌<◌}
+use lib.ListN.{get_or}
 use Rattle.planner.specs.Members.{member_at, edge_row}
-use borrow.Author.Rules.{rules}
 use Rattle.planner.proofs.member_rows.Given as goal
 
 abbrev pub invariant-loop-i : goal.invariant-loop-i

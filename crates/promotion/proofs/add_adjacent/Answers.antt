@@ -1,16 +1,15 @@
 -- `promotion::add_adjacent` meets its contract. Assumes nothing.
 -- the slice and the first list's length, where the second search is made
-use mathlib.Core.Path.{◌≡◌, refl, sym, ◌∙◌, ap}
+use mathlib.Core.Path.{◌≡◌, sym, ◌∙◌, ap}
 use mathlib.Core.List.{List, ◌++◌}
 use Prim.Native.Nat.{ℕ, ◌+◌, ◌-◌, ◌≤◌}
 use native.Mathlib.Omega.{arith}
-use borrow.Author.Rules.{rules}
 use borrow.Author.Tests.{not-true, not-false}
 use lib.ListN.{length, take, drop}
 use lib.Seq.{length-take-le}
 use lib.Ieee.{Float}
 use Rattle.search.specs.declared.Listed.{Listed}
-use Rattle.search.specs.Stretches.{members, routes}
+use Rattle.search.specs.Lent.{members_lent}
 use Rattle.search.specs.Search.{told, in_order}
 use Rattle.search.specs.Promotion.{kept, second_spent, joined}
 use Rattle.search.proofs.Parts as parts
@@ -32,7 +31,7 @@ abbrev whole : After-common_horizontal_collector_xs-g → List Float
 whole x = take (n-of x) (xs-of x) ++ (ys-of x ++ drop (length (xs-of x) - n-of x) (drop (n-of x) (xs-of x)))
 
 in-front : (x : After-common_horizontal_collector_xs-g) → n-of x ≤ length (xs-of x)
-in-front x = omega (arith, x.requires.counts_in_bounds)
+in-front x = omega (arith, x.requires.room)
 
 ys-length : (x : After-common_horizontal_collector_xs-g) → length (ys-of x) ≡ length (xs-of x) - n-of x
 ys-length x = x.common_horizontal_collector_xs-g.auto.xs ∙ parts.back_length (xs-of x) (n-of x) (in-front x)
@@ -52,17 +51,17 @@ both-within k =
 pub returns-then-not-is_between : goal.returns-then-not-is_between
 returns-then-not-is_between c =
     let a = c.args in
-    let ms = members a.role a.pitch (routes a.points.now a.starts.now a.counts.now) in
+    let ms = members_lent a.sought.role a.sought.pitch a.routes in
     record {
-      within = omega (arith, c.requires.counts_in_bounds);
-      are = parts.no_second a.role a.pitch a.b ms (take a.n a.xs.now) a.left.0 _ c.adjacent_lane-lane.ensures (sym c.is_between.ensures ∙ not-true _ (ap not c.if-not-is_between.true));
+      within = omega (arith, c.requires.room);
+      are = parts.no_second a.sought.role a.sought.pitch a.sought.bounds ms (take a.n a.xs.now) a.left.0 _ c.adjacent_lane-lane.ensures (sym c.is_between.ensures ∙ not-true _ (ap not c.if-not-is_between.true));
     }
 
 pub common_horizontal_collector_xs-g-requires : goal.common_horizontal_collector_xs-g-requires
 common_horizontal_collector_xs-g-requires c =
-    let h = c.requires.counts_in_bounds in
+    let h = c.requires.room in
     let e = parts.back_length c.args.xs.now c.args.n (omega arith) in
-    record { windows = c.requires.windows; counts_in_bounds = omega arith; counts_in_bounds_2 = omega (arith, c.requires.counts_in_bounds_2) }
+    record { room = omega arith; scratch_room = omega (arith, c.requires.scratch_room) }
 
 pub overflow_add-both : goal.overflow_add-both
 overflow_add-both c =
@@ -77,26 +76,26 @@ slice_bounds-put_in_order-end-in-All c =
 
 pub put_in_order-k-requires : goal.put_in_order-k-requires
 put_in_order-k-requires c =
-    omega (arith, parts.front_within (whole (goal.at.put_in_order-k-requires c).After-common_horizontal_collector_xs-g) (n-of (goal.at.put_in_order-k-requires c).After-common_horizontal_collector_xs-g + m-of (goal.at.put_in_order-k-requires c).In-All), whole_length (goal.at.put_in_order-k-requires c).After-common_horizontal_collector_xs-g, c.common_horizontal_collector_xs-g.auto.scratch, c.requires.counts_in_bounds_2)
+    omega (arith, parts.front_within (whole (goal.at.put_in_order-k-requires c).After-common_horizontal_collector_xs-g) (n-of (goal.at.put_in_order-k-requires c).After-common_horizontal_collector_xs-g + m-of (goal.at.put_in_order-k-requires c).In-All), whole_length (goal.at.put_in_order-k-requires c).After-common_horizontal_collector_xs-g, c.common_horizontal_collector_xs-g.auto.scratch, c.requires.scratch_room)
 
 pub returns-in-Spent : goal.returns-in-Spent
 returns-in-Spent c =
     let a = c.args in
-    let ms = members a.role a.pitch (routes a.points.now a.starts.now a.counts.now) in
+    let ms = members_lent a.sought.role a.sought.pitch a.routes in
     let g = c.common_horizontal_collector_xs-g in
     let first = take (n-of (goal.at.returns-in-Spent c).After-common_horizontal_collector_xs-g) (xs-of (goal.at.returns-in-Spent c).After-common_horizontal_collector_xs-g) in
     let near = sym c.is_between.ensures ∙ not-false _ (ap not c.if-not-is_between.false) in
     record {
       within = in-front (goal.at.returns-in-Spent c).After-common_horizontal_collector_xs-g;
-      are = parts.second a.role a.pitch a.b ms first a.left.0 _ c.adjacent_lane-lane.ensures near _
+      are = parts.second a.sought.role a.sought.pitch a.sought.bounds ms first a.left.0 _ c.adjacent_lane-lane.ensures near _
           (ap second_spent (parts.first_kept (xs-of (goal.at.returns-in-Spent c).After-common_horizontal_collector_xs-g) (n-of (goal.at.returns-in-Spent c).After-common_horizontal_collector_xs-g) (in-front (goal.at.returns-in-Spent c).After-common_horizontal_collector_xs-g) (ys-of (goal.at.returns-in-Spent c).After-common_horizontal_collector_xs-g) _)
-          ∙ ap (λ (r : Listed). joined a.role first (told r (ys-of (goal.at.returns-in-Spent c).After-common_horizontal_collector_xs-g))) (sym c.in-Spent.is) ∙ ap (joined a.role first) g.ensures.are);
+          ∙ ap (λ (r : Listed). joined a.sought.role first (told r (ys-of (goal.at.returns-in-Spent c).After-common_horizontal_collector_xs-g))) (sym c.in-Spent.is) ∙ ap (joined a.sought.role first) g.ensures.are);
     }
 
 pub returns-in-All : goal.returns-in-All
 returns-in-All c =
     let a = c.args in
-    let ms = members a.role a.pitch (routes a.points.now a.starts.now a.counts.now) in
+    let ms = members_lent a.sought.role a.sought.pitch a.routes in
     let g = c.common_horizontal_collector_xs-g in
     let first = take (n-of (goal.at.returns-in-All c).After-common_horizontal_collector_xs-g) (xs-of (goal.at.returns-in-All c).After-common_horizontal_collector_xs-g) in
     let near = sym c.is_between.ensures ∙ not-false _ (ap not c.if-not-is_between.false) in
@@ -104,9 +103,9 @@ returns-in-All c =
     let f : m-of (goal.at.returns-in-All c).In-All ≤ length (ys-of (goal.at.returns-in-All c).After-common_horizontal_collector_xs-g) = rw g.auto.xs (parts.count_within g.result (m-of (goal.at.returns-in-All c).In-All) c.in-All.rest _ c.in-All.is g.ensures.within) in
     record {
       within = omega (arith, p.ensures.within, parts.front_within (whole (goal.at.returns-in-All c).After-common_horizontal_collector_xs-g) (n-of (goal.at.returns-in-All c).After-common_horizontal_collector_xs-g + m-of (goal.at.returns-in-All c).In-All), whole_length (goal.at.returns-in-All c).After-common_horizontal_collector_xs-g);
-      are = parts.second a.role a.pitch a.b ms first a.left.0 _ c.adjacent_lane-lane.ensures near _
+      are = parts.second a.sought.role a.sought.pitch a.sought.bounds ms first a.left.0 _ c.adjacent_lane-lane.ensures near _
           (ap (λ (l : List Float). kept l c.in-All.rest.0)
-          (parts.front_in_order a.role ms (whole (goal.at.returns-in-All c).After-common_horizontal_collector_xs-g) p.new.xs (n-of (goal.at.returns-in-All c).After-common_horizontal_collector_xs-g + m-of (goal.at.returns-in-All c).In-All) p.result p.auto.xs p.ensures
-          ∙ ap (in_order a.role) (parts.both_lists (xs-of (goal.at.returns-in-All c).After-common_horizontal_collector_xs-g) (n-of (goal.at.returns-in-All c).After-common_horizontal_collector_xs-g) (in-front (goal.at.returns-in-All c).After-common_horizontal_collector_xs-g) (ys-of (goal.at.returns-in-All c).After-common_horizontal_collector_xs-g) _ (m-of (goal.at.returns-in-All c).In-All) f))
-          ∙ ap (λ (r : Listed). joined a.role first (told r (ys-of (goal.at.returns-in-All c).After-common_horizontal_collector_xs-g))) (sym c.in-All.is) ∙ ap (joined a.role first) g.ensures.are);
+          (parts.front_in_order a.sought.role ms (whole (goal.at.returns-in-All c).After-common_horizontal_collector_xs-g) p.new.xs (n-of (goal.at.returns-in-All c).After-common_horizontal_collector_xs-g + m-of (goal.at.returns-in-All c).In-All) p.result p.auto.xs p.ensures
+          ∙ ap (in_order a.sought.role) (parts.both_lists (xs-of (goal.at.returns-in-All c).After-common_horizontal_collector_xs-g) (n-of (goal.at.returns-in-All c).After-common_horizontal_collector_xs-g) (in-front (goal.at.returns-in-All c).After-common_horizontal_collector_xs-g) (ys-of (goal.at.returns-in-All c).After-common_horizontal_collector_xs-g) _ (m-of (goal.at.returns-in-All c).In-All) f))
+          ∙ ap (λ (r : Listed). joined a.sought.role first (told r (ys-of (goal.at.returns-in-All c).After-common_horizontal_collector_xs-g))) (sym c.in-All.is) ∙ ap (joined a.sought.role first) g.ensures.are);
     }

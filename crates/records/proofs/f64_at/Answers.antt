@@ -1,5 +1,4 @@
 use Rattle.wire.proofs.AcceptLaws.{not_nan}
-use borrow.Author.Rules.{rules}
 use Rattle.records.proofs.f64_at.Goals as goal
 
 pub float_from_bits-result : goal.float_from_bits-result

@@ -1,5 +1,4 @@
 -- `records::plus` meets its contract. Assumes nothing.
-use borrow.Author.Rules.{rules}
 use borrow.Author.Tests.{lt-ltb, le-ltb}
 use Rattle.records.proofs.plus.Goals as goal
 

@@ -1,4 +1,4 @@
-use Rattle.std.proofs.Common.{◌≡◌, sym, ◌∙◌, ◌+◌, ◌≤◌, ◌<◌, ◌/◌, arith, length}
+use Rattle.std.proofs.Common.{sym, ◌∙◌, ◌+◌, ◌/◌, arith, length}
 use Rattle.std.proofs.lemmas.Result.{err_from_is_err_and}
 use Rattle.checks.specs.CheckRows.{nodes_in}
 use Rattle.checks.proofs.TestSteps.{node_start, node_own, node_spent, node_hit, node_clean, node_end, inside_at, inside_start, inside_slanted, inside_straight, inside_end}

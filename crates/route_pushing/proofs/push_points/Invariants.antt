@@ -6,6 +6,6 @@ use Rattle.route_pushing.proofs.push_points.Given as goal
 
 abbrev pub invariant-loop-i : goal.invariant-loop-i
 invariant-loop-i l = record {
-  most : l.n ≤ l.count + (l.i - l.start);
-  points : push_points (points_from l.out 0 l.n) (points_from l.points l.i (l.end - l.i)) ≡ push_points (points_from l.initial.out 0 l.count) (points_from l.points l.start (l.end - l.start));
+  most : l.n ≤ l.count + l.i;
+  points : push_points (points_from l.out 0 l.n) (points_from l.route.points.now (l.route.start + l.i) (l.route.count - l.i)) ≡ push_points (points_from l.initial.out 0 l.count) (points_from l.route.points.now l.route.start l.route.count);
 }

@@ -1,19 +1,28 @@
-use Rattle.route.proofs.Lines.{Trunk, meets}
-use Rattle.route.proofs.WindowSteps.{within_first}
-use Rattle.route.proofs.Remade.{is_input_trunk}
-use Rattle.route.specs.Intersection.{first_shared_trunk_intersection}
-use Rattle.geometry.specs.Points.{points_from}
-use Rattle.geometry.specs.declared.Role.TheVariants.{Input}
-use native.Mathlib.Omega.{arith}
+use Rattle.route.proofs.WindowSteps.{left_nowhere, put_together, pushed_one}
+use Rattle.route.specs.Rewrite.{rewrite_input_shared_trunk, where_met}
+use Rattle.geometry.specs.Contact.{matches}
+use Rattle.route.specs.Window.{points_length}
+use Rattle.geometry.specs.Lent.{route_lent}
+use Rattle.std.proofs.Common.{arith, ◌∷◌, [], rules, ◌≡◌, None}
 use Rattle.route_rewriting.proofs.rewrite_input_shared_trunk.Goals as goal
 
-pub join-requires : goal.join-requires
-unfolding first_shared_trunk_intersection meets
-join-requires c =
-    let a = c.args in
-    (within_first (Trunk Input a.minimum_length) _ a.points.now a.start a.count _ c.first_shared_trunk_intersection-found.ensures, omega arith, omega arith)
+pub returns-in_err-i : goal.returns-in_err-i
+unfolding rewrite_input_shared_trunk where_met
+returns-in_err-i c =
+    let e : c.from_residual.result ≡ None = search rules in
+    rw (← c.in_err-i.ensures.met, e) (left_nowhere _ _)
+
+pub returns-then-not-preserved_point_matches : goal.returns-then-not-preserved_point_matches
+unfolding rewrite_input_shared_trunk where_met
+returns-then-not-preserved_point_matches c =
+    let m : c.preserved_point_matches.result ≡ matches c.in_ok-i.p c.args.tap = c.preserved_point_matches.ensures in
+    rw (← c.in_ok-i.ensures.met, ← m, c.if-not-preserved_point_matches.true) (left_nowhere _ _)
 
 pub returns : goal.returns
+unfolding rewrite_input_shared_trunk where_met
 returns c =
-    let a = c.args in
-    rw (c.first_shared_trunk_intersection-found.ensures, is_input_trunk (points_from a.points.now a.start a.count) a.tap a.minimum_length) at c.join.ensures
+    let rest = c.after_run-rest in
+    let l = points_length rest.result.points.now rest.result.start rest.result.count in
+    let e = c.push_point-n.ensures in
+    rw (← c.in_ok-i.ensures.met, ← c.preserved_point_matches.ensures, c.if-not-preserved_point_matches.false, ← rest.ensures.points)
+    (put_together c.args.route.count (c.args.tap ∷ []) (route_lent rest.result) (pushed_one c.args.tap e.points e.most) c.push_points.ensures (omega (arith, c.in_ok-i.ensures.within, rest.ensures.count, l)))

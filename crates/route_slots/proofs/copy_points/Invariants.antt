@@ -6,4 +6,4 @@ use Rattle.route_slots.proofs.copy_points.Given as goal
 
 -- what is still to be copied leaves what all of it would
 abbrev pub invariant-loop-i : goal.invariant-loop-i
-invariant-loop-i l = copied_on l.points l.start l.count l.at l.i l.out ≡ put_points l.initial.out l.at (points_from l.points l.start l.count)
+invariant-loop-i l = copied_on l.route.points.now l.route.start l.route.count l.at l.i l.out ≡ put_points l.initial.out l.at (points_from l.route.points.now l.route.start l.route.count)

@@ -9,7 +9,8 @@ use lib.ListN.{length, get_or, take, length-set}
 use lib.Ieee.{Float}
 use Rattle.search.specs.declared.Candidate.{Candidate}
 use Rattle.search.specs.declared.Candidate.TheVariants.{Missing, At}
-use Rattle.search.specs.Stretches.{members, routes, all_runs}
+use Rattle.search.specs.Stretches.{all_runs}
+use Rattle.search.specs.Lent.{members_lent}
 use Rattle.geometry.specs.Points.{points_from}
 use Rattle.search.specs.Kept.{kept}
 use Rattle.search.specs.Search.{candidate, onto, gathered_onto}
@@ -23,42 +24,42 @@ use Rattle.search_lists.proofs.gather.Goals.{After-candidate_of-c, At-loop-i, At
 abbrev from : At-loop-m → ℕ → List (Option (Float × Float))
 from s m =
     let a = s.args in
-    from_member a.points.now a.role a.pitch a.starts.now a.counts.now m
+    from_member a.routes.points.now a.sought.role a.sought.pitch a.routes.starts.now a.routes.counts.now m
 
 -- the runs of all members
 abbrev all : At-loop-m → List (Option (Float × Float))
 all s =
     let a = s.args in
-    all_runs (members a.role a.pitch (routes a.points.now a.starts.now a.counts.now))
+    all_runs (members_lent a.sought.role a.sought.pitch a.routes)
 
 -- those of member m from run i on, and of the members behind it
 abbrev behind : At-loop-i → ℕ → List (Option (Float × Float))
 behind r i =
     let a = r.args in
-    R a.points.now a.role a.pitch (get_or a.starts.now r.loop-m.m 0 + i) (get_or a.counts.now r.loop-m.m 0 - i) ++ from (goal.at.At-loop-i r).At-loop-m (r.loop-m.m + 1)
+    R a.routes.points.now a.sought.role a.sought.pitch (get_or a.routes.starts.now r.loop-m.m 0 + i) (get_or a.routes.counts.now r.loop-m.m 0 - i) ++ from (goal.at.At-loop-i r).At-loop-m (r.loop-m.m + 1)
 
 -- the whole pass, at the members' loop
 whole : (s : At-loop-m)
     → let a = s.args in
-    gathered_onto a.role a.b (a.b.desired ∷ []) (all s) a.granted.0 ≡ gathered_onto a.role a.b (take s.loop-m.n s.loop-m.xs) (from s s.loop-m.m) s.loop-m.left
+    gathered_onto a.sought.role a.sought.bounds (a.sought.bounds.desired ∷ []) (all s) a.granted.0 ≡ gathered_onto a.sought.role a.sought.bounds (take s.loop-m.n s.loop-m.xs) (from s s.loop-m.m) s.loop-m.left
 whole s =
     let a = s.args in
     let h : 0 < length a.xs.now = omega arith in
-    ap (λ (l : List Float). gathered_onto a.role a.b l (all s) a.granted.0) (walk.stored a.xs.now 0 a.b.desired h) ∙ s.loop-m.invariant.passed
+    ap (λ (l : List Float). gathered_onto a.sought.role a.sought.bounds l (all s) a.granted.0) (walk.stored a.xs.now 0 a.sought.bounds.desired h) ∙ s.loop-m.invariant.passed
 
 next-member : (s : At-loop-m)
     → let a = s.args in
-    s.loop-m.m < length a.starts.now
-    → from s s.loop-m.m ≡ R a.points.now a.role a.pitch (get_or a.starts.now s.loop-m.m 0) (get_or a.counts.now s.loop-m.m 0) ++ from s (s.loop-m.m + 1)
+    s.loop-m.m < length a.routes.starts.now
+    → from s s.loop-m.m ≡ R a.routes.points.now a.sought.role a.sought.pitch (get_or a.routes.starts.now s.loop-m.m 0) (get_or a.routes.counts.now s.loop-m.m 0) ++ from s (s.loop-m.m + 1)
 next-member s h =
     let a = s.args in
-    ap all_runs (walk.members_next a.points.now a.role a.pitch a.starts.now a.counts.now s.requires.windows.paired s.loop-m.m h) ∙ walk.runs_next _ _
+    ap all_runs (walk.members_next a.routes.points.now a.sought.role a.sought.pitch a.routes.starts.now a.routes.counts.now a.routes.windows.paired s.loop-m.m h) ∙ walk.runs_next _ _
 
 -- what is left of the pass at the members' loop, at the runs' loop
 part : (r : At-loop-i)
     → let a = r.args in
-    gathered_onto a.role a.b (take r.loop-m.n r.loop-m.xs) (from (goal.at.At-loop-i r).At-loop-m r.loop-m.m) r.loop-m.left
-    ≡ gathered_onto a.role a.b (take r.loop-i.n r.loop-i.xs) (behind r r.loop-i.i) r.loop-i.left
+    gathered_onto a.sought.role a.sought.bounds (take r.loop-m.n r.loop-m.xs) (from (goal.at.At-loop-i r).At-loop-m r.loop-m.m) r.loop-m.left
+    ≡ gathered_onto a.sought.role a.sought.bounds (take r.loop-i.n r.loop-i.xs) (behind r r.loop-i.i) r.loop-i.left
 part r = rw (next-member (goal.at.At-loop-i r).At-loop-m r.loop-m-test.true) r.loop-i.invariant.passed
 
 -- what is left to keep at the members' loop, at the runs' loop
@@ -71,16 +72,16 @@ kept-part r = rw (next-member (goal.at.At-loop-i r).At-loop-m r.loop-m-test.true
 next-run : (c : In-loop-i)
     → let a = c.args in
     let r = (goal.at.In-loop-i c).At-loop-i in
-    behind r c.loop-i.i ≡ run a.points.now a.role a.pitch (get_or a.starts.now c.loop-m.m 0 + c.loop-i.i) ∷ behind r (c.loop-i.i + 1)
+    behind r c.loop-i.i ≡ run a.routes.points.now a.sought.role a.sought.pitch (get_or a.routes.starts.now c.loop-m.m 0 + c.loop-i.i) ∷ behind r (c.loop-i.i + 1)
 next-run c =
     let a = c.args in
     let i = c.loop-i.i in
-    let start = get_or a.starts.now c.loop-m.m 0 in
-    let count = get_or a.counts.now c.loop-m.m 0 in
+    let start = get_or a.routes.starts.now c.loop-m.m 0 in
+    let count = get_or a.routes.counts.now c.loop-m.m 0 in
     let e : start + (i + 1) ≡ start + i + 1 = omega arith in
     let f : count - (i + 1) ≡ count - i - 1 = omega arith in
     let h : 1 < count - i = omega arith in
-    rw (e, f) (ap (λ (l : List (Option (Float × Float))). l ++ from (goal.at.In-loop-i c).At-loop-m (c.loop-m.m + 1)) (walk.more a.points.now a.role a.pitch (start + i) (count - i) h))
+    rw (e, f) (ap (λ (l : List (Option (Float × Float))). l ++ from (goal.at.In-loop-i c).At-loop-m (c.loop-m.m + 1)) (walk.more a.routes.points.now a.sought.role a.sought.pitch (start + i) (count - i) h))
 
 room : (c : In-loop-i) → c.loop-i.n + 1 + length (behind (goal.at.In-loop-i c).At-loop-i (c.loop-i.i + 1)) ≤ length c.loop-i.xs
 room c = omega (arith, rw (next-run c) at c.loop-i.invariant.room)
@@ -92,14 +93,14 @@ pair-room c = omega (arith, rw (next-run c) at c.loop-i.invariant.pair_room)
 stepped : (e : After-candidate_of-c) (o : Candidate) → e.candidate_of-c.result ≡ o
     → let a = e.args in
     let r = (goal.at.After-candidate_of-c e).At-loop-i in
-    gathered_onto a.role a.b (take e.loop-i.n e.loop-i.xs) (behind r e.loop-i.i) e.loop-i.left
-    ≡ gathered_onto a.role a.b (onto (take e.loop-i.n e.loop-i.xs) o) (behind r (e.loop-i.i + 1)) (e.loop-i.left - 1)
+    gathered_onto a.sought.role a.sought.bounds (take e.loop-i.n e.loop-i.xs) (behind r e.loop-i.i) e.loop-i.left
+    ≡ gathered_onto a.sought.role a.sought.bounds (onto (take e.loop-i.n e.loop-i.xs) o) (behind r (e.loop-i.i + 1)) (e.loop-i.left - 1)
 stepped e o g =
     let a = e.args in
-    let s = run a.points.now a.role a.pitch (get_or a.starts.now e.loop-m.m 0 + e.loop-i.i) in
+    let s = run a.routes.points.now a.sought.role a.sought.pitch (get_or a.routes.starts.now e.loop-m.m 0 + e.loop-i.i) in
     let v : 0 < e.loop-i.left = omega arith in
-    let k : candidate a.role a.b s ≡ o = ap (candidate a.role a.b) (sym e.run_stretch-s.ensures) ∙ sym e.candidate_of-c.ensures ∙ g in
-    rw (next-run (goal.at.After-candidate_of-c e).In-loop-i) (walk.gather_step a.role a.b (take e.loop-i.n e.loop-i.xs) s (behind (goal.at.After-candidate_of-c e).At-loop-i (e.loop-i.i + 1)) e.loop-i.left o v k)
+    let k : candidate a.sought.role a.sought.bounds s ≡ o = ap (candidate a.sought.role a.sought.bounds) (sym e.run_stretch-s.ensures) ∙ sym e.candidate_of-c.ensures ∙ g in
+    rw (next-run (goal.at.After-candidate_of-c e).In-loop-i) (walk.gather_step a.sought.role a.sought.bounds (take e.loop-i.n e.loop-i.xs) s (behind (goal.at.After-candidate_of-c e).At-loop-i (e.loop-i.i + 1)) e.loop-i.left o v k)
 
 -- a run's pair is kept
 kept_more : (e : After-candidate_of-c)
@@ -107,7 +108,7 @@ kept_more : (e : After-candidate_of-c)
     points_from e.loop-i.kept 0 e.loop-i.k ++ map kept (behind r e.loop-i.i) ≡ points_from e.put_point.new.out 0 (e.loop-i.k + 1) ++ map kept (behind r (e.loop-i.i + 1))
 kept_more e =
     let a = e.args in
-    let s = run a.points.now a.role a.pitch (get_or a.starts.now e.loop-m.m 0 + e.loop-i.i) in
+    let s = run a.routes.points.now a.sought.role a.sought.pitch (get_or a.routes.starts.now e.loop-m.m 0 + e.loop-i.i) in
     let h : 2 * (e.loop-i.k + 1) ≤ length e.loop-i.kept = omega (arith, pair-room (goal.at.After-candidate_of-c e).In-loop-i) in
     rw (next-run (goal.at.After-candidate_of-c e).In-loop-i) (laws.kept_step e.loop-i.kept e.put_point.new.out e.loop-i.k e.kept_of.result s (behind (goal.at.After-candidate_of-c e).At-loop-i (e.loop-i.i + 1))
     h (e.kept_of.ensures ∙ ap kept e.run_stretch-s.ensures) e.put_point.ensures)
@@ -116,7 +117,7 @@ pub loop-m-init : goal.loop-m-init
 unfolding points_from
 loop-m-init c =
     let a = c.args in record {
-      room = omega (arith, length-set a.xs.now 0 a.b.desired);
+      room = omega (arith, length-set a.xs.now 0 a.sought.bounds.desired);
       passed = refl;
       pair_room = omega (arith, c.requires);
       keeps = refl;
@@ -126,8 +127,8 @@ pub loop-i-init : goal.loop-i-init
 loop-i-init c =
     let a = c.args in
     let next = next-member (goal.at.loop-i-init c).At-loop-m c.loop-m-test.true in
-    let e : get_or a.starts.now c.loop-m.m 0 + 0 ≡ get_or a.starts.now c.loop-m.m 0 = omega arith in
-    let f : get_or a.counts.now c.loop-m.m 0 - 0 ≡ get_or a.counts.now c.loop-m.m 0 = omega arith in record {
+    let e : get_or a.routes.starts.now c.loop-m.m 0 + 0 ≡ get_or a.routes.starts.now c.loop-m.m 0 = omega arith in
+    let f : get_or a.routes.counts.now c.loop-m.m 0 - 0 ≡ get_or a.routes.counts.now c.loop-m.m 0 = omega arith in record {
       room = rw (e, f) (rw next at c.loop-m.invariant.room);
       passed = rw (e, f);
       pair_room = rw (e, f) (rw next at c.loop-m.invariant.pair_room);
@@ -138,9 +139,9 @@ pub loop-m-preserved : goal.loop-m-preserved
 loop-m-preserved c =
     let a = c.args in
     let r = (goal.at.loop-m-preserved c).At-loop-i in
-    let last : get_or a.counts.now c.loop-m.m 0 - c.loop-i.i ≤ 1 = omega arith in
+    let last : get_or a.routes.counts.now c.loop-m.m 0 - c.loop-i.i ≤ 1 = omega arith in
     let e : behind r c.loop-i.i ≡ from (goal.at.loop-m-preserved c).At-loop-m (c.loop-m.m + 1) =
-    ap (λ (l : List (Option (Float × Float))). l ++ from (goal.at.loop-m-preserved c).At-loop-m (c.loop-m.m + 1)) (walk.none a.points.now a.role a.pitch _ _ last) in record {
+    ap (λ (l : List (Option (Float × Float))). l ++ from (goal.at.loop-m-preserved c).At-loop-m (c.loop-m.m + 1)) (walk.none a.routes.points.now a.sought.role a.sought.pitch _ _ last) in record {
       room = rw e at c.loop-i.invariant.room;
       passed = c.loop-m.invariant.passed ∙ part r ∙ rw e;
       pair_room = rw e at c.loop-i.invariant.pair_room;
@@ -152,7 +153,7 @@ returns-then-left-eq0-clause-found c =
     let a = c.args in record {
       within = tt;
       are = sym (whole (goal.at.returns-then-left-eq0-clause-found c).At-loop-m ∙ part (goal.at.returns-then-left-eq0-clause-found c).At-loop-i
-          ∙ rw (next-run (goal.at.returns-then-left-eq0-clause-found c).In-loop-i) (walk.gather_spent a.role a.b _ _ _ c.loop-i.left c.if-left-eq0.true));
+          ∙ rw (next-run (goal.at.returns-then-left-eq0-clause-found c).In-loop-i) (walk.gather_spent a.sought.role a.sought.bounds _ _ _ c.loop-i.left c.if-left-eq0.true));
     }
 
 pub put_point-requires : goal.put_point-requires
@@ -183,17 +184,17 @@ loop-i-preserved c =
       }
     ]
 
-end : (s : At-loop-m) → length s.args.starts.now ≤ s.loop-m.m → from s s.loop-m.m ≡ []
+end : (s : At-loop-m) → length s.args.routes.starts.now ≤ s.loop-m.m → from s s.loop-m.m ≡ []
 end s h =
     let a = s.args in
-    ap all_runs (walk.members_end a.points.now a.role a.pitch a.starts.now a.counts.now s.requires.windows.paired s.loop-m.m h) ∙ walk.runs_end
+    ap all_runs (walk.members_end a.routes.points.now a.sought.role a.sought.pitch a.routes.starts.now a.routes.counts.now a.routes.windows.paired s.loop-m.m h) ∙ walk.runs_end
 
 pub returns-clause-found : goal.returns-clause-found
 returns-clause-found c =
     let a = c.args in
     let s = (goal.at.returns-clause-found c).At-loop-m in record {
-      within = omega (arith, length-set a.xs.now 0 a.b.desired);
-      are = sym (whole s ∙ rw (end s c.loop-m-test.false) (walk.gather_end a.role a.b _ _));
+      within = omega (arith, length-set a.xs.now 0 a.sought.bounds.desired);
+      are = sym (whole s ∙ rw (end s c.loop-m-test.false) (walk.gather_end a.sought.role a.sought.bounds _ _));
     }
 
 pub returns-clause-keeps : goal.returns-clause-keeps

@@ -4,4 +4,4 @@ use Rattle.search_calls.specs.Entry.{places_fit}
 use Rattle.search_refusals.proofs.places_fit.Given as goal
 
 abbrev pub invariant-loop-m : goal.invariant-loop-m
-invariant-loop-m l = places_fit l.points l.starts l.counts ≡ places_fit l.points (drop l.m l.starts) (drop l.m l.counts)
+invariant-loop-m l = places_fit l.lent.points.now l.lent.starts.now l.lent.counts.now ≡ places_fit l.lent.points.now (drop l.m l.lent.starts.now) (drop l.m l.lent.counts.now)

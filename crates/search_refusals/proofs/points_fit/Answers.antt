@@ -7,19 +7,19 @@ pub returns-then-not-is_point : goal.returns-then-not-is_point
 returns-then-not-is_point c =
     let a = c.args in
     let k = c.loop-k.k in
-    let next = laws.points_next a.points.now (a.start + k) (a.count - k) (omega arith) in
-    sym (c.loop-k.invariant ∙ next ∙ rw (← c.route_point.ensures, ← c.is_point.ensures, c.if-not-is_point.true))
+    let next = laws.points_next a.route.points.now (a.route.start + k) (a.route.count - k) (omega arith) in
+    sym (c.loop-k.invariant ∙ next ∙ rw (← c.view_point.ensures, ← c.is_point.ensures, c.if-not-is_point.true))
 
 pub loop-k-preserved : goal.loop-k-preserved
 loop-k-preserved c =
     let a = c.args in
     let k = c.loop-k.k in
-    let next = laws.points_next a.points.now (a.start + k) (a.count - k) (omega arith) in
-    let e : a.start + (k + 1) ≡ a.start + k + 1 = omega arith in
-    let f : a.count - (k + 1) ≡ a.count - k - 1 = omega arith in
-    c.loop-k.invariant ∙ next ∙ rw (← c.route_point.ensures, ← c.is_point.ensures, c.if-not-is_point.false, e, f)
+    let next = laws.points_next a.route.points.now (a.route.start + k) (a.route.count - k) (omega arith) in
+    let e : a.route.start + (k + 1) ≡ a.route.start + k + 1 = omega arith in
+    let f : a.route.count - (k + 1) ≡ a.route.count - k - 1 = omega arith in
+    c.loop-k.invariant ∙ next ∙ rw (← c.view_point.ensures, ← c.is_point.ensures, c.if-not-is_point.false, e, f)
 
 pub returns : goal.returns
 returns c =
     let a = c.args in
-    sym (c.loop-k.invariant ∙ laws.points_end a.points.now (a.start + c.loop-k.k) (a.count - c.loop-k.k) (omega arith))
+    sym (c.loop-k.invariant ∙ laws.points_end a.route.points.now (a.route.start + c.loop-k.k) (a.route.count - c.loop-k.k) (omega arith))

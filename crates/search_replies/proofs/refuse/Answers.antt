@@ -1,7 +1,6 @@
 -- `search_replies::refuse` meets its contract. Assumes nothing.
 use mathlib.Core.Path.{refl}
 use lib.Ieee.{of_bits}
-use borrow.Author.Rules.{rules}
 use Rattle.search_replies.proofs.refuse.Goals as goal
 
 pub returns : goal.returns

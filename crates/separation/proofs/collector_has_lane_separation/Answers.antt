@@ -1,20 +1,13 @@
 -- `separation::collector_has_lane_separation` meets its contract. Assumes nothing.
-use mathlib.Core.Path.{◌≡◌, refl, sym, ◌∙◌, ap}
-use Prim.Native.Nat.{ℕ, ◌+◌, ◌-◌, ◌≤◌, ◌<◌}
-use native.Mathlib.Omega.{arith}
-use lib.ListN.{length, get_or, take, drop}
-use lib.Ieee.{Float, of_bits, nan, le, sub, binary64}
+use mathlib.Core.Path.{◌∙◌, ap}
+use lib.ListN.{get_or}
+use lib.Ieee.{of_bits, nan, le, sub, binary64}
 use Rattle.binary64.specs.Order.{tolerance}
-use Rattle.plan.specs.Plan.{clear}
 use Rattle.plan.proofs.TableReads as rows
 use Rattle.separation.proofs.TakenTurns as laws
-use borrow.Author.Rules.{rules}
 use borrow.Author.Tests.{not-true, not-false}
 use Rattle.std.proofs.Common.{not}
 use Rattle.separation.proofs.collector_has_lane_separation.Goals as goal
-
-pub loop-i-init : goal.loop-i-init
-loop-i-init c = refl
 
 pub returns-then-not-abs-least : goal.returns-then-not-abs-least
 unfolding of_bits
@@ -22,7 +15,7 @@ returns-then-not-abs-least c =
     let a = c.args in
     let l = c.loop-i in
     let t = c.loop-i-test.true in
-    laws.clear_no a.pitch a.x (get_or a.used.now l.i nan) _ _ (rows.part_cons a.used.now a.count l.i nan t c.requires) (rw c.abs.ensures at (not-true (le (sub binary64 a.pitch tolerance) c.abs.result) (ap not c.if-not-abs-least.true))) ∙ l.invariant
+    laws.clear_no a.pitch a.x (get_or a.used.now l.i nan) _ _ (rows.rest_cons a.used.now l.i nan t) (rw c.abs.ensures at (not-true (le (sub binary64 a.pitch tolerance) c.abs.result) (ap not c.if-not-abs-least.true))) ∙ l.invariant
 
 pub loop-i-preserved : goal.loop-i-preserved
 unfolding of_bits
@@ -30,10 +23,10 @@ loop-i-preserved c =
     let a = c.args in
     let l = c.loop-i in
     let t = c.loop-i-test.true in
-    laws.clear_on a.pitch a.x (get_or a.used.now l.i nan) _ _ (rows.part_cons a.used.now a.count l.i nan t c.requires) (rw c.abs.ensures at (not-false (le (sub binary64 a.pitch tolerance) c.abs.result) (ap not c.if-not-abs-least.false))) ∙ l.invariant
+    laws.clear_on a.pitch a.x (get_or a.used.now l.i nan) _ _ (rows.rest_cons a.used.now l.i nan t) (rw c.abs.ensures at (not-false (le (sub binary64 a.pitch tolerance) c.abs.result) (ap not c.if-not-abs-least.false))) ∙ l.invariant
 
 pub returns : goal.returns
 returns c =
     let a = c.args in
     let l = c.loop-i in
-    laws.clear_end a.pitch a.x _ (rows.part_none a.used.now a.count l.i c.loop-i-test.false c.requires) ∙ l.invariant
+    laws.clear_end a.pitch a.x _ (rows.rest_none a.used.now l.i c.loop-i-test.false) ∙ l.invariant

@@ -1,11 +1,4 @@
 -- `separation::lanes_of` meets its contract. Assumes nothing.
-use mathlib.Core.Path.{◌≡◌, refl, sym, ◌∙◌, ap}
-use mathlib.Core.List.{List, []}
-use Prim.Native.Nat.{ℕ, ◌+◌, suc}
-use native.Mathlib.Omega.{arith}
-use lib.ListN.{take, set}
-use lib.Seq.{take-suc-set}
-use lib.Ieee.{Float}
 use borrow.Author.Rules.{rules}
 use Rattle.separation.proofs.lanes_of.Goals as goal
 

@@ -1,20 +1,17 @@
 -- `separation::separate` meets its contract. Assumes nothing.
-use mathlib.Core.Path.{◌≡◌, refl, sym, ◌∙◌, ap}
+use mathlib.Core.Path.{◌≡◌, ◌∙◌, ap}
 use mathlib.Core.List.{List, map}
-use Prim.Native.Nat.{ℕ, ◌+◌, ◌-◌, ◌≤◌, ◌<◌}
+use Prim.Native.Nat.{ℕ, ◌+◌, ◌≤◌, ◌<◌}
 use native.Mathlib.Omega.{arith}
 use lib.ListN.{length, get_or, take, drop, set, length-set}
-use lib.Seq.{get_or-take}
 use lib.Ieee.{Float}
 use Rattle.limits.specs.Limits.{max_bundles}
-use Rattle.geometry.specs.Points.{Route}
-use Rattle.board.specs.Board.{Board}
 use Rattle.search.specs.Search.{search_of}
 use Rattle.plan.specs.declared.Bound.{Bound}
-use Rattle.plan.specs.Plan.{Ranged, Lanes, beside, if_clear, found_x, lanes_of, separated}
+use Rattle.plan.specs.Plan.{beside, separated}
 use Rattle.plan.specs.Prepared.{ranged_from, x_of, no_planned, no_range, range_at, plan_in}
 use Rattle.plan.proofs.TableReads as rows
-use Rattle.separation.specs.Taken.{lanes_in, none_taken, RangesTell}
+use Rattle.separation.specs.Taken.{lanes_in}
 use Rattle.separation.proofs.TakenTurns as laws
 use borrow.Author.Rules.{rules}
 use Rattle.separation.proofs.separate.Goals as goal
@@ -22,42 +19,6 @@ use Rattle.separation.proofs.separate.Goals.{Start}
 
 rows_length : (s : Start) → length s.args.t.rows ≡ max_bundles
 rows_length s = search (rules, rows.length_mapped)
-
-pub loop-i-init : goal.loop-i-init
-loop-i-init c =
-    record { rows_length = search (rules, rows.length_mapped); inputs_few = omega arith; outputs_few = omega arith; plan_is = λ b given t. refl }
-
-pub beside_planned-r-requires : goal.beside_planned-r-requires
-beside_planned-r-requires c =
-    let l = c.loop-i in
-    let p = c.requires.searchable in
-    let few = c.lanes_of-taken.ensures.few l.i l.invariant.inputs_few l.invariant.outputs_few in record { searchable = record { paired = p.paired; windows = p.windows; room = omega (arith, p.room); scratch_room = omega (arith, p.scratch_room) }; among = c.requires.ranges_fit.each l.i c.loop-i-test.true; count_in_bounds = omega (arith, few, c.lanes_of-taken.ensures.size, c.loop-i-test.true, c.requires.ranges_fit.bundles_few) }
-
-pub if_clear-x-requires : goal.if_clear-x-requires
-if_clear-x-requires c =
-    let l = c.loop-i in
-    omega (arith, c.lanes_of-taken.ensures.few l.i l.invariant.inputs_few l.invariant.outputs_few, c.lanes_of-taken.ensures.size, c.loop-i-test.true, c.requires.ranges_fit.bundles_few)
-
-pub offset_bounds-rows-i-in-loop-i : goal.offset_bounds-rows-i-in-loop-i
-offset_bounds-rows-i-in-loop-i c =
-    let l = c.loop-i in
-    let h = c.loop-i-test.true in
-    let few = c.requires.ranges_fit.bundles_few in
-    search rules
-
-pub bounds-rows-i-in-loop-i : goal.bounds-rows-i-in-loop-i
-bounds-rows-i-in-loop-i c =
-    let l = c.loop-i in
-    let h = c.loop-i-test.true in
-    let few = c.requires.ranges_fit.bundles_few in
-    omega (arith, h, few, l.invariant.rows_length)
-
-pub add_lane-lanes-requires : goal.add_lane-lanes-requires
-add_lane-lanes-requires c =
-    let l = c.loop-i in
-    let h = c.loop-i-test.true in
-    let few = c.requires.ranges_fit.bundles_few in
-    (omega (arith, h, few, l.invariant.inputs_few), omega (arith, h, few, l.invariant.outputs_few))
 
 pub loop-i-preserved : goal.loop-i-preserved
 loop-i-preserved c =
@@ -71,7 +32,7 @@ loop-i-preserved c =
     let r : a.n ≤ length l.rows = omega (arith, few, l.invariant.rows_length) in
     let y = c.if_clear-x in
     let d = c.add_lane-lanes in
-    let f = c.beside_planned-r in
+    let f = c.beside-r in
     let u = c.lanes_of-taken.ensures.told in record {
       rows_length = length-set l.rows l.i (record { x = y.result }) ∙ l.invariant.rows_length;
       inputs_few = omega (arith, l.invariant.inputs_few, d.ensures.few.0);
@@ -82,7 +43,7 @@ loop-i-preserved c =
           ∙ laws.separated_turn b given _ _ (ranged_from (range_at a.t l.i)) _ _ (get_or l.rows l.i no_planned).x y.result (lanes_in l.lanes) (lanes_in d.result) l.left.0 f.result l.i l.rows
           (ap (map ranged_from) (rows.part_cons a.t.rows a.n l.i no_range h q)) (ap (map x_of) (rows.part_cons l.rows a.n l.i no_planned h r)) g
           (f.ensures b given (t.pitch_is l.i h) (t.routed l.i h) ∙ ap (λ (ys : List Float). beside search_of b given (ranged_from (range_at a.t l.i)) (get_or l.rows l.i no_planned).x ys l.left.0) u)
-          (laws.if_clear_same y.result a.pitch _ c.found_x-found.result _ _ _ y.ensures (t.pitch_is l.i h) c.found_x-found.ensures u) d.ensures.told
+          (laws.if_clear_same y.result a.layout.pitch _ c.found_x-found.result _ _ _ y.ensures (t.pitch_is l.i h) c.found_x-found.ensures u) d.ensures.told
           ∙ l.invariant.plan_is b given t;
     }
 

@@ -1,11 +1,9 @@
 -- `separation::taken_with` meets its contract. Assumes nothing.
-use mathlib.Core.Path.{◌≡◌, refl, sym, ◌∙◌, ap}
-use mathlib.Core.List.{List, []}
+use mathlib.Core.Path.{◌≡◌, refl, ◌∙◌, ap}
 use Prim.Native.Nat.{ℕ, ◌+◌, suc}
 use native.Mathlib.Omega.{arith}
 use lib.ListN.{length, take, set}
 use lib.Seq.{take-suc-set}
-use lib.Ieee.{Float}
 use borrow.Author.Rules.{rules}
 use Rattle.limits.specs.Limits.{max_bundles}
 use Rattle.separation.proofs.taken_with.Goals as goal

@@ -1,4 +1,3 @@
-use borrow.Author.Rules.{rules}
 use Rattle.shapes.proofs.run_enters.Goals as goal
 
 pub returns : goal.returns

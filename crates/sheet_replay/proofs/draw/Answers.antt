@@ -19,6 +19,6 @@ draw_in-requires c =
         edges_long = length-take-le _ _ fits.members;
         lanes_long = length-take-le _ _ fits.members;
         counts_long = length-take-le _ _ fits.edges;
-        room = laws.room_for _ _ _ _ _ _ _ fits.members fits.edges refl slots (length-take-le _ _ fits.edges) refl refl;
+        room = laws.room_for _ _ _ _ _ fits.members fits.edges refl slots (length-take-le _ _ fits.edges);
       };
     }

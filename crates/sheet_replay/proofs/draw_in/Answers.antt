@@ -19,19 +19,19 @@ sizes s = record {
   members = let g = s.well_formed.0.1.1.1.1.1.1.1.1.1.0 in search (rules, rows.length_mapped, g);
 }
 
-pub corridor_depth_offsets-offsets-requires : goal.corridor_depth_offsets-offsets-requires
-corridor_depth_offsets-offsets-requires c =
+pub invariant_of-board : goal.invariant_of-board
+invariant_of-board c =
     let a = c.args in
-    tables_sound a.j a.given.now c.requires.came.0 (sizes (goal.at.corridor_depth_offsets-offsets-requires c).Start)
+    record { sound = tables_sound a.j a.given.now c.requires.came.0 (sizes (goal.at.invariant_of-board c).Start) }
 
 pub draw_sheet-d-requires : goal.draw_sheet-d-requires
 draw_sheet-d-requires c =
     let a = c.args in
     let lent = c.requires.lent in
-    record { tables = (tables_sound a.j a.given.now c.requires.came.0 (sizes (goal.at.draw_sheet-d-requires c).Start), routes_in a.j a.given.now c.requires.came.0 (sizes (goal.at.draw_sheet-d-requires c).Start)); once = (ready.follow a.j a.given.now c.requires.came.0 (sizes (goal.at.draw_sheet-d-requires c).Start), ready.once_a_role a.j a.given.now c.requires.came.0 (sizes (goal.at.draw_sheet-d-requires c).Start)); exact = (lent.edges_long, lent.lanes_long, lent.counts_long); room = lent.room }
+    record { tables = routes_in a.j a.given.now c.requires.came.0 (sizes (goal.at.draw_sheet-d-requires c).Start); once = (ready.follow a.j a.given.now c.requires.came.0 (sizes (goal.at.draw_sheet-d-requires c).Start), ready.once_a_role a.j a.given.now c.requires.came.0 (sizes (goal.at.draw_sheet-d-requires c).Start)); exact = (lent.edges_long, lent.lanes_long, lent.counts_long); room = lent.room }
 
 pub put_pages-requires : goal.put_pages-requires
 put_pages-requires c =
     let a = c.args in
     let d = c.draw_sheet-d in
-    record { on_sheet = laws.on_sheet a.j a.given.now c.requires.came.0 (sizes (goal.at.put_pages-requires c).Start) _ _ _ _ _ _ _ c.requires.lent (told d.result.ended d.new.visits.0) d.result.drawn d.new.edges d.new.lanes d.new.taps d.new.points d.new.counts d.auto.taps d.auto.points d.auto.counts _ (laws.ended_clean d.result.ended d.new.visits.0 _ c.in-Ok.is) d.ensures.members d.ensures.rows d.ensures.full d.ensures.hold; any_answer_room_in_bounds = c.requires.came.1 }
+    record { on_sheet = laws.on_sheet a.j a.given.now c.requires.came.0 (sizes (goal.at.put_pages-requires c).Start) _ _ _ _ _ c.requires.lent (told d.result.ended d.new.visits.0) d.result.drawn d.new.edges d.new.lanes d.new.taps d.new.points d.new.counts d.auto.taps d.auto.points d.auto.counts _ (laws.ended_clean d.result.ended d.new.visits.0 _ c.in-Ok.is) d.ensures.members d.ensures.rows d.ensures.full d.ensures.hold; any_answer_room_in_bounds = c.requires.came.1 }

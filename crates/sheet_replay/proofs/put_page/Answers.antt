@@ -19,6 +19,6 @@ write_answer-n-requires c =
       held = c.requires.count_in_bounds.2;
       bundles = c.requires.count_le_max_nodes.2;
       taps = omega (arith, t.ensures.count_is, c.requires.count_le_max_nodes.3);
-      windows = subst (Windows a.drawn.count a.drawn.rows) (sym t.ensures.count_is) c.requires.windows.0;
-      room_for_it = room_in a.f a.nodes a.table a.points.now a.counts.now a.drawn t.result c.requires.count_le_max_nodes.0 c.requires.count_le_max_nodes.1 c.requires.count_in_bounds.2 c.requires.count_le_max_nodes.2 (omega (arith, t.ensures.count_is, c.requires.count_le_max_nodes.3)) (length a.page.now) c.requires.members_on.1;
+      windows = subst (Windows a.s.drawn.count a.s.drawn.rows) (sym t.ensures.count_is) c.requires.windows.0;
+      room_for_it = room_in a.f a.s.nodes a.j.edges a.s.points.now a.s.counts.now a.s.drawn t.result c.requires.count_le_max_nodes.0 c.requires.count_le_max_nodes.1 c.requires.count_in_bounds.2 c.requires.count_le_max_nodes.2 (omega (arith, t.ensures.count_is, c.requires.count_le_max_nodes.3)) (length a.page.now) c.requires.members_on.1;
     }

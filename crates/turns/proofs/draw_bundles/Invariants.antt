@@ -11,10 +11,10 @@ use Rattle.turns.proofs.draw_bundles.Given as goal
 abbrev pub invariant-loop-i : goal.invariant-loop-i
 invariant-loop-i l = record {
   drawn_to : l.drawn.count ≡ l.i;
-  rest : Rest (drop l.i (take l.bundles.count l.bundles.rows)) (take l.drawn.count l.drawn.rows) l.edges l.lanes l.counts;
-  rows : Rows (take l.drawn.count l.bundles.rows) (take l.drawn.count l.drawn.rows);
-  told : (b : Board) → Shows b l.o l.boxes l.ends l.spots l.bundles (members_all l.edges l.lanes)
-      → sheet_of b l.allow (turns_at l.bundles.rows l.plan l.offsets.rows l.bundles.count l.i) (standing (routes_of l.points l.counts) (map (drawn_of l.edges l.taps) (take l.drawn.count l.drawn.rows)) l.visits.0)
-      ≡ sheet_of b l.allow (turns_at l.bundles.rows l.plan l.offsets.rows l.bundles.count 0) (standing (routes_of l.initial.points l.initial.counts) [] l.initial.visits.0);
+  rest : Rest (drop l.i (take l.turns.bundles.now.count l.turns.bundles.now.rows)) (take l.drawn.count l.drawn.rows) l.table.edges.now l.table.lanes.now l.counts;
+  rows : Rows (take l.drawn.count l.turns.bundles.now.rows) (take l.drawn.count l.drawn.rows);
+  told : (b : Board) → Shows b l.rules.options l.board.boxes.now l.board.ends.now l.turns.spots.now l.turns.bundles.now (members_all l.table.edges.now l.table.lanes.now)
+      → sheet_of b l.rules.permits_crossings (turns_at l.turns.bundles.now.rows l.turns.plan.now l.turns.offsets.now l.turns.bundles.now.count l.i) (standing (routes_of l.points l.counts) (map (drawn_of l.table.edges.now l.taps) (take l.drawn.count l.drawn.rows)) l.visits.0)
+      ≡ sheet_of b l.rules.permits_crossings (turns_at l.turns.bundles.now.rows l.turns.plan.now l.turns.offsets.now l.turns.bundles.now.count 0) (standing (routes_of l.initial.points l.initial.counts) [] l.initial.visits.0);
   long : length l.drawn.rows ≡ max_bundles;
 }

@@ -1,4 +1,3 @@
-use borrow.Author.Rules.{rules}
 use mathlib.Core.Path.{ap, ◌∙◌}
 use Rattle.geometry.specs.declared.Node.{Node}
 use Rattle.geometry.specs.Port.{port_point}

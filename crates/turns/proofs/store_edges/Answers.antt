@@ -1,13 +1,8 @@
-use Rattle.std.proofs.Common.{arith, rules, ◌≡◌, refl, ◌<◌, ◌+◌, ◌*◌, length}
-use Rattle.limits.specs.Limits.{max_edges}
+use Rattle.std.proofs.Common.{arith, refl, ◌<◌, length}
 use Rattle.plan.specs.BoardTables.{no_edge}
-use Rattle.plan.proofs.TableReads.{length_mapped}
 use Rattle.turns.proofs.Filling.{fill_start, fill_next, fill_short, ended_next}
 use Rattle.turns.proofs.store_edges.Goals as goal
 use Rattle.turns.proofs.store_edges.Goals.{Start}
-
-rows_length : (s : Start) → length s.args.table.rows ≡ max_edges
-rows_length s = search (rules, length_mapped)
 
 pub loop-i-init : goal.loop-i-init
 loop-i-init c = ((λ k. omega arith), fill_start _, λ k h. absurd (omega arith))
@@ -19,10 +14,9 @@ loop-i-preserved c =
     let h = c.loop-i-test.true in
     let f = c.store_route in
     let g = c.requires.0 in
-    let few = g.few in
-    let long = rows_length (goal.at.loop-i-preserved c).Start in
+    let fit = g.fit in
     let here : l.i < length l.counts = omega arith in (
-      fill_short a.given.now a.table.rows l.i no_edge l.points _ l.counts _ f.ensures (g.short l.i h) here l.invariant.0,
-      fill_next a.given.now a.table.rows l.i no_edge l.points _ l.counts _ f.ensures (g.short l.i h) here l.invariant.0 (omega (arith, long, few, h)) (omega arith) l.invariant.1,
-      ended_next l.ends a.table.rows l.i _ refl (omega arith) l.invariant.2,
+      fill_short a.given.now a.table.now.rows l.i no_edge l.points _ l.counts _ f.ensures (g.short l.i h) here l.invariant.0,
+      fill_next a.given.now a.table.now.rows l.i no_edge l.points _ l.counts _ f.ensures (g.short l.i h) here l.invariant.0 (omega (arith, fit, h)) (omega arith) l.invariant.1,
+      ended_next l.ends a.table.now.rows l.i _ refl (omega arith) l.invariant.2,
     )

@@ -1,10 +1,7 @@
-use mathlib.Core.Path.{◌≡◌, refl, ◌∙◌}
-use Prim.Native.Nat.{ℕ, ◌+◌, ◌-◌, ◌≤◌, ◌<◌}
-use lib.ListN.{length, get_or, length-set}
-use native.Mathlib.Omega.{arith}
+use mathlib.Core.Path.{◌≡◌}
+use Prim.Native.Nat.{ℕ, ◌≤◌, ◌<◌}
+use lib.ListN.{length, get_or}
 use Rattle.limits.specs.Limits.{max_bundles}
-use Rattle.planner.proofs.MemberTurns.{filled}
-use borrow.Author.Rules.{rules}
 use Rattle.plan_replay.proofs.asked.inputs_of.Given as goal
 
 abbrev pub invariant-loop-i : goal.invariant-loop-i

@@ -1,0 +1,13 @@
+-- The routes that members are lent with. Definitions of inner contracts.
+-- Assumes nothing.
+use Rattle.std.specs.Prelude.{List, Float, Option}
+use Rattle.geometry.specs.declared.Role.{Role}
+use Rattle.geometry.specs.declared.Point.{Point}
+use Rattle.search.specs.declared.MemberRoutes.{MemberRoutes}
+use Rattle.search.specs.Stretches.{members, routes}
+
+abbrev pub routes_lent : MemberRoutes → List (List Point)
+routes_lent r = routes r.points.now r.starts.now r.counts.now
+
+abbrev pub members_lent : Role → Float → MemberRoutes → List (List (Option (Float × Float)))
+members_lent role pitch r = members role pitch (routes_lent r)

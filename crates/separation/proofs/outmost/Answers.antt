@@ -1,0 +1,21 @@
+-- `separation::outmost` meets its contract. Assumes nothing.
+use mathlib.Core.Path.{◌∙◌, ap}
+use Prim.Native.Nat.{◌+◌}
+use lib.ListN.{get_or, drop}
+use lib.Ieee.{Float, nan}
+use Rattle.plan.proofs.TableReads as rows
+use Rattle.separation.specs.Taken.{outmost}
+use Rattle.separation.proofs.TakenTurns as laws
+use Rattle.separation.proofs.outmost.Goals as goal
+
+pub loop-i-preserved : goal.loop-i-preserved
+loop-i-preserved c =
+    let a = c.args in
+    let l = c.loop-i in
+    ap (λ (z : Float). outmost a.role z (drop (l.i + 1) a.used.now)) c.outer-most.ensures ∙ laws.outmost_turn a.role l.most (get_or a.used.now l.i nan) _ _ (rows.rest_cons a.used.now l.i nan c.loop-i-test.true) ∙ l.invariant
+
+pub returns : goal.returns
+returns c =
+    let a = c.args in
+    let l = c.loop-i in
+    laws.outmost_end a.role l.most _ (rows.rest_none a.used.now l.i c.loop-i-test.false) ∙ l.invariant
