@@ -8,10 +8,10 @@ use Rattle.wire.specs.Bytes.{bytes}
 use Rattle.wire.proofs.BytesLaws.{bytes_length}
 use Rattle.route.specs.Slots.{routes_of, routes_length}
 use Rattle.board.specs.declared.Edge.{Edge}
-use Rattle.board.specs.declared.Nodes.{Nodes}
-use Rattle.board.specs.declared.Edges.{Edges}
-use Rattle.board.specs.declared.DrawnBundles.{DrawnBundles}
-use Rattle.board.specs.declared.DrawnTaps.{DrawnTaps}
+use Rattle.board.specs.Tables.{Nodes}
+use Rattle.board.specs.Tables.{Edges}
+use Rattle.board.specs.Tables.{DrawnBundles}
+use Rattle.board.specs.Tables.{DrawnTaps}
 use Rattle.geometry.specs.Points.{Route}
 use Rattle.answer.specs.declared.Frame.{Frame}
 use Rattle.answer.specs.Answer.{all_bytes, spot_bytes, spot_of, line_bytes, lines_of, trunk_bytes, trunk_of, head_bytes, body_bytes, answer_bytes}

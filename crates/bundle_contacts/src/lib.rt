@@ -115,6 +115,9 @@ fn bus_on_routes(
     Ok(())
 }
 
+// The rules, the table and the visits are no struct here and above: with the visits lent in it, it could
+// not be copied, and each call would make it anew.
+
 // A bundle's collector, then its spine, against the chosen routes.
 pub fn drawn_on_routes(
     rules: Rules,

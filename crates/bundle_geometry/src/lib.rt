@@ -20,7 +20,7 @@ ghost use Rattle.drawing.specs.Sheet.{planned_x};
 ghost use Rattle.checks.specs.CheckRows.{taps_from, drawn_of, Tabled};
 ghost use Rattle.checks.specs.Lent.{routes_lent};
 ghost use Rattle.checks.specs.LentRows.{taps_in};
-ghost use Rattle.checks.specs.MemberSlices.{members_from, Placed, Untouched, Slots, rail_point, tapped_in, interior_at, Row, drawn_row, inside_with, railed_with, corner_with, Draws};
+ghost use Rattle.checks.specs.MemberSlices.{members_from, Placed, Untouched, Known, rail_point, tapped_in, interior_at, Row, drawn_row, inside_with, railed_with, corner_with, Draws};
 
 use board::{Bundle, DrawnBundle, Options};
 use checks::{BundleRows, MemberRows, PresentRoutes};
@@ -62,7 +62,7 @@ fn trunk_taps(
     taps: &mut [f64],
 ) -> bool
     requires tapped { 2 * (members.first + members.count) ≤ length taps.old }
-    requires slots { Slots members.table.edges.now members.first members.count present.points.now present.counts.now }
+    requires known { Known members.table.edges.now members.first members.count (length present.counts.now) }
     ensures told { tapped_in result members.entry.table.edges.now taps.new members.entry.first members.entry.count ≡ trunk_taps role pitch x (members_from members.entry.table.edges.now [] members.entry.first members.entry.count) (routes_lent present.entry) }
     ensures kept { Untouched taps.old taps.new members.entry.first members.entry.count }
 {
@@ -296,7 +296,7 @@ pub fn build_geometry(
     taps: &mut [f64],
 ) -> DrawnBundle
     requires tabled { Tabled u.first u.count table.edges.now taps.old × (u.first + u.count ≤ length table.lanes.now) }
-    requires slots { Slots table.edges.now u.first u.count present.points.now present.counts.now }
+    requires known { Known table.edges.now u.first u.count (length present.counts.now) }
     ensures drawn { Draws o u end (members_from table.entry.edges.now table.entry.lanes.now u.first u.count) (planned_x planned) (routes_lent present.entry) (drawn_of table.entry.edges.now taps.new result) }
     ensures row { Row u result }
     ensures kept { Untouched taps.old taps.new u.first u.count }

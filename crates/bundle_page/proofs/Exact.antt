@@ -9,10 +9,10 @@ use Rattle.binary64.specs.Integers.{by_parts}
 use Rattle.binary64.proofs.Fraction.{cross_plus, cross_less, value_plus, value_less, value_den}
 use Rattle.binary64.specs.ExactOnGrid.{At}
 use Rattle.board.specs.declared.DrawnBundle.{DrawnBundle}
-use Rattle.board.specs.declared.Nodes.{Nodes}
-use Rattle.board.specs.declared.Edges.{Edges}
-use Rattle.board.specs.declared.DrawnBundles.{DrawnBundles}
-use Rattle.board.specs.declared.DrawnTaps.{DrawnTaps}
+use Rattle.board.specs.Tables.{Nodes}
+use Rattle.board.specs.Tables.{Edges}
+use Rattle.board.specs.Tables.{DrawnBundles}
+use Rattle.board.specs.Tables.{DrawnTaps}
 use Rattle.answer.specs.declared.Frame.{Frame}
 use Rattle.answer.specs.Answer.{Sheet, trunk_of}
 use Rattle.answer.specs.SheetTables.{sheet_of}

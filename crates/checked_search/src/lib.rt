@@ -14,6 +14,9 @@ use limits::{ENTRY_WORK, LARGEST_LIST, MOST_KEPT, PROMOTION_SCRATCH, SEARCH_SCRA
 use search::{Bounds, CollectorBounds, MemberRoutes, Sought, TapVisits};
 use search_calls::{Call, SearchAnswer};
 
+// xs, candidates and scratch are the entries' parameters for C, handed on once: a struct of them would be
+// made there and taken apart here.
+
 // The stretches are kept, and the candidates sorted, in an array of its own, for which scratch would
 // be too short.
 pub fn search_checked<'a>(
@@ -41,13 +44,13 @@ pub fn search_checked<'a>(
         counts: call.routes.counts,
     };
     let sought = Sought {
+        routes,
         role: search_refusals::role_from(call.role),
         pitch: call.pitch,
         bounds,
     };
     let mut work = [0.0; ENTRY_WORK];
     let g = collector_xs::common_horizontal_collector_xs(
-        routes,
         sought,
         TapVisits(call.granted),
         &mut candidates[..LARGEST_LIST],
@@ -99,13 +102,13 @@ pub fn promotion_checked<'a>(
         counts: call.routes.counts,
     };
     let sought = Sought {
+        routes,
         role: search_refusals::role_from(call.role),
         pitch: call.pitch,
         bounds: b,
     };
     let mut work = [0.0; ENTRY_WORK];
     let p = promotion::promotion_candidates(
-        routes,
         sought,
         TapVisits(call.granted),
         &mut candidates[..PROMOTION_SCRATCH],

@@ -67,12 +67,6 @@ Untouched old new first count = (j : ℕ) → (j < first) ⊎ (first + count ≤
 abbrev pub Placed : List Float → ℕ → ℕ → (ℕ → Point) → Type 0
 Placed taps first count p = (k : ℕ) → k < count → point_at taps (first + k) ≡ p k
 
--- every route has its slot, and the members' routes are among them
-pub record Slots (edges : List ℕ) (first count : ℕ) (points : List Float) (counts : List ℕ) : Type 0 where
-  pub slots : slot_numbers * length counts ≤ length points
-  pub hold : Held counts
-  pub known : (k : ℕ) → k < count → get_or edges (first + k) 0 < length counts
-
 -- what a bundle's taps are, if all went well
 unfoldable pub tapped_in : Bool → List ℕ → List Float → ℕ → ℕ → Option (List TapOn)
 tapped_in done edges taps first count = cond done (Some (taps_from edges taps first count)) None

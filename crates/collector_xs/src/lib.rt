@@ -8,10 +8,10 @@
 
 ghost use Rattle.std.specs.Prelude.{◌≡◌, ◌+◌, ◌*◌, ◌≤◌, ◌<◌, length};
 ghost use Rattle.search.specs.Stretches.{runs_in};
-ghost use Rattle.search.specs.Lent.{members_lent};
+ghost use Rattle.search.specs.Lent.{sought_lent};
 ghost use Rattle.search.specs.Search.{common_xs, search_of, Lists};
 
-use search::{Listed, MemberRoutes, Outcome, Searched, Sought, TapVisits};
+use search::{Listed, Outcome, Searched, Sought, TapVisits};
 
 // How many numbers the search keeps is a fact of the routes, what is sought and both slices: it is asked.
 
@@ -19,40 +19,38 @@ use search::{Listed, MemberRoutes, Outcome, Searched, Sought, TapVisits};
 // are kept at the front of scratch, and its end, as long as xs, is for sorting. What the rest of xs and
 // scratch hold afterwards is left open.
 pub fn common_horizontal_collector_xs<'a>(
-    routes: MemberRoutes<'a>,
-    sought: Sought,
+    sought: Sought<'a>,
     granted: TapVisits,
     xs: &mut [f64],
     scratch: &mut [f64],
 ) -> Listed
-    requires room { runs_in (members_lent sought.role sought.pitch routes) < length xs.old }
-    requires scratch_room { length xs.old + 2 * runs_in (members_lent sought.role sought.pitch routes) ≤ length scratch.old }
-    ensures { Lists result xs.new (length xs.old) (common_xs sought.role sought.bounds (members_lent sought.role sought.pitch routes.entry) granted.0) }
+    requires room { runs_in (sought_lent sought) < length xs.old }
+    requires scratch_room { length xs.old + 2 * runs_in (sought_lent sought) ≤ length scratch.old }
+    ensures { Lists result xs.new (length xs.old) (common_xs sought.entry.role sought.entry.bounds (sought_lent sought.entry) granted.0) }
 {
     let keep = scratch.len() - xs.len();
-    let g = search_lists::gather(routes, sought, granted, xs, scratch);
+    let g = search_lists::gather(sought, granted, xs, scratch);
     match g {
         Listed::Spent => Listed::Spent,
         Listed::All(n, left) => {
             let k = search_lists::put_in_order(sought.role, &mut xs[..n], &mut scratch[keep..]);
-            search_lists::try_candidates(&scratch[..], routes.counts, left, &mut xs[..k])
+            search_lists::try_candidates(&scratch[..], sought.routes.counts, left, &mut xs[..k])
         }
     }
 }
 
 // The first of them.
 pub fn common_horizontal_collector_x<'a>(
-    routes: MemberRoutes<'a>,
-    sought: Sought,
+    sought: Sought<'a>,
     granted: TapVisits,
     xs: &mut [f64],
     scratch: &mut [f64],
 ) -> Searched
-    requires room { runs_in (members_lent sought.role sought.pitch routes) < length xs.old }
-    requires scratch_room { length xs.old + 2 * runs_in (members_lent sought.role sought.pitch routes) ≤ length scratch.old }
-    ensures { result ≡ search_of sought.role sought.bounds (members_lent sought.role sought.pitch routes.entry) granted.0 }
+    requires room { runs_in (sought_lent sought) < length xs.old }
+    requires scratch_room { length xs.old + 2 * runs_in (sought_lent sought) ≤ length scratch.old }
+    ensures { result ≡ search_of sought.entry.role sought.entry.bounds (sought_lent sought.entry) granted.0 }
 {
-    let g = common_horizontal_collector_xs(routes, sought, granted, xs, scratch);
+    let g = common_horizontal_collector_xs(sought, granted, xs, scratch);
     match g {
         Listed::Spent => Searched {
             outcome: Outcome::Spent,

@@ -11,7 +11,7 @@ use Rattle.limits.specs.Limits.{max_bundles}
 use Rattle.geometry.specs.Points.{Route}
 use Rattle.board.specs.Board.{Board}
 use Rattle.search.specs.Search.{search_of}
-use Rattle.plan.specs.declared.Ranges.{Ranges}
+use Rattle.plan.specs.Tables.{Ranges}
 use Rattle.plan.specs.Plan.{Ranged, no_ranged, ranged_at, found?, Walk, push_all, Component, walk, joined, near_from, near, component_of, indices_from, Plan, Step, going, refused, then, treated, components, initial_x}
 use Rattle.plan.specs.Prepared.{Listing, range_at, ranged_from, passed, TabledTo}
 use Rattle.plan.specs.Stack.{row_from, row_of}

@@ -5,7 +5,7 @@
 
 #![tactic(auto)]
 
-ghost use Rattle.std.specs.Prelude.{◌≡◌, false, List, replicate};
+ghost use Rattle.std.specs.Prelude.{◌≡◌, false, List, length, replicate};
 ghost use Rattle.geometry.specs.Points.{Route};
 ghost use Rattle.board.specs.Board.{Board};
 ghost use Rattle.search.specs.Search.{search_of};
@@ -29,9 +29,9 @@ fn components(
     before: Planning,
     work: &mut SearchWork,
 ) -> Result<Planning, NoRoom>
-    ensures { (b : Board) (given : List Route) → Known b given layout.entry (ranges_in layout.entry.reaches.now.count ranges) → Neighboured b given (ranges_in layout.entry.reaches.now.count ranges) layout.entry.reaches.now.count adjacent.now → step_in layout.entry.reaches.now.count result ≡ components search_of b given (ranges_in layout.entry.reaches.now.count ranges) (indices_from 0 (ranges_in layout.entry.reaches.now.count ranges)) (replicate layout.entry.reaches.now.count false) (plan_in layout.entry.reaches.now.count before) }
+    ensures { (b : Board) (given : List Route) → Known b given layout.entry (ranges_in (length layout.entry.reaches.now) ranges) → Neighboured b given (ranges_in (length layout.entry.reaches.now) ranges) (length layout.entry.reaches.now) adjacent.now → step_in (length layout.entry.reaches.now) result ≡ components search_of b given (ranges_in (length layout.entry.reaches.now) ranges) (indices_from 0 (ranges_in (length layout.entry.reaches.now) ranges)) (replicate (length layout.entry.reaches.now) false) (plan_in (length layout.entry.reaches.now) before) }
 {
-    let n = layout.reaches.count;
+    let n = layout.reaches.len();
     let mut seen = [false; MAX_BUNDLES];
     let mut p = before;
     for i in 0..n {
@@ -51,10 +51,10 @@ pub fn settle_components(
     ranges: Ranges,
     work: &mut SearchWork,
 ) -> Result<Planning, NoRoom>
-    requires ranges_among { RangesAmong edges.now ranges layout.reaches.now.count }
-    ensures { (b : Board) (given : List Route) → Known b given layout.entry (ranges_in layout.entry.reaches.now.count ranges) → AllEdges b edges.now ranges layout.entry.reaches.now.count → step_in layout.entry.reaches.now.count result ≡ settled b given (passed layout.entry.reaches.now.count ranges) }
+    requires ranges_among { RangesAmong edges.now ranges (length layout.reaches.now) }
+    ensures { (b : Board) (given : List Route) → Known b given layout.entry (ranges_in (length layout.entry.reaches.now) ranges) → AllEdges b edges.now ranges (length layout.entry.reaches.now) → step_in (length layout.entry.reaches.now) result ≡ settled b given (passed (length layout.entry.reaches.now) ranges) }
 {
-    let n = layout.reaches.count;
+    let n = layout.reaches.len();
     let a = plan_neighbours::adjacency(edges, ranges, n);
     let p = component_extents::initial(ranges, n);
     components(layout, &a.rows, ranges, p, work)

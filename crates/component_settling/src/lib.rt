@@ -37,16 +37,16 @@ fn split(
     p: Planning,
     work: &mut SearchWork,
 ) -> Result<Planning, NoRoom>
-    requires listing { Listing inputs.bundles.now layout.reaches.now.count }
-    ensures { (b : Board) (given : List Route) (ranges : List Ranged) → Known b given layout.entry ranges → step_in layout.entry.reaches.now.count result ≡ split search_of b given ranges inputs.entry.extent.bound outputs.bound inputs.entry.extent.desired outputs.desired inputs.entry.bundles.now (plan_in layout.entry.reaches.now.count p) }
+    requires listing { Listing inputs.bundles.now (length layout.reaches.now) }
+    ensures { (b : Board) (given : List Route) (ranges : List Ranged) → Known b given layout.entry ranges → step_in (length layout.entry.reaches.now) result ≡ split search_of b given ranges inputs.entry.extent.bound outputs.bound inputs.entry.extent.desired outputs.desired inputs.entry.bundles.now (plan_in (length layout.entry.reaches.now) p) }
 {
     let near = inputs.extent;
-    if near.desired + layout.pitch > outputs.desired {
-        if near.bound > outputs.bound - layout.pitch {
+    if near.desired + layout.setting.pitch > outputs.desired {
+        if near.bound > outputs.bound - layout.setting.pitch {
             return Err(NoRoom { left: p.left });
         }
         let x = input_split(
-            layout.pitch,
+            layout.setting.pitch,
             near.bound,
             outputs.bound,
             near.desired,
@@ -76,8 +76,8 @@ fn limited(
     p: Planning,
     work: &mut SearchWork,
 ) -> Planning
-    requires listing { Listing inputs.now layout.reaches.now.count }
-    ensures { (b : Board) (given : List Route) (ranges : List Ranged) → Known b given layout.entry ranges → plan_in layout.entry.reaches.now.count result ≡ limited search_of b given ranges limit inputs.now (plan_in layout.entry.reaches.now.count p) }
+    requires listing { Listing inputs.now (length layout.reaches.now) }
+    ensures { (b : Board) (given : List Route) (ranges : List Ranged) → Known b given layout.entry ranges → plan_in (length layout.entry.reaches.now) result ≡ limited search_of b given ranges limit inputs.now (plan_in (length layout.entry.reaches.now) p) }
 {
     let r = plan_outputs::required_output_collector_x(layout, inputs, p);
     if exceeds(r, limit) {
@@ -95,8 +95,8 @@ fn outputs_last(
     p: Planning,
     work: &mut SearchWork,
 ) -> Planning
-    requires listing { Listing inputs.now layout.reaches.now.count × Listing outputs.now layout.reaches.now.count }
-    ensures { (b : Board) (given : List Route) (ranges : List Ranged) → Known b given layout.entry ranges → plan_in layout.entry.reaches.now.count result ≡ outputs_last search_of b given ranges inputs.now outputs.now (plan_in layout.entry.reaches.now.count p) }
+    requires listing { Listing inputs.now (length layout.reaches.now) × Listing outputs.now (length layout.reaches.now) }
+    ensures { (b : Board) (given : List Route) (ranges : List Ranged) → Known b given layout.entry ranges → plan_in (length layout.entry.reaches.now) result ≡ outputs_last search_of b given ranges inputs.now outputs.now (plan_in (length layout.entry.reaches.now) p) }
 {
     let r = plan_outputs::required_output_collector_x(layout, inputs, p);
     plan_searches::search_again(layout, outputs, r, Upper::Never, p, work)
@@ -111,11 +111,11 @@ fn settle(
     p: Planning,
     work: &mut SearchWork,
 ) -> Result<Planning, NoRoom>
-    requires listing { Listing order.now layout.reaches.now.count × Listing inputs.bundles.now layout.reaches.now.count × Listing outputs.bundles.now layout.reaches.now.count }
-    ensures { (b : Board) (given : List Route) (ranges : List Ranged) → Known b given layout.entry ranges → step_in layout.entry.reaches.now.count result ≡ settle search_of b given ranges order.now inputs.entry.extent.bound outputs.entry.extent.bound inputs.entry.extent.desired outputs.entry.extent.desired inputs.entry.bundles.now outputs.entry.bundles.now (plan_in layout.entry.reaches.now.count p) }
+    requires listing { Listing order.now (length layout.reaches.now) × Listing inputs.bundles.now (length layout.reaches.now) × Listing outputs.bundles.now (length layout.reaches.now) }
+    ensures { (b : Board) (given : List Route) (ranges : List Ranged) → Known b given layout.entry ranges → step_in (length layout.entry.reaches.now) result ≡ settle search_of b given ranges order.now inputs.entry.extent.bound outputs.entry.extent.bound inputs.entry.extent.desired outputs.entry.extent.desired inputs.entry.bundles.now outputs.entry.bundles.now (plan_in (length layout.entry.reaches.now) p) }
 {
     let far = outputs.extent;
-    if inputs.extent.bound + layout.pitch > far.bound {
+    if inputs.extent.bound + layout.setting.pitch > far.bound {
         let dropped = component_extents::drop_all(order, p);
         return Ok(dropped);
     }
@@ -133,8 +133,8 @@ pub fn treat(
     p: Planning,
     work: &mut SearchWork,
 ) -> Result<Planning, NoRoom>
-    requires listing { (length order.now ≤ max_bundles) × Listing order.now layout.reaches.now.count }
-    ensures { (b : Board) (given : List Route) → Known b given layout.entry (ranges_in layout.entry.reaches.now.count ranges.now) → step_in layout.entry.reaches.now.count result ≡ treated search_of b given (ranges_in layout.entry.reaches.now.count ranges.now) order.now (plan_in layout.entry.reaches.now.count p) }
+    requires listing { (length order.now ≤ max_bundles) × Listing order.now (length layout.reaches.now) }
+    ensures { (b : Board) (given : List Route) → Known b given layout.entry (ranges_in (length layout.entry.reaches.now) ranges.now) → step_in (length layout.entry.reaches.now) result ≡ treated search_of b given (ranges_in (length layout.entry.reaches.now) ranges.now) order.now (plan_in (length layout.entry.reaches.now) p) }
 {
     let i = component_extents::of_role(Role::Input, ranges, order);
     if i.count == 0 {

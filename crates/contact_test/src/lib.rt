@@ -99,7 +99,8 @@ fn meet_crossing(h: Span, v: Span) -> Meet
     Meet::Apart
 }
 
-// Where a bus and a run meet, neither being slanted.
+// Where a bus and a run meet, neither being slanted. A run is two points, and no Segment as the bus is:
+// docs/DECISIONS.md, "A run is passed as two points".
 #[tactic(auto, unfolding(geometry::specs::Contact::meet))]
 pub fn meeting(bus: Segment, route_start: Point, route_end: Point) -> Meet
     ensures { result ≡ meet bus route_start route_end }
@@ -293,16 +294,13 @@ pub fn parallel_segments_are_too_close(left: Segment, right: Segment, spacing: f
 pub fn trunk_of(bus: Segment) -> Trunk
     ensures { result ≡ trunk bus }
 {
-    let level = bus.start.y == bus.end.y;
-    Trunk {
-        slanted: is_slanted(bus.start, bus.end),
-        level,
-        span: if level {
-            span_across(bus.start, bus.end)
-        } else {
-            span_upright(bus.start, bus.end)
-        },
+    if is_slanted(bus.start, bus.end) {
+        return Trunk::Slanted;
     }
+    if bus.start.y == bus.end.y {
+        return Trunk::Level(span_across(bus.start, bus.end));
+    }
+    Trunk::Upright(span_upright(bus.start, bus.end))
 }
 
 fn is_over(h: Span, v: Span) -> bool
@@ -324,20 +322,19 @@ fn is_beside(s: Span, at: f64, spacing: f64) -> bool
 pub fn is_apart(t: Trunk, spacing: f64, route_start: Point, route_end: Point) -> bool
     ensures { result ≡ apart t spacing route_start route_end }
 {
-    if t.slanted {
-        return false;
-    }
-    if route_start.y == route_end.y {
-        if t.level {
-            return is_beside(t.span, route_start.y, spacing);
+    match t {
+        Trunk::Slanted => false,
+        Trunk::Level(span) => {
+            if route_start.y == route_end.y {
+                return is_beside(span, route_start.y, spacing);
+            }
+            route_start.x == route_end.x && !is_over(span, span_upright(route_start, route_end))
         }
-        return !is_over(span_across(route_start, route_end), t.span);
-    }
-    if route_start.x == route_end.x {
-        if t.level {
-            return !is_over(t.span, span_upright(route_start, route_end));
+        Trunk::Upright(span) => {
+            if route_start.y == route_end.y {
+                return !is_over(span_across(route_start, route_end), span);
+            }
+            route_start.x == route_end.x && is_beside(span, route_start.x, spacing)
         }
-        return is_beside(t.span, route_start.x, spacing);
     }
-    false
 }

@@ -11,11 +11,11 @@ ghost use Rattle.answer.specs.Answer.{all_bytes};
 ghost use Rattle.sorting.specs.Lists.{Every};
 ghost use Rattle.sorting.specs.Sort.{sorted};
 ghost use Rattle.limits.specs.Limits.{max_crossings, crossing_bytes, crossings_room};
-ghost use Rattle.crossing_rows.specs.Rows.{row_at, rows_from};
+ghost use Rattle.crossing_rows.specs.Lent.{row_lent, rows_lent};
 ghost use Rattle.crossing_bytes.specs.Bytes.{entry_bytes};
 ghost use Rattle.crossing_bytes.specs.RowBytes.{row_bytes, rows_bytes, row_key};
 
-use crossing_rows::Rows;
+use crossing_rows::RowsView;
 use geometry::Point;
 use limits::{CROSSING_BYTES, MAX_CROSSINGS};
 
@@ -31,18 +31,18 @@ fn put_entry(out: &mut [u8], at: usize, p: Point, bundle: u64, edge: u64)
 
 // Row k.
 #[tactic(auto, unfolding(crossing_rows::specs::Rows::row_at))]
-fn put_row(out: &mut [u8], at: usize, kept: &Rows, k: usize)
+fn put_row(out: &mut [u8], at: usize, kept: RowsView, k: usize)
     requires { (at + crossing_bytes ≤ length out.old) × (k < max_crossings) }
-    ensures { out.new ≡ sets out.old at (row_bytes (row_at kept.now.places kept.now.names k)) }
+    ensures { out.new ≡ sets out.old at (row_bytes (row_lent kept.entry k)) }
 {
-    let p = route_views::point_at(&kept.places[..], k);
+    let p = route_views::point_at(kept.places, k);
     put_entry(out, at, p, kept.names[2 * k], kept.names[2 * k + 1]);
 }
 
 // The rows that order names, behind the count.
-fn put_rows(out: &mut [u8], kept: &Rows, order: &[usize])
+fn put_rows(out: &mut [u8], kept: RowsView, order: &[usize])
     requires { (2 + crossing_bytes * length order.now ≤ length out.old) × Every (λ k. k < max_crossings) order.now }
-    ensures { out.new ≡ sets out.old 2 (all_bytes row_bytes (map (row_at kept.now.places kept.now.names) order.now)) }
+    ensures { out.new ≡ sets out.old 2 (all_bytes row_bytes (map (row_lent kept.entry) order.now)) }
 {
     let mut at = 2;
     for k in order {
@@ -53,28 +53,28 @@ fn put_rows(out: &mut [u8], kept: &Rows, order: &[usize])
 
 // out is a part of the caller's buffer, which C lends with its length: that it has room is asked.
 
-fn put_list(out: &mut [u8], kept: &Rows, order: &[usize])
+fn put_list(out: &mut [u8], kept: RowsView, order: &[usize])
     requires { (length order.now ≤ max_crossings) × (crossings_room ≤ length out.old) × Every (λ k. k < max_crossings) order.now }
-    ensures { out.new ≡ sets out.old 0 (rows_bytes (map (row_at kept.now.places kept.now.names) order.now)) }
+    ensures { out.new ≡ sets out.old 0 (rows_bytes (map (row_lent kept.entry) order.now)) }
 {
     answer::put_count(out, 0, order.len());
     put_rows(out, kept, order);
 }
 
-// The first rows, as many as order has places for, sorted and written.
-fn put_sorted(kept: &Rows, order: &mut [usize], spare: &mut [usize], out: &mut [u8])
-    requires { (length order.old ≤ max_crossings) × (max_crossings ≤ length spare.old) × (crossings_room ≤ length out.old) }
-    ensures { out.new ≡ sets out.old 0 (rows_bytes (sorted row_key (rows_from kept.now.places kept.now.names 0 (length order.old)))) }
+// The rows, sorted and written, where order has a place for each.
+fn put_sorted(kept: RowsView, order: &mut [usize], spare: &mut [usize], out: &mut [u8])
+    requires { (length order.old ≡ kept.count) × (max_crossings ≤ length spare.old) × (crossings_room ≤ length out.old) }
+    ensures { out.new ≡ sets out.old 0 (rows_bytes (sorted row_key (rows_lent kept.entry))) }
 {
     place_sort::count_up(order);
-    place_sort::sort(&kept.places[..], order, spare);
+    place_sort::sort(kept.places, order, spare);
     put_list(out, kept, order);
 }
 
 // The rows, sorted and written.
-pub fn put_crossings(kept: &Rows, out: &mut [u8])
-    requires { (kept.now.count ≤ max_crossings) × (crossings_room ≤ length out.old) }
-    ensures { out.new ≡ sets out.old 0 (rows_bytes (sorted row_key (rows_from kept.now.places kept.now.names 0 kept.now.count))) }
+pub fn put_crossings(kept: RowsView, out: &mut [u8])
+    requires { crossings_room ≤ length out.old }
+    ensures { out.new ≡ sets out.old 0 (rows_bytes (sorted row_key (rows_lent kept.entry))) }
 {
     let mut order = [0; MAX_CROSSINGS];
     let mut spare = [0; MAX_CROSSINGS];

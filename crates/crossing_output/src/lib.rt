@@ -2,21 +2,22 @@
 
 #![tactic(auto)]
 
-ghost use Rattle.std.specs.Prelude.{◌≡◌, ◌*◌, ◌≤◌, ltb, length};
+ghost use Rattle.std.specs.Prelude.{◌≡◌, ◌*◌, ◌≤◌, ltb, length, is_err, IfErr};
 ghost use Rattle.std.proofs.lemmas.List.Edits.{sets};
 ghost use Rattle.limits.specs.Limits.{max_edges, max_bundles, slot_numbers, max_crossings, crossings_room};
+ghost use Rattle.refusal.specs.declared.Refusal.TheVariants.{TooManyCrossings};
 ghost use Rattle.route.specs.Slots.{Held};
 ghost use Rattle.crossing_rows.specs.Rows.{rows_met};
 ghost use Rattle.crossing_bytes.specs.RowBytes.{written_rows};
 
 use board::{DrawnBundles, Edges};
-use crossing_rows::Rows;
+use crossing_rows::{Rows, RowsView};
 use limits::{CROSSING_NUMBERS, MAX_CROSSINGS};
+use refusal::Refusal;
 
-// Whether there are more than 1,024 crossings (19). Where there are not, the list is written, unless
-// another refusal is due. The rows of the crossings are kept here, so that they are cleared
-// only where the list is wanted. A bool: its one caller writes a notice where it is true, as it would at an
-// Err.
+// The list is written where there are at most 1,024 crossings, unless another refusal is due; more are
+// refused (19). The rows of the crossings are kept here, so that they are cleared only where the list is
+// wanted.
 pub fn list_crossings(
     permitted: bool,
     withheld: bool,
@@ -25,24 +26,37 @@ pub fn list_crossings(
     points: &[f64],
     counts: &[usize],
     out: &mut [u8],
-) -> bool
+) -> Result<(), Refusal>
     requires count_le_max_edges { (table.count ≤ max_edges) × (drawn.count ≤ max_bundles) × (crossings_room ≤ length out.old) }
     requires counts_len { (length counts.now ≡ table.count) × (slot_numbers * length counts.now ≤ length points.now) × Held counts.now }
-    ensures too_many { result ≡ ltb max_crossings (length (rows_met permitted table drawn points.now counts.now)) }
+    ensures too_many { is_err result ≡ ltb max_crossings (length (rows_met permitted table drawn points.now counts.now)) }
+    ensures refusal { IfErr result (λ r. r ≡ TooManyCrossings) }
     ensures bytes { out.new ≡ sets out.old 0 (written_rows withheld (rows_met permitted table drawn points.now counts.now)) }
 {
+    let mut places = [0.0; CROSSING_NUMBERS];
+    let mut names = [0; CROSSING_NUMBERS];
     let mut kept = Rows {
-        places: [0.0; CROSSING_NUMBERS],
-        names: [0; CROSSING_NUMBERS],
+        places: &mut places[..],
+        names: &mut names[..],
         count: 0,
     };
     crossing_walk::sheet_crossings(permitted, table, drawn, points, counts, &mut kept);
     if kept.count > MAX_CROSSINGS {
-        return true;
+        return Err(Refusal::TooManyCrossings);
     }
     if withheld {
-        return false;
+        return Ok(());
     }
-    crossing_list::put_crossings(&kept, out);
-    false
+    let Rows {
+        places,
+        names,
+        count,
+    } = kept;
+    let rows = RowsView {
+        places,
+        names,
+        count,
+    };
+    crossing_list::put_crossings(rows, out);
+    Ok(())
 }

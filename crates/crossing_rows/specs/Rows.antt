@@ -7,8 +7,8 @@ use Rattle.geometry.specs.Points.{Route, runs, point_at}
 use Rattle.geometry.specs.Kind.{kind}
 use Rattle.geometry.specs.Crossing.{is_strict, crossing_place}
 use Rattle.board.specs.declared.DrawnBundle.{DrawnBundle}
-use Rattle.board.specs.declared.DrawnBundles.{DrawnBundles}
-use Rattle.board.specs.declared.Edges.{Edges}
+use Rattle.board.specs.Tables.{DrawnBundles}
+use Rattle.board.specs.Tables.{Edges}
 use Rattle.board.specs.declared.Edge.{Edge}
 use Rattle.limits.specs.Limits.{slot_numbers, max_crossings}
 use Rattle.route.specs.Slots.{routes_of, Held}

@@ -21,9 +21,9 @@ use Rattle.geometry.specs.Kind.{kind, disallowed}
 use Rattle.geometry.specs.Crossing.{is_strict, crossing_place}
 use Rattle.geometry.proofs.KindContact.{kind_contact}
 use Rattle.board.specs.declared.DrawnBundle.{DrawnBundle}
-use Rattle.board.specs.declared.DrawnBundles.{DrawnBundles}
+use Rattle.board.specs.Tables.{DrawnBundles}
 use Rattle.board.specs.declared.Edge.{Edge}
-use Rattle.board.specs.declared.Edges.{Edges}
+use Rattle.board.specs.Tables.{Edges}
 use Rattle.limits.specs.Limits.{slot_points}
 use Rattle.crossing_rows.specs.Rows.{Row, row, one_row, run_rows, route_rows, bundle_rows, sheet_rows, id_of, rows_met, rows_from, Kept, Grown}
 use Rattle.crossing_rows.specs.Keep.{grown_then}

@@ -1,21 +1,32 @@
 // The strict crossings of a sheet as the walk over it meets and keeps them. There is no function here:
-// specs/Rows.antt has the definitions; crate crossing_walk has the walk.
+// specs/Rows.antt has the definitions; crate crossing_walk has the walk, crate crossing_list the list.
+//
+// Row i has its place at point i of places, its ids at 2 i and 2 i + 1 of names: two slices, since crate
+// place_sort reads the places alone.
 
 #![tactic(auto)]
 
 ghost use Rattle.std.specs.Prelude.{◌≤◌, length};
-ghost use Rattle.limits.specs.Limits.{crossing_numbers};
+ghost use Rattle.limits.specs.Limits.{crossing_numbers, max_crossings};
 
-use limits::CROSSING_NUMBERS;
-
-// The rows kept so far: row i has its place at point i of places, its ids at 2 i and 2 i + 1 of names,
-// two arrays since crate place_sort reads the places alone. Of more than 1,024 rows the count is 1,025,
-// and what is kept says nothing.
+// The rows kept so far, in slices that are lent with room for 1,024. Of more the count is 1,025, and
+// what is kept says nothing.
 #[derive(Drop)]
-pub struct Rows {
-    pub places: [f64; CROSSING_NUMBERS],
-    pub names: [u64; CROSSING_NUMBERS],
+pub struct Rows<'a> {
+    pub places: &'a mut [f64],
+    pub names: &'a mut [u64],
     pub count: usize,
-    pub ghost places_room: { crossing_numbers ≤ length places },
-    pub ghost names_room: { crossing_numbers ≤ length names },
+    pub ghost places_room: { crossing_numbers ≤ length places.now },
+    pub ghost names_room: { crossing_numbers ≤ length names.now },
+}
+
+// At most 1,024 rows that were kept, to be read: Rows are lent to be written.
+#[derive(Clone, Copy)]
+pub struct RowsView<'a> {
+    pub places: &'a [f64],
+    pub names: &'a [u64],
+    pub count: usize,
+    pub ghost few: { count ≤ max_crossings },
+    pub ghost places_room: { crossing_numbers ≤ length places.now },
+    pub ghost names_room: { crossing_numbers ≤ length names.now },
 }

@@ -16,7 +16,7 @@ ghost use Rattle.geometry.specs.Kind.{kind};
 ghost use Rattle.geometry.specs.Crossing.{is_strict};
 ghost use Rattle.route.specs.Slots.{routes_of, Held};
 ghost use Rattle.crossing_rows.specs.Rows.{row, one_row, run_rows, route_rows, bundle_rows, sheet_rows, id_of, rows_met, Slotted};
-ghost use Rattle.crossing_rows.specs.Lent.{KeptIn, GrownBy};
+ghost use Rattle.crossing_rows.specs.Lent.{KeptIn, GrownBy, SameSlices};
 
 use board::{DrawnBundle, DrawnBundles, Edges};
 use crossing_rows::Rows;
@@ -54,14 +54,15 @@ struct NamedRoutes<'a> {
 
 // One row more, where there is room.
 fn keep(kept: &mut Rows, p: Point, bundle: u64, edge: u64)
-    ensures { GrownBy kept.old kept.new (row p bundle edge ∷ []) }
+    ensures same { SameSlices kept.old kept.new }
+    ensures rows { GrownBy kept.old kept.new (row p bundle edge ∷ []) }
 {
     let n = kept.count;
     if n >= MAX_CROSSINGS {
         kept.count = MAX_CROSSINGS + 1;
         return;
     }
-    route_views::put_point(&mut kept.places[..], n, p);
+    route_views::put_point(kept.places, n, p);
     kept.names[2 * n] = bundle;
     kept.names[2 * n + 1] = edge;
     kept.count = n + 1;
@@ -80,7 +81,8 @@ fn is_crossing(bus: Bus, run: Segment) -> bool
 }
 
 fn walk_run(bus: Bus, bundle: u64, edge: u64, run: Segment, kept: &mut Rows)
-    ensures { GrownBy kept.old kept.new (one_row bus.segment bundle edge run) }
+    ensures same { SameSlices kept.old kept.new }
+    ensures rows { GrownBy kept.old kept.new (one_row bus.segment bundle edge run) }
 {
     if is_crossing(bus, run) {
         let p = contact_test::crossing_point(bus.segment, run.start);
@@ -90,7 +92,8 @@ fn walk_run(bus: Bus, bundle: u64, edge: u64, run: Segment, kept: &mut Rows)
 
 // The runs of a route.
 fn walk_runs(bus: Bus, bundle: u64, edge: u64, route: RouteView, kept: &mut Rows)
-    ensures { GrownBy kept.old kept.new (run_rows bus.segment bundle edge (runs (route_lent route.entry))) }
+    ensures same { SameSlices kept.old kept.new }
+    ensures rows { GrownBy kept.old kept.new (run_rows bus.segment bundle edge (runs (route_lent route.entry))) }
 {
     for i in 0..route.count.saturating_sub(1) {
         walk_run(bus, bundle, edge, route_views::view_run(route, i), kept);
@@ -99,7 +102,8 @@ fn walk_runs(bus: Bus, bundle: u64, edge: u64, route: RouteView, kept: &mut Rows
 
 // A route against the collector, then against the spine.
 fn walk_route(d: Walked, edge: u64, route: RouteView, kept: &mut Rows)
-    ensures { GrownBy kept.old kept.new (route_rows d.row edge (route_lent route.entry)) }
+    ensures same { SameSlices kept.old kept.new }
+    ensures rows { GrownBy kept.old kept.new (route_rows d.row edge (route_lent route.entry)) }
 {
     let collector = Bus {
         segment: d.row.collector,
@@ -115,7 +119,8 @@ fn walk_route(d: Walked, edge: u64, route: RouteView, kept: &mut Rows)
 
 // Every route against a bundle.
 fn walk_bundle(row: DrawnBundle, routes: NamedRoutes, kept: &mut Rows)
-    ensures { GrownBy kept.old kept.new (bundle_rows row routes.entry.ids.now (routes_of routes.entry.points.now routes.entry.counts.now) 0) }
+    ensures same { SameSlices kept.old kept.new }
+    ensures rows { GrownBy kept.old kept.new (bundle_rows row routes.entry.ids.now (routes_of routes.entry.points.now routes.entry.counts.now) 0) }
 {
     let d = Walked {
         row,
@@ -135,7 +140,8 @@ fn walk_bundle(row: DrawnBundle, routes: NamedRoutes, kept: &mut Rows)
 // Every bundle in job order.
 fn walk_bundles(drawn: DrawnBundles, routes: NamedRoutes, kept: &mut Rows)
     requires { drawn.count ≤ max_bundles }
-    ensures { GrownBy kept.old kept.new (sheet_rows (take drawn.count drawn.rows) routes.entry.ids.now (routes_of routes.entry.points.now routes.entry.counts.now)) }
+    ensures same { SameSlices kept.old kept.new }
+    ensures rows { GrownBy kept.old kept.new (sheet_rows (take drawn.count drawn.rows) routes.entry.ids.now (routes_of routes.entry.points.now routes.entry.counts.now)) }
 {
     for i in 0..drawn.count {
         walk_bundle(drawn.rows[i], routes, kept);
@@ -164,7 +170,8 @@ pub fn sheet_crossings(
 )
     requires few { (table.count ≤ max_edges) × (drawn.count ≤ max_bundles) }
     requires slots { (length counts.now ≡ table.count) × (slot_numbers * length counts.now ≤ length points.now) × Held counts.now }
-    ensures { KeptIn (rows_met permitted table drawn points.now counts.now) kept.new }
+    ensures same { SameSlices kept.old kept.new }
+    ensures rows { KeptIn (rows_met permitted table drawn points.now counts.now) kept.new }
 {
     kept.count = 0;
     if !permitted {

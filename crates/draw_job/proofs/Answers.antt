@@ -9,14 +9,14 @@ use lib.Seq.{get_or-take, length-take-le}
 use lib.Ieee.{Float}
 use Rattle.geometry.specs.Points.{point_at}
 use Rattle.board.specs.declared.Edge.{Edge}
-use Rattle.board.specs.declared.Edges.{Edges}
-use Rattle.board.specs.declared.Members.{Members}
+use Rattle.board.specs.Tables.{Edges}
+use Rattle.board.specs.Tables.{Members}
 use Rattle.board.specs.declared.Bundle.{Bundle}
 use Rattle.board.specs.declared.DrawnBundle.{DrawnBundle}
 use Rattle.board.specs.declared.DrawnTap.{DrawnTap}
-use Rattle.board.specs.declared.DrawnTaps.{DrawnTaps}
+use Rattle.board.specs.Tables.{DrawnTaps}
 use Rattle.board.specs.Board.{window}
-use Rattle.plan.specs.declared.Planning.{Planning}
+use Rattle.plan.specs.Tables.{Planning}
 use Rattle.plan.specs.BoardTables.{no_bundle}
 use Rattle.planner.specs.Members.{member_at}
 use Rattle.planner.proofs.MemberTurns.{window_cons}
@@ -25,7 +25,7 @@ use Rattle.checks.specs.CheckRows.{taps_from, drawn_of}
 use Rattle.checks.specs.MemberSlices.{Row}
 use Rattle.turns.specs.TurnTables.{Rows}
 use Rattle.route.specs.Slots.{routes_of}
-use Rattle.board.specs.declared.DrawnBundles.{DrawnBundles}
+use Rattle.board.specs.Tables.{DrawnBundles}
 use Rattle.drawing.specs.Normal.{Page, page_of}
 use Rattle.normalize.specs.declared.Laid.{Laid}
 use Rattle.normalize.specs.PageTables.{Heading, heading, sheet_in, page_in, Windows}
@@ -41,7 +41,7 @@ null_tap : DrawnTap
 null_tap = record { edge = 0; point = point_at [] 0 }
 
 module _ (table : Edges) (members : Members) (edges : List ℕ) (taps : List Float) (t : DrawnTaps) (of : TapsOf table members taps t) (on : MembersOn table members) (kt : members.count ≤ length t.rows)
-    (are : (k : ℕ) → k < members.count → get_or edges k 0 ≡ (member_at members k).edge) where
+    (are : (k : ℕ) → k < members.count → get_or edges k 0 ≡ (member_at members.rows k).edge) where
   abbrev named : List Edge
   named = take table.count table.rows
 
@@ -52,7 +52,7 @@ module _ (table : Edges) (members : Members) (edges : List ℕ) (taps : List Flo
   tap_same k h =
       get_or-take members.count t.rows k null_tap h
       ∙ of.row_is k h null_tap
-      ∙ ap (λ (e : Edge). record { edge = e.id; point = point_at taps k }) (sym (get_or-take table.count table.rows (member_at members k).edge no_edge (on k h)))
+      ∙ ap (λ (e : Edge). record { edge = e.id; point = point_at taps k }) (sym (get_or-take table.count table.rows (member_at members.rows k).edge no_edge (on k h)))
       ∙ ap (λ (e : ℕ). record { edge = (get_or named e no_edge).id; point = point_at taps k }) (sym (are k h))
 
   taps_same : (k first : ℕ) → first + k ≤ members.count → window first k listed ≡ map (tap_told named) (taps_from edges taps first k)

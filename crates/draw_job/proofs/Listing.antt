@@ -12,9 +12,9 @@ use Rattle.sorting.specs.Sort.{sorted}
 use Rattle.route.specs.Slots.{routes_of}
 use Rattle.board.specs.declared.Bundle.{Bundle}
 use Rattle.board.specs.declared.DrawnBundle.{DrawnBundle}
-use Rattle.board.specs.declared.DrawnBundles.{DrawnBundles}
+use Rattle.board.specs.Tables.{DrawnBundles}
 use Rattle.job.specs.declared.Job as code
-use Rattle.plan.specs.declared.Planning.{Planning}
+use Rattle.plan.specs.Tables.{Planning}
 use Rattle.checks.specs.CheckRows.{drawn_of}
 use Rattle.turns.specs.TurnTables.{Rows}
 use Rattle.promise.specs.Stage.{Finished}

@@ -1,25 +1,32 @@
 -- The phases of the stage, from what its functions' callees ensure to what is told and written.
 -- Assumes nothing.
-use Prim.Native.Nat.{ℕ, ◌*◌, ◌≤◌}
+use Prim.Native.Nat.{ℕ, ◌+◌, ◌*◌, ◌≤◌}
 use mathlib.Core.Path.{◌≡◌, sym, ap, ◌∙◌, subst}
 use mathlib.Core.Bool.{Bool, true, false, not, ◌&&◌, cond}
 use mathlib.Core.List.{List, [], map}
 use mathlib.Core.Logic.{◌⊎◌, inl, inr}
 use native.Mathlib.Omega.{arith}
 use lib.ListN.{length, take}
-use lib.Seq.{sets, length-take-le}
+use lib.Seq.{sets, length-take-le, get_or-take}
+use Rattle.std.proofs.lemmas.List.{take-take}
 use lib.Ieee.{Float}
 use Rattle.limits.specs.Limits.{max_edges, max_members, answer_room, id_columns, tap_numbers, slot_numbers}
 use Rattle.route.specs.Slots.{routes_of, Held}
-use Rattle.board.specs.declared.Nodes.{Nodes}
-use Rattle.board.specs.declared.DrawnBundles.{DrawnBundles}
-use Rattle.board.specs.declared.DrawnTaps.{DrawnTaps}
+use Rattle.board.specs.Tables.{Nodes}
+use Rattle.board.specs.Board.{Board}
+use Rattle.board.specs.declared.Bundle.{Bundle}
+use Rattle.board.specs.declared.Member.{Member}
+use Rattle.board.specs.Tables.{DrawnBundles}
+use Rattle.board.specs.Tables.{DrawnTaps}
 use Rattle.geometry.specs.Points.{Route}
 use Rattle.job.specs.declared.Job as code
-use Rattle.job.specs.Job.{read_job, given_routes}
+use Rattle.job.specs.Job.{read_job}
 use Rattle.job.specs.AllTables.{JobTold}
 use Rattle.plan.specs.BoardTables as tables
-use Rattle.plan.specs.declared.Planning.{Planning}
+use Rattle.plan.specs.BoardTables.{no_bundle, no_member}
+use Rattle.plan.specs.declared.tables.BoardTables.{BoardTables}
+use Rattle.plan.specs.Lent.{board_lent, OffsetsLent}
+use Rattle.plan.specs.Tables.{Planning}
 use Rattle.plan.specs.Depths.{offsets_of}
 use Rattle.plan.specs.Prepared.{plan_in, x_of}
 use Rattle.drawing.specs.declared.GeometryVisits.{GeometryVisits}
@@ -30,7 +37,7 @@ use Rattle.drawing.specs.Verdict.{Verdict, Clean, Refused}
 use Rattle.drawing.specs.Check.{clean, failed}
 use Rattle.checks.specs.Purse.{told}
 use Rattle.drawing.specs.Build.{Drawn}
-use Rattle.drawing.specs.Sheet.{turns_from, sheet_of, blank, after_check}
+use Rattle.drawing.specs.Sheet.{Outcome, turns_from, sheet_of, blank, after_check}
 use Rattle.drawing.specs.Sheet as drawing
 use Rattle.drawing.specs.Normal.{page_of}
 use Rattle.turns.specs.TurnTables.{ends_as, standing, drawn_in, Full, Room, Listed, Rows}
@@ -55,7 +62,7 @@ use Rattle.outputs.specs.declared.Wants.{Wants}
 use Rattle.crossing_bytes.specs.Bytes.{list_bytes}
 use Rattle.crossing_promise.specs.SheetList.{list_of}
 use Rattle.outputs.specs.Outputs.{Outputs, notice, too_many, after_all, outputs_told}
-use Rattle.job_tables.proofs.Ready.{read_accepted, tables_sound, routes_in, given_same}
+use Rattle.job_tables.proofs.Ready.{read_accepted, edges_in, bundles_in, members_in, tables_sound, routes_in, bundles_lent, given_lent}
 use Rattle.job_tables.specs.Came.{Sizes, job_in, Came}
 use Rattle.draw_job.specs.JobTables.{Writes, TapsOf, OnSheet, Lent, finished}
 use Rattle.draw_job.proofs.Answers.{sheet_same}
@@ -138,11 +145,14 @@ module _ (j : code.Job) (buffer : List Float) (bytes : List ℕ) (t : JobTold (O
 -- ---- the plan
 
 -- our own
-module _ (j : code.Job) (buffer : List Float) (from : Came j buffer) (sizes : Sizes j) (s : Result Planning NoRoom)
-    (is : step_in j.bundles.count s
-    ≡ plan_of (tables.board_of j.options j.nodes j.ports (take j.edges.count j.edges.rows) j.bundles j.members) (tables.given_routes buffer j.edges) j.flags.separates_collectors j.grants.tap_visits) where
+module _ (j : code.Job) (buffer : List Float) (from : Came j buffer) (sizes : Sizes j) (t : BoardTables) (lent : board_lent t ≡ (job_in j buffer).board) (s : Result Planning NoRoom)
+    (is : step_in (length t.bundles.now) s ≡ plan_of (board_lent t) (tables.given_routes buffer t.edges.now) j.flags.separates_collectors j.grants.tap_visits) where
   planned_is : planned (job_in j buffer) ≡ step_in j.bundles.count s
-  planned_is = ap (λ (g : List Route). plan_of (job_in j buffer).board g j.flags.separates_collectors j.grants.tap_visits) (sym (given_same j buffer from sizes)) ∙ sym is
+  planned_is =
+      ap (λ (g : List Route). plan_of (job_in j buffer).board g j.flags.separates_collectors j.grants.tap_visits) (sym (given_lent j buffer from sizes t lent))
+      ∙ ap (λ (b : Board). plan_of b (tables.given_routes buffer t.edges.now) j.flags.separates_collectors j.grants.tap_visits) (sym lent)
+      ∙ sym is
+      ∙ ap (λ (n : ℕ). step_in n s) (bundles_lent j buffer from sizes t lent)
 
   pub own_phase : (given : Bool) → given ≡ false → (plan : List ℕ) (r : Result Planning Refusal) → ((n : ℕ) → told_plan n r ≡ after_search (step_in n s)) → told_plan j.bundles.count r ≡ plan_phase given (job_in j buffer) plan
   unfolding plan_phase
@@ -179,20 +189,19 @@ pub full_clean : (v : Verdict) (q : GeometryVisits) (n all : ℕ) → v ≡ Clea
 unfolding Full
 full_clean v q n all e f = rw e at f
 
-module _ (j : code.Job) (buffer : List Float) (from : Came j buffer) (sizes : Sizes j) (p : Planning) (offsets : List Float) (v : Verdict) (rs : List Route) (ds : List Drawn)
-    (as_offsets : offsets ≡ offsets_of (tables.board_of j.options j.nodes j.ports (take j.edges.count j.edges.rows) j.bundles j.members))
-    (ends : ends_as v rs ds
-    ≡ sheet_of (tables.board_of j.options j.nodes j.ports (take j.edges.count j.edges.rows) j.bundles j.members) j.flags.permits_crossings
-    (turns_from (take j.bundles.count j.bundles.rows) (map x_of (take j.bundles.count p.rows)) offsets) (blank (tables.given_routes buffer j.edges) j.grants.geometry_visits)) where
+module _ (j : code.Job) (buffer : List Float) (from : Came j buffer) (sizes : Sizes j) (t : BoardTables) (lent : board_lent t ≡ (job_in j buffer).board) (p : Planning) (offsets : List Float) (v : Verdict) (rs : List Route) (ds : List Drawn)
+    (as_offsets : OffsetsLent t offsets)
+    (ends : ends_as v rs ds ≡ sheet_of (board_lent t) j.flags.permits_crossings (turns_from t.bundles.now (map x_of (take (length t.bundles.now) p.rows)) (take (length t.bundles.now) offsets)) (blank (tables.given_routes buffer t.edges.now) j.grants.geometry_visits)) where
   abbrev told_now : Told
   told_now = after_sheet (job_in j buffer) (plan_in j.bundles.count p) (sheet_drawn (job_in j buffer) (plan_in j.bundles.count p))
 
   drawn_is : sheet_drawn (job_in j buffer) (plan_in j.bundles.count p) ≡ ends_as v rs ds
   drawn_is =
-      let b = (job_in j buffer).board in
-      let xs = map x_of (take j.bundles.count p.rows) in
-      ap (λ (l : List Float). sheet_of b j.flags.permits_crossings (turns_from b.bundles xs l) (blank (given_routes (job_in j buffer)) j.grants.geometry_visits)) (sym as_offsets)
-      ∙ ap (λ (g : List Route). sheet_of b j.flags.permits_crossings (turns_from b.bundles xs offsets) (blank g j.grants.geometry_visits)) (sym (given_same j buffer from sizes))
+      let sheet : Board → ℕ → List Route → Outcome = λ b n g. sheet_of b j.flags.permits_crossings (turns_from b.bundles (map x_of (take n p.rows)) (offsets_of b)) (blank g j.grants.geometry_visits) in
+      ap (λ (g : List Route). sheet (job_in j buffer).board j.bundles.count g) (sym (given_lent j buffer from sizes t lent))
+      ∙ ap (λ (b : Board). sheet b j.bundles.count (tables.given_routes buffer t.edges.now)) (sym lent)
+      ∙ ap (λ (n : ℕ). sheet (board_lent t) n (tables.given_routes buffer t.edges.now)) (sym (bundles_lent j buffer from sizes t lent))
+      ∙ ap (λ (l : List Float). sheet_of (board_lent t) j.flags.permits_crossings (turns_from t.bundles.now (map x_of (take (length t.bundles.now) p.rows)) l) (blank (tables.given_routes buffer t.edges.now) j.grants.geometry_visits)) (sym (as_offsets t.edges.now))
       ∙ sym ends
 
   pub sheet_refused : (n : ℕ) (q : GeometryVisits) → v ≡ Refused n q → told_now ≡ refused n
@@ -217,28 +226,33 @@ pub ended_refused : (r : Result ⊤ Refusal) (n m : ℕ) (e : Refusal) → m ≡
 ended_refused r n m e h is = ap (λ (z : Result ⊤ Refusal). told z n) is ∙ ap (λ (k : ℕ). failed k n) (sym h)
 
 -- what was in the slots does not matter
-pub lent_as : (j : code.Job) (edges lanes : List ℕ) (taps points points' : List Float) (counts : List ℕ) → length points' ≡ length points → Lent j edges lanes taps points counts → Lent j edges lanes taps points' counts
-lent_as j edges lanes taps points points' counts e lent = record {
+pub lent_as : (j : code.Job) (edges lanes : List ℕ) (taps points points' : List Float) (counts : List ℕ) (mask : List Bool) (scratch : List Float) → length points' ≡ length points → Lent j edges lanes taps points counts mask scratch → Lent j edges lanes taps points' counts mask scratch
+lent_as j edges lanes taps points points' counts mask scratch e lent = record {
   edges_long = lent.edges_long;
   lanes_long = lent.lanes_long;
   counts_long = lent.counts_long;
   room = record { places = lent.room.places; slots = omega (arith, lent.room.slots, e); masked = lent.room.masked };
+  spare = lent.spare;
 }
 
 -- the sheet after the last turn, all bundles drawn
-module _ (j : code.Job) (buffer : List Float) (from : Came j buffer) (sizes : Sizes j) (edges lanes : List ℕ) (taps points : List Float) (counts : List ℕ) (lent : Lent j edges lanes taps points counts)
+module _ (j : code.Job) (buffer : List Float) (from : Came j buffer) (sizes : Sizes j) (t : BoardTables) (same : board_lent t ≡ (job_in j buffer).board) (edges lanes : List ℕ) (taps points : List Float) (counts : List ℕ) (mask : List Bool) (scratch : List Float) (lent : Lent j edges lanes taps points counts mask scratch)
     (v : Verdict) (ds : DrawnBundles) (edges' lanes' : List ℕ) (taps' points' : List Float) (counts' : List ℕ) (taps_kept : length taps' ≡ length taps) (Points-kept : length points' ≡ length points) (counts_kept : length counts' ≡ length counts) where
-  pub on_sheet : (q : GeometryVisits) → v ≡ Clean q → Listed edges' lanes' j.members.rows j.members.count → Rows (take ds.count j.bundles.rows) (take ds.count ds.rows) → Full v ds.count j.bundles.count → Held counts'
+  pub on_sheet : (q : GeometryVisits) → v ≡ Clean q → Listed edges' lanes' t.members.now (length t.members.now) → Rows (take ds.count t.bundles.now) (take ds.count ds.rows) → Full v ds.count (length t.bundles.now) → Held counts'
       → OnSheet j edges' ds points' counts' taps'
   on_sheet q e listed each full held =
-      let all = full_clean v q ds.count j.bundles.count e full in
+      let all = full_clean v q ds.count (length t.bundles.now) e full ∙ bundles_lent j buffer from sizes t same in
+      let bundles = length-take-le j.bundles.count j.bundles.rows (bundles_in j buffer from sizes) in
+      let members = length-take-le j.members.count j.members.rows (members_in j buffer from sizes) in
+      let edges = length-take-le j.edges.count j.edges.rows (edges_in j buffer from sizes) in
+      let of_members : Listed edges' lanes' (take j.members.count j.members.rows) (length (take j.members.count j.members.rows)) = subst (λ (b : Board). Listed edges' lanes' b.members (length b.members)) same listed in
       record {
         fits = from.fits;
-        members_on = (routes_in j buffer from sizes).members_on;
-        windows = λ i h. ((tables_sound j buffer from sizes).bundles_on i (omega (arith, h, all))).members_in;
-        edges_are = λ i h. (listed i h).0;
+        members_on = λ i h. omega (arith, ap (λ (m : Member). m.edge) (get_or-take j.members.count j.members.rows i no_member h), (routes_in j buffer from sizes).members_on i (omega (arith, h, members)), edges);
+        windows = λ i h. omega (arith, ap (λ (u : Bundle). u.first + u.count) (get_or-take j.bundles.count j.bundles.rows i no_bundle (omega (arith, h, all))), ((tables_sound j buffer from sizes).bundles_on i (omega (arith, h, all, bundles))).members_in, members);
+        edges_are = λ k h. (of_members k (omega (arith, h, members))).0 ∙ ap (λ (m : Member). m.edge) (get_or-take j.members.count j.members.rows k no_member h);
         all_drawn = all;
-        each_row = each;
+        each_row = subst (λ (us : List Bundle). Rows us (take ds.count ds.rows)) (ap (λ (b : Board). take ds.count b.bundles) same ∙ take-take ds.count j.bundles.count j.bundles.rows (omega (arith, all))) each;
         slots = omega (arith, lent.room.slots, Points-kept, counts_kept);
         hold = held;
         counted = omega (arith, lent.counts_long, counts_kept);
@@ -252,37 +266,36 @@ sheet_room t f s room e is h = rw is (rw e at h)
 pub told_room : (s t : Told) (room : ℕ) → s ≡ t → length (told_bytes s) ≤ room → length (told_bytes t) ≤ room
 told_room s t room e h = subst (λ (z : Told). length (told_bytes z) ≤ room) e h
 
-pub room_for : (members n : ℕ) (taps points : List Float) (counts : List ℕ) → members ≤ max_members → n ≤ max_edges → length taps ≡ tap_numbers → slot_numbers * n ≤ length points → length counts ≡ n → Room members taps points counts
-room_for members n taps points counts hm hn t p c = record { places = omega arith; slots = omega arith; masked = omega arith }
+pub room_for : (members n : ℕ) (taps points : List Float) (counts : List ℕ) (mask : List Bool) → members ≤ max_members → n ≤ max_edges → length taps ≡ tap_numbers → slot_numbers * n ≤ length points → length counts ≡ n → max_edges ≤ length mask → Room members taps points counts mask
+room_for members n taps points counts mask hm hn t p c m = record { places = omega arith; slots = omega arith; masked = omega arith }
 
 -- ---- the answer
 
-module _ (j : code.Job) (buffer : List Float) (from : Came j buffer) (sizes : Sizes j) (given : Bool) (plan : List ℕ) (r : Result Planning Refusal) (is : told_plan j.bundles.count r ≡ plan_phase given (job_in j buffer) plan)
+module _ (j : code.Job) (buffer : List Float) (from : Came j buffer) (sizes : Sizes j) (t : BoardTables) (lent : board_lent t ≡ (job_in j buffer).board) (given : Bool) (plan : List ℕ) (r : Result Planning Refusal) (is : told_plan j.bundles.count r ≡ plan_phase given (job_in j buffer) plan)
     (p : Planning) (on_going : r ≡ Ok p) (offsets : List Float) (v : Verdict) (edges : List ℕ) (ds : DrawnBundles) (points : List Float) (counts : List ℕ) (taps : List Float)
-    (as_offsets : offsets ≡ offsets_of (tables.board_of j.options j.nodes j.ports (take j.edges.count j.edges.rows) j.bundles j.members))
+    (as_offsets : OffsetsLent t offsets)
     (ends : ends_as v (routes_of points counts) (drawn_in edges taps ds)
-    ≡ sheet_of (tables.board_of j.options j.nodes j.ports (take j.edges.count j.edges.rows) j.bundles j.members) j.flags.permits_crossings
-    (turns_from (take j.bundles.count j.bundles.rows) (map x_of (take j.bundles.count p.rows)) offsets) (blank (tables.given_routes buffer j.edges) j.grants.geometry_visits)) where
+    ≡ sheet_of (board_lent t) j.flags.permits_crossings (turns_from t.bundles.now (map x_of (take (length t.bundles.now) p.rows)) (take (length t.bundles.now) offsets)) (blank (tables.given_routes buffer t.edges.now) j.grants.geometry_visits)) where
   abbrev told_so : Told
   told_so = after_taking (job_in j buffer) (plan_phase given (job_in j buffer) plan)
 
   pub all_refused : (n : ℕ) (q : GeometryVisits) → v ≡ Refused n q → after_taking (job_in j buffer) (plan_phase given (job_in j buffer) plan) ≡ refused n
-  all_refused n q e = phase_going j buffer given plan r is p on_going ∙ sheet_refused j buffer from sizes p offsets v (routes_of points counts) (drawn_in edges taps ds) as_offsets ends n q e
+  all_refused n q e = phase_going j buffer given plan r is p on_going ∙ sheet_refused j buffer from sizes t lent p offsets v (routes_of points counts) (drawn_in edges taps ds) as_offsets ends n q e
 
   pub all_drawn : (q : GeometryVisits) → v ≡ Clean q → after_taking (job_in j buffer) (plan_phase given (job_in j buffer) plan) ≡ drawn (finished j buffer p edges ds points counts taps q.0)
-  all_drawn q e = phase_going j buffer given plan r is p on_going ∙ sheet_clean j buffer from sizes p offsets v (routes_of points counts) (drawn_in edges taps ds) as_offsets ends q e
+  all_drawn q e = phase_going j buffer given plan r is p on_going ∙ sheet_clean j buffer from sizes t lent p offsets v (routes_of points counts) (drawn_in edges taps ds) as_offsets ends q e
 
   -- the answer of the tables after the last shift
-  pub all_told : (q : GeometryVisits) → OnSheet j edges ds points counts taps → (l : Laid) (after shifted : List Float) (t : DrawnTaps) → TapsOf j.edges j.members shifted t → page_in edges l after counts shifted ≡ page_of (sheet_in edges j.nodes ds points counts taps)
+  pub all_told : (q : GeometryVisits) → OnSheet j edges ds points counts taps → (l : Laid) (after shifted : List Float) (rows : DrawnTaps) → TapsOf j.edges j.members shifted rows → page_in edges l after counts shifted ≡ page_of (sheet_in edges j.nodes ds points counts taps)
       → l.drawn.count ≡ ds.count → map heading (take l.drawn.count l.drawn.rows) ≡ map heading (take ds.count ds.rows)
-      → answer.sheet_of (record { tap_visits = p.left.0; geometry_visits = q.0; width = l.width; height = l.height }) l.nodes j.edges after counts l.drawn t ≡ answer_of (finished j buffer p edges ds points counts taps q.0)
-  all_told q on l after shifted t of page as_many kept = sheet_same j edges ds points counts taps on sizes buffer p q.0 l after shifted t of (omega (arith, on.fits.members, of.rows_long)) page as_many kept
+      → answer.sheet_of (record { tap_visits = p.left.0; geometry_visits = q.0; width = l.width; height = l.height }) l.nodes j.edges after counts l.drawn rows ≡ answer_of (finished j buffer p edges ds points counts taps q.0)
+  all_told q on l after shifted rows of page as_many kept = sheet_same j edges ds points counts taps on sizes buffer p q.0 l after shifted rows of (omega (arith, on.fits.members, of.rows_long)) page as_many kept
 
   -- 16 was looked at: each bundle of the table can be printed
-  pub all_printable : j.flags.on_grid ≡ true → (q : GeometryVisits) → v ≡ Clean q → (a : Frame) (nodes : Nodes) (after : List Float) (b : DrawnBundles) (t : DrawnTaps)
-      → answer.sheet_of a nodes j.edges after counts b t ≡ answer_of (finished j buffer p edges ds points counts taps q.0) → b.count ≤ length b.rows → Printables b.count b.rows
-  all_printable on q e a nodes after b t same h =
+  pub all_printable : j.flags.on_grid ≡ true → (q : GeometryVisits) → v ≡ Clean q → (a : Frame) (nodes : Nodes) (after : List Float) (b : DrawnBundles) (rows : DrawnTaps)
+      → answer.sheet_of a nodes j.edges after counts b rows ≡ answer_of (finished j buffer p edges ds points counts taps q.0) → b.count ≤ length b.rows → Printables b.count b.rows
+  all_printable on q e a nodes after b rows same h =
       let whole = phase_whole given from.bytes plan (job_in j buffer) from.is on (plan_in j.bundles.count p) (phase_taken j buffer given plan r is p on_going) in
-      let going = sheet_going j buffer from sizes p offsets v (routes_of points counts) (drawn_in edges taps ds) as_offsets ends q e in
-      printables b.count b.rows (take t.count t.rows) h
+      let going = sheet_going j buffer from sizes t lent p offsets v (routes_of points counts) (drawn_in edges taps ds) as_offsets ends q e in
+      printables b.count b.rows (take rows.count rows.rows) h
       (subst (λ (z : Sheet). PageFits z.bundles) (sym same) (page_fits from.bytes (job_in j buffer) from.is on (plan_in j.bundles.count p) whole (standing (routes_of points counts) (drawn_in edges taps ds) q.0) going))

@@ -25,20 +25,23 @@ use job::Job;
 use limits::{MAX_MEMBERS, SEARCH_WORK};
 use outputs::Wants;
 use plan::Planning;
-use plan::tables::BoardTables;
 use refusal::Refusal;
 use search::TapVisits;
 use turns::TurnWork;
 
 // What a sheet is drawn in, lent, beside the slots of the present routes: of each member its edge, its
-// tap lane and its tap as x and y, of each route how many points it has, and what a turn works in.
+// tap lane and its tap as x and y, of each route how many points it has, and the mask and the scratch of
+// a turn. That scratch has room is asked, and no TurnWork is a field: of a struct that holds a `&mut` the
+// borrow checker covers neither a ghost field, where it is written through in a loop, nor a field lent as
+// `&mut` itself.
 #[derive(Drop)]
 pub struct SheetWork<'a> {
     pub edges: &'a mut [usize],
     pub lanes: &'a mut [u32],
     pub taps: &'a mut [f64],
     pub counts: &'a mut [usize],
-    pub turn_work: &'a mut TurnWork,
+    pub mask: &'a mut [bool],
+    pub scratch: &'a mut [f64],
 }
 
 // The same, for a board of so many members and routes.
@@ -47,20 +50,23 @@ pub fn work_for<'a>(work: SheetWork<'a>, members: usize, routes: usize) -> Sheet
     ensures members { (length result.edges.now ≡ members) × (length result.lanes.now ≡ members) }
     ensures routes { length result.counts.now ≡ routes }
     ensures taps { length result.taps.now ≡ length work.entry.taps.now }
+    ensures turn { (length result.mask.now ≡ length work.entry.mask.now) × (length result.scratch.now ≡ length work.entry.scratch.now) }
 {
     let SheetWork {
         edges,
         lanes,
         taps,
         counts,
-        turn_work,
+        mask,
+        scratch,
     } = work;
     SheetWork {
         edges: &mut edges[..members],
         lanes: &mut lanes[..members],
         taps,
         counts: &mut counts[..routes],
-        turn_work,
+        mask,
+        scratch,
     }
 }
 
@@ -114,18 +120,10 @@ pub fn draw_in(
     requires came { Came j given.now × (6 ≤ length answer.old) × (lacks wants.page (length page.old) page_room ≡ false) × (lacks wants.crossings (length crossings.old) crossings_room ≡ false) }
     requires plan_in_bounds { length (told_bytes (after_taking (job_in j given.now) (plan_phase wants.plan (job_in j given.now) plan.now))) ≤ length answer.old }
     requires search_work_in_bounds { (search_work ≤ length points.old) × (length sorted.old ≡ candidate_room) }
-    requires lent { Lent j work.edges.now work.lanes.now work.taps.now points.old work.counts.now }
+    requires lent { Lent j work.edges.now work.lanes.now work.taps.now points.old work.counts.now work.mask.now work.scratch.now }
     ensures { Writes (record { answer = answer.old; page = page.old; crossings = crossings.old }) (record { answer = answer.new; page = page.new; crossings = crossings.new }) result (outputs_told wants (after_all wants (after_taking (job_in j given.now) (plan_phase wants.plan (job_in j given.now) plan.now)))) }
 {
-    // A literal at each of its callers: a function for it would promise an equation for each field.
-    let board = BoardTables {
-        options: j.options,
-        nodes: &j.nodes,
-        ports: &j.ports,
-        edges: &j.edges,
-        bundles: &j.bundles,
-        members: &j.members,
-    };
+    let board = job_tables::board_tables(&j);
     let offsets = plan_depths::corridor_depth_offsets(board);
     let p = if wants.plan {
         plan_reader::read_plan(plan, j.bundles.count, j.grants.tap_visits, j.flags.on_grid)
@@ -150,8 +148,13 @@ pub fn draw_in(
         lanes,
         taps,
         counts,
-        turn_work,
+        mask,
+        scratch,
     } = work;
+    let mut turn_work = TurnWork {
+        mask: &mut mask[..],
+        scratch: &mut scratch[..],
+    };
     let d = turns::draw_sheet(
         board,
         j.flags.permits_crossings,
@@ -163,7 +166,7 @@ pub fn draw_in(
         taps,
         points,
         counts,
-        turn_work,
+        &mut turn_work,
         &mut visits,
     );
     match d.ended {
@@ -172,7 +175,7 @@ pub fn draw_in(
     }
     let off_grid = wants.page & !j.flags.on_grid;
     if wants.crossings {
-        let too_many = crossing_output::list_crossings(
+        match crossing_output::list_crossings(
             j.flags.permits_crossings,
             off_grid,
             j.edges,
@@ -180,9 +183,9 @@ pub fn draw_in(
             points,
             counts,
             crossings,
-        );
-        if too_many {
-            return answer::write_notice(answer, u8::from(Refusal::TooManyCrossings));
+        ) {
+            Ok(()) => (),
+            Err(r) => return answer::write_notice(answer, u8::from(r)),
         }
     }
     if off_grid {

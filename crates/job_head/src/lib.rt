@@ -23,7 +23,7 @@ const BUNDLE_LIMIT: u32 = MAX_BUNDLES as u32;
 
 // ---- fields whose values are listed
 
-// Not TryFrom: that impl would stand in crate job, which has types and definitions alone.
+// Not TryFrom: that impl would stand in crate job, away from the reader whose rule and refusal it is.
 #[tactic(auto, unfolding(job::specs::Job::flags_of))]
 fn flags_of(n: u32) -> Result<Flags, Refusal>
     ensures { (rest : List ℕ) → told result rest ≡ flags_of n rest }

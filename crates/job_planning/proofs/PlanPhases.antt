@@ -1,10 +1,10 @@
 -- The planner's phases, from what its callees ensure to what is told and written. Assumes nothing.
 use Prim.Native.Nat.{ℕ, ◌≤◌, ◌<◌}
 use mathlib.Core.Path.{◌≡◌, sym, ap, ◌∙◌, subst}
-use mathlib.Core.Bool.{Bool, true, false, cond}
+use mathlib.Core.Bool.{Bool, cond}
 use mathlib.Core.List.{List, []}
 use borrow.Author.Tests.{lt-ltb, le-ltb}
-use lib.ListN.{length, take}
+use lib.ListN.{length}
 use lib.Seq.{sets}
 use lib.Ieee.{Float}
 use Rattle.limits.specs.Limits.{plan_room}
@@ -13,20 +13,23 @@ use Rattle.job.specs.declared.Job as code
 use Rattle.std.specs.Prelude.{Ok, Err}
 use Rattle.refusal.specs.declared.Refusal.{Refusal}
 use Rattle.refusal.specs.Refusal.{refusal_number}
-use Rattle.job.specs.Job.{read_job}
+use Rattle.job.specs.Job.{read_job, given_routes}
 use Rattle.job.specs.AllTables.{JobTold}
+use Rattle.board.specs.Board.{Board}
 use Rattle.plan.specs.BoardTables as tables
+use Rattle.plan.specs.declared.tables.BoardTables.{BoardTables}
+use Rattle.plan.specs.Lent.{board_lent}
 use Rattle.plan.specs.Prepared.{plan_in}
 use Rattle.plan.specs.Plan.{plan_of}
 use Rattle.plan.specs.Plan as planning
 use Rattle.std.specs.Prelude.{Result, Ok, Err}
-use Rattle.plan.specs.declared.Planning.{Planning}
+use Rattle.plan.specs.Tables.{Planning}
 use Rattle.components.specs.declared.NoRoom.{NoRoom}
 use Rattle.components.specs.Settled.{step_in}
 use Rattle.answer.specs.Answer.{notice_bytes}
 use Rattle.answer.proofs.Stores.{notice_length}
 use Rattle.plan_bytes.specs.PlanBytes.{plan_bytes, Taken, rejected, taken}
-use Rattle.job_tables.proofs.Ready.{read_accepted, given_same}
+use Rattle.job_tables.proofs.Ready.{read_accepted, bundles_lent, given_lent}
 use Rattle.job_tables.specs.Came.{Sizes, job_in, Came}
 use Rattle.promise.specs.Stage.{planned}
 use Rattle.plan_stage.specs.Entries.{after_search, plan_after_reading, plan_told, plan_told_bytes, plan_written, planner_of}
@@ -40,11 +43,14 @@ pub plan_writes : (before after : List ℕ) (r : ℕ) (p : planning.Plan) (t : T
 unfolding plan_told_bytes
 plan_writes before after r p t e b c = record { bytes = rw e b; count = rw e c }
 
-module _ (j : code.Job) (buffer : List Float) (from : Came j buffer) (sizes : Sizes j) (s : Result Planning NoRoom)
-    (is : step_in j.bundles.count s
-    ≡ plan_of (tables.board_of j.options j.nodes j.ports (take j.edges.count j.edges.rows) j.bundles j.members) (tables.given_routes buffer j.edges) j.flags.separates_collectors j.grants.tap_visits) where
+module _ (j : code.Job) (buffer : List Float) (from : Came j buffer) (sizes : Sizes j) (t : BoardTables) (lent : board_lent t ≡ (job_in j buffer).board) (s : Result Planning NoRoom)
+    (is : step_in (length t.bundles.now) s ≡ plan_of (board_lent t) (tables.given_routes buffer t.edges.now) j.flags.separates_collectors j.grants.tap_visits) where
   planned_is : planned (job_in j buffer) ≡ step_in j.bundles.count s
-  planned_is = ap (λ (g : List Route). plan_of (job_in j buffer).board g j.flags.separates_collectors j.grants.tap_visits) (sym (given_same j buffer from sizes)) ∙ sym is
+  planned_is =
+      ap (λ (b : Board). plan_of b (given_routes (job_in j buffer)) j.flags.separates_collectors j.grants.tap_visits) (sym lent)
+      ∙ ap (λ (g : List Route). plan_of (board_lent t) g j.flags.separates_collectors j.grants.tap_visits) (sym (given_lent j buffer from sizes t lent))
+      ∙ sym is
+      ∙ ap (λ (n : ℕ). step_in n s) (bundles_lent j buffer from sizes t lent)
 
   pub plan_refused : (e : NoRoom) → s ≡ Err e → after_search (planned (job_in j buffer)) ≡ rejected 13
   unfolding after_search

@@ -14,7 +14,6 @@ ghost use Rattle.plan_stage.specs.Entries.{after_search, plan_told};
 ghost use Rattle.job_planning.specs.PlanWrites.{PlanWrites};
 
 use job::Job;
-use plan::tables::BoardTables;
 use refusal::Refusal;
 use search::TapVisits;
 
@@ -26,14 +25,7 @@ fn plan_in(j: Job, given: &[f64], sorted: &mut [f64], work: &mut [f64], plan: &m
     requires sorted_len { (length sorted.old ≡ candidate_room) × (length work.old ≡ search_work) }
     ensures { PlanWrites plan.old plan.new result (after_search (planned (job_in j given.now))) }
 {
-    let t = BoardTables {
-        options: j.options,
-        nodes: &j.nodes,
-        ports: &j.ports,
-        edges: &j.edges,
-        bundles: &j.bundles,
-        members: &j.members,
-    };
+    let t = job_tables::board_tables(&j);
     let offsets = plan_depths::corridor_depth_offsets(t);
     let s = planner::plan_interior_collectors(
         t,

@@ -104,6 +104,7 @@ fn read_points(
     Ok(())
 }
 
+#[tactic(auto, using(job::proofs::Windows::edge_window))]
 pub fn read_edges(
     s: &[u8],
     from: usize,

@@ -16,11 +16,14 @@ use Rattle.job.specs.AllTables.{JobTold}
 use Rattle.job.proofs.GoodRecords.{GoodPort, GoodEdge, GoodBundle, GoodMember}
 use Rattle.job.proofs.Sound.{accepted_sound}
 use Rattle.job.proofs.Sound as sound
+use Rattle.plan.specs.declared.tables.BoardTables.{BoardTables}
 use Rattle.plan.specs.Depths.{no_port}
 use Rattle.plan.specs.BoardTables.{Sound, RoutesIn, given_route, no_bundle, no_member, no_edge}
 use Rattle.plan.specs.BoardTables as tables
+use Rattle.plan.specs.Lent.{board_lent}
 use Rattle.job_tables.specs.Came.{job_in, Came, Sizes}
 
+-- a row of a table with a count
 row_at : {A : Type 0} (P : A → Type 0) (rows : List A) (n : ℕ) (d : A) → n ≤ length rows → All P (take n rows) → (i : ℕ) → i < n → P (get_or rows i d)
 row_at P rows n d k h i l = subst P (get_or-take n rows i d l) (all_at P (take n rows) i d h (omega (arith, length-take-le n rows k, l)))
 
@@ -63,39 +66,54 @@ module _ (j : code.Job) (buffer : List Float) (from : Came j buffer) (sizes : Si
   pub members_in : j.members.count ≤ length j.members.rows
   members_in = omega (arith, from.fits.members, sizes.members)
 
-  pub tables_sound : Sound j.nodes j.ports j.bundles j.members
-  tables_sound = record {
-    nodes_fit = nodes_in;
-    ports_fit = ports_in;
-    bundles_fit = bundles_in;
-    members_fit = members_in;
-    nodes_few = from.fits.nodes;
-    ports_few = from.fits.ports;
-    bundles_few = from.fits.bundles;
-    members_few = from.fits.members;
-    ports_on = λ i h. omega (arith, (row_at (GoodPort _ _) j.ports.rows j.ports.count no_port ports_in good.ports i h).node, length-take-le j.nodes.count j.nodes.rows nodes_in);
-    bundles_on = λ i h.
-        let g = row_at (GoodBundle _ _) j.bundles.rows j.bundles.count no_bundle bundles_in good.bundles i h in
-        record {
-          port_in = omega (arith, g.port, length-take-le j.ports.count j.ports.rows ports_in);
-          members_in = omega (arith, g.window, length-take-le j.members.count j.members.rows members_in);
-          members_few = g.count;
-        };
-    edges_low = λ i h. omega (arith, (row_at (GoodMember _) j.members.rows j.members.count no_member members_in good.members i h).edge, length-take-le j.edges.count j.edges.rows edges_in, from.fits.edges);
-    lanes_few = λ i h. (row_at (GoodMember _) j.members.rows j.members.count no_member members_in good.members i h).lane;
-  }
+  pub tables_sound : Sound (take j.nodes.count j.nodes.rows) (take j.ports.count j.ports.rows) (take j.bundles.count j.bundles.rows) (take j.members.count j.members.rows)
+  tables_sound =
+      let nodes = length-take-le j.nodes.count j.nodes.rows nodes_in in
+      let ports = length-take-le j.ports.count j.ports.rows ports_in in
+      let edges = length-take-le j.edges.count j.edges.rows edges_in in
+      let bundles = length-take-le j.bundles.count j.bundles.rows bundles_in in
+      let members = length-take-le j.members.count j.members.rows members_in in
+      let fits = from.fits in
+      record {
+        nodes_few = omega (arith, fits.nodes);
+        ports_few = omega (arith, fits.ports);
+        bundles_few = omega (arith, fits.bundles);
+        members_few = omega (arith, fits.members);
+        ports_on = λ i h. (all_at (GoodPort _ _) (take j.ports.count j.ports.rows) i no_port good.ports h).node;
+        bundles_on = λ i h.
+            let g = all_at (GoodBundle _ _) (take j.bundles.count j.bundles.rows) i no_bundle good.bundles h in
+            record { port_in = g.port; members_in = g.window; members_few = g.count };
+        edges_low = λ i h. omega (arith, (all_at (GoodMember _) (take j.members.count j.members.rows) i no_member good.members h).edge, edges, fits.edges);
+        lanes_few = λ i h. (all_at (GoodMember _) (take j.members.count j.members.rows) i no_member good.members h).lane;
+      }
 
-  pub routes_in : RoutesIn buffer j.edges j.members
+  pub routes_in : RoutesIn buffer (take j.edges.count j.edges.rows) (take j.members.count j.members.rows)
   routes_in = record {
-    edges_fit = edges_in;
-    edges_few = from.fits.edges;
-    members_on = λ i h. omega (arith, (row_at (GoodMember _) j.members.rows j.members.count no_member members_in good.members i h).edge, length-take-le j.edges.count j.edges.rows edges_in);
-    routes_short = λ i h. (row_at (GoodEdge _ _) j.edges.rows j.edges.count no_edge edges_in good.edges i h).count;
-    routes_in = λ i h. omega (arith, (row_at (GoodEdge _ _) j.edges.rows j.edges.count no_edge edges_in good.edges i h).window, points_length buffer 0 j.points, from.fits.points, from.long);
+    edges_few = omega (arith, length-take-le j.edges.count j.edges.rows edges_in, from.fits.edges);
+    members_on = λ i h. (all_at (GoodMember _) (take j.members.count j.members.rows) i no_member good.members h).edge;
+    routes_short = λ i h. (all_at (GoodEdge _ _) (take j.edges.count j.edges.rows) i no_edge good.edges h).count;
+    routes_in = λ i h. omega (arith, (all_at (GoodEdge _ _) (take j.edges.count j.edges.rows) i no_edge good.edges h).window, points_length buffer 0 j.points, from.fits.points, from.long);
   }
 
   -- the routes in the slice are the job's
-  pub given_same : tables.given_routes buffer j.edges ≡ given_routes (job_in j buffer)
+  pub given_same : tables.given_routes buffer (take j.edges.count j.edges.rows) ≡ given_routes (job_in j buffer)
   given_same =
       same_routes (length (take j.nodes.count j.nodes.rows)) j.points buffer (take j.edges.count j.edges.rows)
       (subst (λ (n : ℕ). All (GoodEdge (length (take j.nodes.count j.nodes.rows)) n) (take j.edges.count j.edges.rows)) (points_length buffer 0 j.points) good.edges)
+
+  -- the same of the tables as they are lent
+  module _ (t : BoardTables) (lent : board_lent t ≡ (job_in j buffer).board) where
+    pub bundles_lent : length t.bundles.now ≡ j.bundles.count
+    bundles_lent = ap (λ (b : board.Board). length b.bundles) lent ∙ length-take-le j.bundles.count j.bundles.rows bundles_in
+
+    pub members_lent : length t.members.now ≡ j.members.count
+    members_lent = ap (λ (b : board.Board). length b.members) lent ∙ length-take-le j.members.count j.members.rows members_in
+
+    pub edges_lent : length t.edges.now ≡ j.edges.count
+    edges_lent = ap (λ (b : board.Board). length b.edges) lent ∙ length-take-le j.edges.count j.edges.rows edges_in
+
+    pub routes_lent : RoutesIn buffer t.edges.now t.members.now
+    routes_lent = subst (λ (b : board.Board). RoutesIn buffer b.edges b.members) (sym lent) routes_in
+
+    pub given_lent : tables.given_routes buffer t.edges.now ≡ given_routes (job_in j buffer)
+    given_lent = ap (λ (b : board.Board). tables.given_routes buffer b.edges) lent ∙ given_same

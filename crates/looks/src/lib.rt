@@ -25,6 +25,7 @@ use limits::SLOT_POINTS;
 use refusal::Refusal;
 
 // consume_geometry_visit: one visit is paid before each look, if one is left.
+#[tactic(auto, using(checks::proofs::TestSteps::charge_none, checks::proofs::TestSteps::charge_one))]
 pub fn charge(visits: &mut GeometryVisits) -> Result<(), Refusal>
     ensures paid { (is_ok result, visits.new.0) ≡ charged visits.old.0 }
     ensures refusal { IfErr result (λ r. r ≡ GeometryVisitsSpent) }
@@ -75,6 +76,7 @@ pub fn clashes(rules: Rules, bus: Segment, tap: Option<Point>, run: Segment) -> 
 }
 
 // A route's tap among those of a bundle.
+#[tactic(auto, using(checks::proofs::TestSteps::tap_here, checks::proofs::TestSteps::tap_next, checks::proofs::TestSteps::tap_none))]
 pub fn tap_on_route(own: BundleTaps, e: usize) -> Option<Point>
     ensures { result ≡ tap_of (taps_lent own.entry) e }
 {

@@ -108,15 +108,11 @@ module _ (inside : Bool) (role : Role) (pitch offset : Float) (edges lanes : Lis
   unfolding routes_in then_routes
   then_off o k p c e = rw (sym e)
 
-  pub all_on : (i : ℕ) (rs : List Route) (b : Bool) (p : List Float) (c : List ℕ) → i < count → b ≡ true → routes_in b p c ≡ one_of i rs → rest_all (i + 1) (routes_of p c) ≡ rest_all i rs
-  all_on i rs b p c h t e =
-      let f : routes_in true p c ≡ one_of i rs = ap (λ (x : Bool). routes_in x p c) (sym t) ∙ e in
-      sym (all_next i rs h ∙ then_on (one_of i rs) (λ ss. rest_all (i + 1) ss) p c f)
+  pub all_on : (i : ℕ) (rs : List Route) (p : List Float) (c : List ℕ) → i < count → routes_in true p c ≡ one_of i rs → rest_all (i + 1) (routes_of p c) ≡ rest_all i rs
+  all_on i rs p c h e = sym (all_next i rs h ∙ then_on (one_of i rs) (λ ss. rest_all (i + 1) ss) p c e)
 
-  pub all_off : (i : ℕ) (rs : List Route) (b : Bool) (p : List Float) (c : List ℕ) → i < count → b ≡ false → routes_in b p c ≡ one_of i rs → routes_in false p c ≡ rest_all i rs
-  all_off i rs b p c h t e =
-      let f : routes_in false p c ≡ one_of i rs = ap (λ (x : Bool). routes_in x p c) (sym t) ∙ e in
-      sym (all_next i rs h ∙ then_off (one_of i rs) (λ ss. rest_all (i + 1) ss) p c f)
+  pub all_off : (i : ℕ) (rs : List Route) (p : List Float) (c : List ℕ) → i < count → routes_in false p c ≡ one_of i rs → routes_in false p c ≡ rest_all i rs
+  all_off i rs p c h e = sym (all_next i rs h ∙ then_off (one_of i rs) (λ ss. rest_all (i + 1) ss) p c e)
 
   pub all_end : (i : ℕ) (p : List Float) (c : List ℕ) → count ≤ i → routes_in true p c ≡ rest_all i (routes_of p c)
   unfolding rewrite_all taps_from members_from routes_in

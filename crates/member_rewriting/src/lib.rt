@@ -6,9 +6,10 @@
 
 #![tactic(auto)]
 
-ghost use Rattle.std.specs.Prelude.{ℕ, ◌≡◌, suc, ◌+◌, ◌*◌, ◌-◌, ◌<◌, ◌≤◌, length, get_or};
+ghost use Rattle.std.specs.Prelude.{ℕ, ◌≡◌, suc, ◌+◌, ◌*◌, ◌-◌, ◌<◌, ◌≤◌, length, get_or, is_ok, IfErr};
 ghost use Rattle.limits.specs.Limits.{max_lane, slot_points, slot_numbers};
 ghost use Rattle.geometry.specs.Lent.{route_lent};
+ghost use Rattle.refusal.specs.declared.Refusal.TheVariants.{TapUnreachable};
 ghost use Rattle.route.specs.Slots.{routes_of, Held};
 ghost use Rattle.route.specs.Contract.{Leaves};
 ghost use Rattle.plan.specs.Depths.{number};
@@ -21,6 +22,7 @@ ghost use Rattle.checks.specs.MemberSlices.{depth_at, rewrite_with, routes_in, C
 use checks::BundleRows;
 use geometry::{Point, Role, RouteView};
 use limits::SLOT_POINTS;
+use refusal::Refusal;
 
 // ---- rewrite_member_routes
 
@@ -79,7 +81,7 @@ fn rewrite_route(
     }
 }
 
-// The route of one member, of edge e, rewritten in its slot. Where it cannot be, the slots stay as
+// The route of one member, of edge e, rewritten in its slot. Where it cannot be (10), the slots stay as
 // they are. points and counts stay two parameters, as in crate route_slots.
 fn rewrite_member(
     lead: Lead,
@@ -89,14 +91,15 @@ fn rewrite_member(
     points: &mut [f64],
     counts: &mut [usize],
     scratch: &mut [f64],
-) -> bool
+) -> Result<(), Refusal>
     requires { (e < length counts.old) × (slot_numbers * length counts.old ≤ length points.old) × Held counts.old × (get_or counts.old e 0 ≤ slot_points - 2) × (slot_numbers ≤ length scratch.old) }
-    ensures told { routes_in result points.new counts.new ≡ put_route (rewrite_with lead.inside lead.role lead.pitch depth tap (route_at (routes_of points.old counts.old) e)) e (routes_of points.old counts.old) }
+    ensures told { routes_in (is_ok result) points.new counts.new ≡ put_route (rewrite_with lead.inside lead.role lead.pitch depth tap (route_at (routes_of points.old counts.old) e)) e (routes_of points.old counts.old) }
+    ensures refusal { IfErr result (λ r. r ≡ TapUnreachable) }
     ensures kept { CountsKept counts.old counts.new e }
 {
     let n = counts[e];
     if n < 2 {
-        return false;
+        return Err(Refusal::TapUnreachable);
     }
     let given = RouteView {
         points: &points[..],
@@ -104,10 +107,10 @@ fn rewrite_member(
         count: n,
     };
     match rewrite_route(lead, depth, tap, given, &mut scratch[..]) {
-        None => false,
+        None => Err(Refusal::TapUnreachable),
         Some(m) => {
             if m < 2 {
-                return false;
+                return Err(Refusal::TapUnreachable);
             }
             let made = RouteView {
                 points: &scratch[..],
@@ -115,13 +118,12 @@ fn rewrite_member(
                 count: m,
             };
             route_slots::store_route(made, &mut points[..], &mut counts[..], e);
-            true
+            Ok(())
         }
     }
 }
 
-// Whether every member's route could be rewritten. Where one cannot, what the slots hold is not
-// said.
+// Every member's route rewritten. Where one cannot be (10), what the slots hold is not said.
 pub fn rewrite_member_routes(
     lead: Lead,
     offset: f64,
@@ -130,12 +132,13 @@ pub fn rewrite_member_routes(
     points: &mut [f64],
     counts: &mut [usize],
     scratch: &mut [f64],
-) -> bool
+) -> Result<(), Refusal>
     requires roomy { Roomy members.table.edges.now members.first 0 members.count points.old counts.old }
     requires small { (k : ℕ) → get_or members.table.lanes.now k 0 ≤ max_lane }
     requires tapped { 2 * (members.first + members.count) ≤ length taps.now }
     requires scratch { slot_numbers ≤ length scratch.old }
-    ensures told { routes_in result points.new counts.new ≡ rewrite_all lead.inside lead.role lead.pitch offset (taps_from members.entry.table.edges.now taps.now members.entry.first members.entry.count) (rows_lent members.entry) (routes_of points.old counts.old) }
+    ensures told { routes_in (is_ok result) points.new counts.new ≡ rewrite_all lead.inside lead.role lead.pitch offset (taps_from members.entry.table.edges.now taps.now members.entry.first members.entry.count) (rows_lent members.entry) (routes_of points.old counts.old) }
+    ensures refusal { IfErr result (λ r. r ≡ TapUnreachable) }
     ensures hold { Held counts.new }
 {
     for i in 0..members.count {
@@ -143,7 +146,7 @@ pub fn rewrite_member_routes(
         let depth = corridor_depth(offset, lead.pitch, members.table.lanes[k]);
         let tap = route_views::point_at(taps, k);
         let e = members.table.edges[k];
-        if !rewrite_member(
+        rewrite_member(
             lead,
             depth,
             tap,
@@ -151,9 +154,7 @@ pub fn rewrite_member_routes(
             &mut points[..],
             &mut counts[..],
             &mut scratch[..],
-        ) {
-            return false;
-        }
+        )?;
     }
-    true
+    Ok(())
 }

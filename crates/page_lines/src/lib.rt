@@ -32,6 +32,7 @@ fn column_of(n: u64, fill: u8) -> u8
 }
 
 // w columns of digits, from the last to the first.
+#[tactic(auto, using(crate::specs::LineStores::last_first, crate::specs::LineStores::none_left))]
 fn put_columns(out: &mut [u8], at: usize, w: usize, n: u64, fill: u8)
     requires { at + w ≤ length out.old }
     ensures { out.new ≡ sets out.old at (columns fill w n) }

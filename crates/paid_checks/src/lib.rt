@@ -20,6 +20,7 @@ use refusal::Refusal;
 
 // The new bundle against every route, then each earlier one against the changed routes and against
 // the new one.
+#[tactic(auto, using(checks::proofs::TestSteps::then_on, checks::proofs::TestSteps::then_off), unfolding(drawing::specs::Check::contact_tests, checks::specs::CheckRows::chosen_by))]
 pub fn verify_new_bundle_route_contacts(
     rules: Rules,
     new: DrawnBundle,
@@ -40,6 +41,7 @@ pub fn verify_new_bundle_route_contacts(
 }
 
 // The chosen routes, in the order of the routes.
+#[tactic(auto, using(checks::proofs::TestSteps::over_skip, checks::proofs::TestSteps::over_on, checks::proofs::TestSteps::over_off, checks::proofs::TestSteps::over_end, checks::proofs::TestSteps::edge_tests))]
 pub fn verify_one_bundle_route_node_interiors(
     board: BoardSlices,
     chosen: ChosenRoutes,

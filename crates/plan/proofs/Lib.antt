@@ -13,3 +13,4 @@ pub mod SmallNumbers
 pub mod TableReads
 pub mod Through
 pub mod Visits
+pub mod CountedReads

@@ -1,6 +1,6 @@
 -- What the structs of lent slices and tables hold. Definitions of inner contracts.
 -- Assumes nothing.
-use Rattle.std.specs.Prelude.{◌≡◌, List, take, Float}
+use Rattle.std.specs.Prelude.{◌≡◌, List, length, take, Float}
 use Rattle.geometry.specs.Points.{Route}
 use Rattle.geometry.specs.declared.Role.TheVariants.{Input, Output}
 use Rattle.board.specs.declared.Bundle.{Bundle}
@@ -10,19 +10,24 @@ use Rattle.search.specs.Stretches.{routes}
 use Rattle.search.specs.declared.MemberRoutes.{MemberRoutes}
 use Rattle.plan.specs.declared.Reached.{Reached}
 use Rattle.plan.specs.declared.tables.BoardTables.{BoardTables}
+use Rattle.plan.specs.declared.layout.Setting.{Setting}
 use Rattle.plan.specs.declared.layout.Layout.{Layout}
 use Rattle.plan.specs.declared.columns.Corridors.{Corridors}
 use Rattle.plan.specs.BoardTables.{board_of}
 use Rattle.plan.specs.Depths.{offsets_of}
 use Rattle.plan.specs.Prepared.{Windowed, Routed, Tells, AllTell, Cornered}
 
--- the board that tables are lent with
-abbrev pub board_lent : BoardTables → Board
-board_lent t = board_of t.options t.nodes.now t.ports.now (take t.edges.now.count t.edges.now.rows) t.bundles.now t.members.now
+-- the board that is lent, with other edges
+abbrev pub board_with : BoardTables → List Edge → Board
+board_with t edges = board_of t.options t.nodes.now t.ports.now edges t.bundles.now t.members.now
 
--- the offsets are those of every board with these tables
+-- the board that is lent
+abbrev pub board_lent : BoardTables → Board
+board_lent t = board_with t t.edges.now
+
+-- the offsets are those of the bundles, whatever the edges
 abbrev pub OffsetsLent : BoardTables → List Float → Type 0
-OffsetsLent t offsets = (edges : List Edge) → take t.bundles.now.count offsets ≡ offsets_of (board_of t.options t.nodes.now t.ports.now edges t.bundles.now t.members.now)
+OffsetsLent t offsets = (edges : List Edge) → take (length t.bundles.now) offsets ≡ offsets_of (board_with t edges)
 
 -- the members' given routes
 abbrev pub RoutesTell : Board → List Route → MemberRoutes → Type 0
@@ -37,11 +42,11 @@ abbrev pub BundleTells : Board → List Route → MemberRoutes → Bundle → Ty
 BundleTells b given r u = Routed b given r.points.now r.starts.now r.counts.now u
 
 -- what was worked out about a bundle, and about every bundle of the board
-abbrev pub ReachTells : Board → List Route → Layout → Reached → Type 0
-ReachTells b given l r = Tells b given l.routes.points.now l.routes.starts.now l.routes.counts.now l.rail l.pitch r
+abbrev pub ReachTells : Board → List Route → Setting → Reached → Type 0
+ReachTells b given s r = Tells b given s.routes.points.now s.routes.starts.now s.routes.counts.now s.rail s.pitch r
 
 abbrev pub LayoutTells : Board → List Route → Layout → Type 0
-LayoutTells b given l = AllTell b given l.routes.points.now l.routes.starts.now l.routes.counts.now l.rail l.pitch l.reaches.now
+LayoutTells b given l = AllTell b given l.setting.routes.points.now l.setting.routes.starts.now l.setting.routes.counts.now l.setting.rail l.setting.pitch l.reaches.now
 
 -- the corridors of both roles
 abbrev pub CorridorsTell : Board → Corridors → Type 0

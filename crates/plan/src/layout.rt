@@ -5,17 +5,23 @@
 ghost use Rattle.std.proofs.Props.{props};
 ghost use Rattle.plan.specs.Prepared.{AllAmong, Short};
 
-use crate::Reaches;
+use crate::Reached;
 use search::MemberRoutes;
 
 // The members' given routes, none of more points than a route may have, the rail's depth and the
-// pitch, and what was worked out about each bundle, whose members are among the routes.
+// pitch.
 #[derive(Clone, Copy)]
-pub struct Layout<'a> {
+pub struct Setting<'a> {
     pub routes: MemberRoutes<'a>,
     pub rail: f64,
     pub pitch: f64,
-    pub reaches: &'a Reaches,
     pub ghost short: { Short routes.counts.now } by { Prim.hlevel props },
-    pub ghost among: { AllAmong routes.starts.now reaches.now } by { Prim.hlevel props },
+}
+
+// The same, and what was worked out about each bundle, whose members are among the routes.
+#[derive(Clone, Copy)]
+pub struct Layout<'a, 'b> {
+    pub setting: Setting<'a>,
+    pub reaches: &'b [Reached],
+    pub ghost among: { AllAmong setting.routes.starts.now reaches.now } by { Prim.hlevel props },
 }

@@ -89,14 +89,14 @@ fn further_of(r: Bound, a: Bound) -> Bound
 
 // What the inputs in a list ask of the outputs.
 pub fn required_output_collector_x(layout: Layout, which: &[usize], p: Planning) -> Bound
-    requires { Listing which.now layout.reaches.now.count }
-    ensures { (b : Board) (given : List Route) (ranges : List Ranged) → LayoutTells b given layout.entry → SameBundles ranges layout.entry.reaches.now → result ≡ required b given ranges (map x_of (take layout.entry.reaches.now.count p.rows)) None which.now }
+    requires { Listing which.now (length layout.reaches.now) }
+    ensures { (b : Board) (given : List Route) (ranges : List Ranged) → LayoutTells b given layout.entry → SameBundles ranges layout.entry.reaches.now → result ≡ required b given ranges (map x_of (take (length layout.entry.reaches.now) p.rows)) None which.now }
 {
     let mut r = Bound::None;
     for k in 0..which.len() {
         let i = which[k];
-        let u = layout.reaches.rows[i].bundle;
-        let a = ask(layout.routes, layout.pitch, u, p.rows[i].x);
+        let u = layout.reaches[i].bundle;
+        let a = ask(layout.setting.routes, layout.setting.pitch, u, p.rows[i].x);
         r = further_of(r, a);
     }
     r

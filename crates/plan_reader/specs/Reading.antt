@@ -9,7 +9,7 @@ use Rattle.refusal.specs.declared.Refusal.{Refusal}
 use Rattle.refusal.specs.Refusal.{refusal_number}
 use Rattle.plan.specs.declared.Bound.{Bound}
 use Rattle.plan.specs.declared.Bound.TheVariants.{None, At}
-use Rattle.plan.specs.declared.Planning.{Planning}
+use Rattle.plan.specs.Tables.{Planning}
 use Rattle.plan.specs.Prepared.{plan_in, x_of}
 use Rattle.plan_bytes.specs.PlanBytes.{entry, every_planned, plannable, Taken, rejected, taken}
 use Rattle.plan_reader.specs.declared.Entries.{Entries}

@@ -10,7 +10,7 @@ use components::Places;
 use geometry::Role;
 use limits::MAX_BUNDLES;
 use plan::layout::Layout;
-use plan::{Bound, Planned, Planning, Reaches};
+use plan::{Bound, Planned, Planning, Reached};
 use search::{MemberRoutes, TapVisits};
 
 // sheet_replay has the same: of the crates below both, those that know a plan read no records.
@@ -40,25 +40,25 @@ fn divergence_at(routes: MemberRoutes, pitch: f64, u: Bundle, x: Bound) -> Bound
 }
 
 fn put_divergences(layout: Layout, p: Planning, out: &mut Written) {
-    let n = layout.reaches.count;
+    let n = layout.reaches.len();
     out.put_count(n);
     for i in 0..n {
-        let u = layout.reaches.rows[i].bundle;
-        let d = divergence_at(layout.routes, layout.pitch, u, p.rows[i].x);
+        let u = layout.reaches[i].bundle;
+        let d = divergence_at(layout.setting.routes, layout.setting.pitch, u, p.rows[i].x);
         out.put_bound(d);
     }
 }
 
 // The places of the inputs, in job order.
-fn inputs_of(t: &Reaches) -> Places
-    requires { t.now.count ≤ max_bundles }
+fn inputs_of(reaches: &[Reached]) -> Places
+    requires { length reaches.now ≤ max_bundles }
     ensures few { result.count ≤ max_bundles }
-    ensures listed { Listing (take result.count result.rows) t.now.count }
+    ensures listed { Listing (take result.count result.rows) (length reaches.now) }
 {
     let mut rows = [0; MAX_BUNDLES];
     let mut count = 0;
-    for i in 0..t.count {
-        if plan_numbers::is_same_role(t.rows[i].bundle.role, Role::Input) {
+    for i in 0..reaches.len() {
+        if plan_numbers::is_same_role(reaches[i].bundle.role, Role::Input) {
             rows[count] = i;
             count += 1;
         }

@@ -1,12 +1,12 @@
 // The results of 31 and 32: depth offsets and corridors.
 
-ghost use Rattle.std.specs.Prelude.{ℕ, ◌+◌, ◌≤◌, ◌<◌, get_or};
-ghost use Rattle.limits.specs.Limits.{max_edges, max_members};
+ghost use Rattle.std.specs.Prelude.{ℕ, ◌+◌, ◌≤◌, ◌<◌, length, get_or};
+ghost use Rattle.limits.specs.Limits.{max_edges};
 ghost use Rattle.plan.specs.BoardTables.{no_member};
 ghost use Rattle.planner.specs.Members.{MembersIn};
 
 use crate::fields::Written;
-use board::{Bundle, Members};
+use board::{Bundle, Member};
 use geometry::Role;
 use limits::MAX_EDGES;
 use plan::columns::{Corridors, MemberPlaces};
@@ -14,7 +14,7 @@ use plan::tables::BoardTables;
 use plan::{Bound, Offsets};
 
 pub(crate) fn put_offsets(t: BoardTables, offsets: Offsets, out: &mut Written) {
-    let n = t.bundles.count;
+    let n = t.bundles.len();
     out.put_count(n);
     for x in &offsets.rows[..n] {
         out.put_number(*x);
@@ -29,13 +29,13 @@ fn put_corridor(out: &mut Written, x: Bound) {
 }
 
 // The corridors of a bundle's members.
-fn put_members(u: Bundle, members: &Members, c: Corridors, out: &mut Written)
-    requires few { (members.now.count ≤ max_members) × (u.first + u.count ≤ members.now.count) }
-    requires by_index { (i : ℕ) → i < members.now.count → (get_or members.now.rows i no_member).edge < max_edges }
+fn put_members(u: Bundle, members: &[Member], c: Corridors, out: &mut Written)
+    requires inside { u.first + u.count ≤ length members.now }
+    requires by_index { (i : ℕ) → i < length members.now → (get_or members.now i no_member).edge < max_edges }
 {
     out.put_count(u.count);
     for i in 0..u.count {
-        let m = members.rows[u.first + i];
+        let m = members[u.first + i];
         let x = plan_corridors::corridor_of(u.role, c, m.edge);
         put_corridor(out, x);
     }
@@ -43,12 +43,13 @@ fn put_members(u: Bundle, members: &Members, c: Corridors, out: &mut Written)
 
 // The corridors of all bundles, from those of both roles.
 fn put_bundles(t: BoardTables, c: Corridors, out: &mut Written) {
-    out.put_count(t.bundles.count);
-    for i in 0..t.bundles.count {
-        put_members(t.bundles.rows[i], t.members, c, out);
+    out.put_count(t.bundles.len());
+    for u in t.bundles {
+        put_members(*u, t.members, c, out);
     }
 }
 
+// The steps of planner::reach_bundles, since what lies between them is printed.
 pub(crate) fn put_corridors(
     t: BoardTables,
     offsets: Offsets,

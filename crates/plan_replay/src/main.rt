@@ -18,9 +18,8 @@ use job::Job;
 use limits::{CANDIDATE_ROOM, JOB_ROOM, MAX_MEMBERS, POINT_NUMBERS, SEARCH_WORK};
 use operations::{Between, Operation, Record, Request, start_of};
 use plan::columns::MemberPlaces;
-use plan::layout::Layout;
+use plan::layout::{Layout, Setting};
 use plan::search_work::SearchWork;
-use plan::tables::BoardTables;
 use plan::{Bound, Offsets};
 use plans::put_plan;
 use search::{MemberRoutes, TapVisits};
@@ -74,16 +73,20 @@ fn put_reached(
     requires routed { (length routes.starts.now ≡ max_members) × Short routes.counts.now }
 {
     let reaches = planner::reach_bundles(q.tables, offsets, routes, places);
-    let layout = Layout {
+    let setting = Setting {
         routes,
         rail: board::boundary_bundle_rail_depth(q.tables.options),
         pitch: board::pitch_of_sheet(q.tables.options),
-        reaches: &reaches,
+    };
+    let layout = Layout {
+        setting,
+        reaches: &reaches.rows[..reaches.count],
     };
     put_layout(q, layout, work, out);
 }
 
-// The calls that need the members' rows. 3B is offsets, corridors, bounds and the plan in one.
+// The calls that need the members' rows. 3B is offsets, corridors, bounds and the plan in one. The steps of
+// planner::plan_interior_collectors, since what lies between them is printed.
 #[tactic(auto, using(planner::proofs::MemberTurns::clear))]
 fn put_routed(q: Request, offsets: Offsets, work: &mut SearchWork, out: &mut Written)
     requires { OffsetsLent q.tables offsets.rows }
@@ -148,17 +151,9 @@ fn call_read<'x>(
 )
     requires { Came j points.now }
 {
-    let tables = BoardTables {
-        options: j.options,
-        nodes: &j.nodes,
-        ports: &j.ports,
-        edges: &j.edges,
-        bundles: &j.bundles,
-        members: &j.members,
-    };
     let q = Request {
         record,
-        tables,
+        tables: job_tables::board_tables(&j),
         points,
         separates: j.flags.separates_collectors,
         granted: TapVisits(j.grants.tap_visits),

@@ -37,7 +37,7 @@ pub(crate) fn put_plan(q: Request, offsets: Offsets, work: &mut SearchWork, out:
     match r {
         Ok(p) => {
             out.put_mark(0);
-            put_planned(p, q.tables.bundles.count, out);
+            put_planned(p, q.tables.bundles.len(), out);
         }
         Err(e) => out.put_mark(u8::from(Refusal::from(e)) as u64),
     }

@@ -7,13 +7,13 @@ use plan::search_work::SearchWork;
 use search::{CollectorBounds, Outcome, TapVisits};
 
 pub(crate) fn put_all_bounds(layout: Layout, between: Between, out: &mut Written) {
-    let n = layout.reaches.count;
+    let n = layout.reaches.len();
     out.put_count(n);
     for i in 0..n {
         let b = plan_bounds::interior_collector_bounds(
-            layout.reaches.rows[i],
-            layout.rail,
-            layout.pitch,
+            layout.reaches[i],
+            layout.setting.rail,
+            layout.setting.pitch,
             between.lower,
             between.upper,
         );
@@ -41,19 +41,19 @@ pub(crate) fn put_searches(
     work: &mut SearchWork,
     out: &mut Written,
 ) {
-    let n = layout.reaches.count;
+    let n = layout.reaches.len();
     let mut left = granted;
     out.put_count(n);
     for i in 0..n {
-        let r = layout.reaches.rows[i];
+        let r = layout.reaches[i];
         let b = plan_bounds::interior_collector_bounds(
             r,
-            layout.rail,
-            layout.pitch,
+            layout.setting.rail,
+            layout.setting.pitch,
             between.lower,
             between.upper,
         );
-        let s = plan_searches::search_between(layout, r.bundle, b, left, work);
+        let s = plan_searches::search_between(layout.setting, r.bundle, b, left, work);
         put_search(out, b, s.outcome);
         left = s.left;
     }

@@ -5,34 +5,34 @@
 
 #![tactic(auto)]
 
-ghost use Rattle.std.specs.Prelude.{◌≡◌, ◌<◌, List};
+ghost use Rattle.std.specs.Prelude.{◌≡◌, List, length};
 ghost use Rattle.plan.specs.Depths.{pitch_of};
 ghost use Rattle.board.specs.Board.{Board};
 ghost use Rattle.geometry.specs.Points.{Route};
-ghost use Rattle.plan.specs.Prepared.{Among, RangedBy, passed, reached_at, Listing, SameBundles, SameRows, plan_in, upper_at};
+ghost use Rattle.plan.specs.Prepared.{Among, RangedBy, passed, Listing, SameBundles, SameRows, plan_in, upper_at};
 ghost use Rattle.plan.specs.Lent.{BundleTells, ReachTells, LayoutTells};
 ghost use Rattle.plan.specs.Plan.{seek_in, seek, narrowed, first_pass, Ranged, again};
 ghost use Rattle.search.specs.Search.{search_of};
 
 use board::{Bundle, NO_BUNDLE};
 use limits::MAX_BUNDLES;
-use plan::layout::Layout;
+use plan::layout::{Layout, Setting};
 use plan::search_work::SearchWork;
-use plan::{Bound, Planned, Planning, Range, Ranges, Ranging, Upper};
+use plan::{Bound, Planned, Planning, Range, Ranges, Ranging, Reached, Upper};
 use search::{Bounds, CollectorBounds, MemberRoutes, Outcome, Searched, Sought, TapVisits};
 
 // ---- interior_collector_bounds
 
 // The search for a collector between bounds.
 pub fn search_between(
-    layout: Layout,
+    setting: Setting,
     u: Bundle,
     bounds: CollectorBounds,
     granted: TapVisits,
     work: &mut SearchWork,
 ) -> Searched
-    requires among { Among layout.routes.starts.now u }
-    ensures { (b : Board) (given : List Route) → layout.entry.pitch ≡ pitch_of b u → BundleTells b given layout.entry.routes u → result ≡ seek_in search_of b given u bounds granted.0 }
+    requires among { Among setting.routes.starts.now u }
+    ensures { (b : Board) (given : List Route) → setting.entry.pitch ≡ pitch_of b u → BundleTells b given setting.entry.routes u → result ≡ seek_in search_of b given u bounds granted.0 }
 {
     match bounds {
         CollectorBounds::Absent => Searched {
@@ -42,41 +42,41 @@ pub fn search_between(
         CollectorBounds::Between(s) => {
             let end = u.first + u.count;
             let routes = MemberRoutes {
-                points: layout.routes.points,
-                starts: &layout.routes.starts[u.first..end],
-                counts: &layout.routes.counts[u.first..end],
+                points: setting.routes.points,
+                starts: &setting.routes.starts[u.first..end],
+                counts: &setting.routes.counts[u.first..end],
             };
             let sought = Sought {
+                routes,
                 role: u.role,
-                pitch: layout.pitch,
+                pitch: setting.pitch,
                 bounds: s,
             };
-            collector_xs::common_horizontal_collector_x(
-                routes,
-                sought,
-                granted,
-                work.xs,
-                work.scratch,
-            )
+            collector_xs::common_horizontal_collector_x(sought, granted, work.xs, work.scratch)
         }
     }
 }
 
-// The search for the collector of bundle i between a lower and an upper bound, each search paid for.
+// The search for the collector of a bundle between a lower and an upper bound, each search paid for.
 pub fn interior_collector_range_bounded(
-    layout: Layout,
-    i: usize,
+    setting: Setting,
+    r: Reached,
     lower: Bound,
     upper: Bound,
     granted: TapVisits,
     work: &mut SearchWork,
 ) -> Searched
-    requires counted { i < layout.reaches.now.count }
-    ensures { (b : Board) (given : List Route) → ReachTells b given layout.entry (reached_at layout.entry.reaches.now i) → result ≡ seek search_of b given (reached_at layout.entry.reaches.now i).bundle lower upper granted.0 }
+    requires among { Among setting.routes.starts.now r.bundle }
+    ensures { (b : Board) (given : List Route) → ReachTells b given setting.entry r → result ≡ seek search_of b given r.bundle lower upper granted.0 }
 {
-    let r = layout.reaches.rows[i];
-    let bounds = plan_bounds::interior_collector_bounds(r, layout.rail, layout.pitch, lower, upper);
-    search_between(layout, r.bundle, bounds, granted, work)
+    let bounds = plan_bounds::interior_collector_bounds(
+        r,
+        setting.rail,
+        setting.pitch,
+        lower,
+        upper,
+    );
+    search_between(setting, r.bundle, bounds, granted, work)
 }
 
 // ---- the first pass
@@ -95,27 +95,26 @@ pub fn narrow(b: CollectorBounds, o: Outcome) -> CollectorBounds
     }
 }
 
-// The first search of bundle i.
+// The first search of a bundle.
 fn interior_collector_range(
-    layout: Layout,
-    i: usize,
+    setting: Setting,
+    r: Reached,
     granted: TapVisits,
     work: &mut SearchWork,
 ) -> Ranging
-    requires counted { i < layout.reaches.now.count }
-    ensures told { (b : Board) (given : List Route) → ReachTells b given layout.entry (reached_at layout.entry.reaches.now i) → RangedBy b given (reached_at layout.entry.reaches.now i).bundle granted.0 result }
-    ensures same { result.range.bundle ≡ (reached_at layout.entry.reaches.now i).bundle }
+    requires among { Among setting.routes.starts.now r.bundle }
+    ensures told { (b : Board) (given : List Route) → ReachTells b given setting.entry r → RangedBy b given r.bundle granted.0 result }
+    ensures same { result.range.bundle ≡ r.bundle }
 {
-    let r = layout.reaches.rows[i];
     let bounds = plan_bounds::interior_collector_bounds(
         r,
-        layout.rail,
-        layout.pitch,
+        setting.rail,
+        setting.pitch,
         Bound::None,
         Bound::None,
     );
     let u = r.bundle;
-    let s = search_between(layout, u, bounds, granted, work);
+    let s = search_between(setting, u, bounds, granted, work);
     Ranging {
         range: Range {
             bundle: u,
@@ -127,7 +126,7 @@ fn interior_collector_range(
 
 // The first search of each bundle, in order.
 pub fn first_pass(layout: Layout, granted: TapVisits, work: &mut SearchWork) -> Ranges
-    ensures told { (b : Board) (given : List Route) → LayoutTells b given layout.entry → passed layout.entry.reaches.now.count result ≡ first_pass search_of b given b.bundles granted.0 }
+    ensures told { (b : Board) (given : List Route) → LayoutTells b given layout.entry → passed (length layout.entry.reaches.now) result ≡ first_pass search_of b given b.bundles granted.0 }
     ensures same { SameRows result layout.entry.reaches.now }
 {
     let mut rows = [Range {
@@ -135,8 +134,8 @@ pub fn first_pass(layout: Layout, granted: TapVisits, work: &mut SearchWork) -> 
         bounds: CollectorBounds::Absent,
     }; MAX_BUNDLES];
     let mut left = granted;
-    for i in 0..layout.reaches.count {
-        let s = interior_collector_range(layout, i, left, work);
+    for i in 0..layout.reaches.len() {
+        let s = interior_collector_range(layout.setting, layout.reaches[i], left, work);
         rows[i] = s.range;
         left = s.left;
     }
@@ -144,6 +143,9 @@ pub fn first_pass(layout: Layout, granted: TapVisits, work: &mut SearchWork) -> 
 }
 
 // ---- searches anew
+//
+// A layout, what is planned or granted and the room to work in stay three, here and in component_settling: what
+// is gone by, what changes and what is written to.
 
 // The upper bound for a bundle with a planned x.
 fn upper_at(pitch: f64, upper: Upper, x: Bound) -> Bound
@@ -168,15 +170,16 @@ pub fn search_again(
     p: Planning,
     work: &mut SearchWork,
 ) -> Planning
-    requires listing { Listing which.now layout.reaches.now.count }
-    ensures { (b : Board) (given : List Route) (ranges : List Ranged) → LayoutTells b given layout.entry → SameBundles ranges layout.entry.reaches.now → plan_in layout.entry.reaches.now.count result ≡ again search_of b given ranges (λ x. lower) (upper_at layout.entry.pitch upper) which.now (plan_in layout.entry.reaches.now.count p) }
+    requires listing { Listing which.now (length layout.reaches.now) }
+    ensures { (b : Board) (given : List Route) (ranges : List Ranged) → LayoutTells b given layout.entry → SameBundles ranges layout.entry.reaches.now → plan_in (length layout.entry.reaches.now) result ≡ again search_of b given ranges (λ x. lower) (upper_at layout.entry.setting.pitch upper) which.now (plan_in (length layout.entry.reaches.now) p) }
 {
     let mut rows = p.rows;
     let mut left = p.left;
     for k in 0..which.len() {
         let i = which[k];
-        let most = upper_at(layout.pitch, upper, rows[i].x);
-        let s = interior_collector_range_bounded(layout, i, lower, most, left, work);
+        let r = layout.reaches[i];
+        let most = upper_at(layout.setting.pitch, upper, rows[i].x);
+        let s = interior_collector_range_bounded(layout.setting, r, lower, most, left, work);
         let x = plan_numbers::found_x(s.outcome);
         rows[i] = Planned { x };
         left = s.left;

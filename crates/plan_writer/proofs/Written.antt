@@ -13,7 +13,7 @@ use Rattle.answer.proofs.Stores.{sets_then, sets_before, number_length, all_map,
 use Rattle.plan.specs.declared.Bound.{Bound}
 use Rattle.plan.specs.declared.Bound.TheVariants.{None, At}
 use Rattle.plan.specs.declared.Planned.{Planned}
-use Rattle.plan.specs.declared.Planning.{Planning}
+use Rattle.plan.specs.Tables.{Planning}
 use Rattle.plan.specs.Prepared.{plan_in, x_of}
 use Rattle.plan_bytes.specs.PlanBytes.{entry_bytes, body_bytes, plan_bytes}
 use Rattle.plan_writer.specs.Rows.{row_bytes}

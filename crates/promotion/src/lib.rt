@@ -8,26 +8,25 @@
 
 ghost use Rattle.std.specs.Prelude.{◌+◌, ◌*◌, ◌≤◌, ◌<◌, length, take};
 ghost use Rattle.search.specs.Stretches.{runs_in};
-ghost use Rattle.search.specs.Lent.{members_lent};
+ghost use Rattle.search.specs.Lent.{sought_lent};
 ghost use Rattle.search.specs.Promotion.{with_adjacent, promotion_xs, Promotes};
 
-use search::{Bounds, Listed, MemberRoutes, Promoted, Sought, TapVisits};
+use search::{Bounds, Listed, Promoted, Sought, TapVisits};
 
 // ---- promotion_collector_candidates
 
 // A second search one pitch beside the desired x, behind the first n numbers of xs, which are the
 // first one's list. What the rest of xs and scratch hold afterwards is left open.
 fn add_adjacent<'a>(
-    routes: MemberRoutes<'a>,
-    sought: Sought,
+    sought: Sought<'a>,
     n: usize,
     left: TapVisits,
     xs: &mut [f64],
     scratch: &mut [f64],
 ) -> Promoted
-    requires room { n + runs_in (members_lent sought.role sought.pitch routes) < length xs.old }
-    requires scratch_room { length xs.old + 2 * runs_in (members_lent sought.role sought.pitch routes) ≤ length scratch.old }
-    ensures { Promotes result xs.new (length xs.old) (with_adjacent sought.role sought.pitch sought.bounds (members_lent sought.role sought.pitch routes.entry) (take n xs.old) left.0) }
+    requires room { n + runs_in (sought_lent sought) < length xs.old }
+    requires scratch_room { length xs.old + 2 * runs_in (sought_lent sought) ≤ length scratch.old }
+    ensures { Promotes result xs.new (length xs.old) (with_adjacent sought.entry.role sought.entry.pitch sought.entry.bounds (sought_lent sought.entry) (take n xs.old) left.0) }
 {
     let lane = search_runs::adjacent_lane(sought.role, sought.pitch, sought.bounds.desired);
     if !search_runs::is_between(sought.bounds, lane) {
@@ -40,13 +39,7 @@ fn add_adjacent<'a>(
         },
         ..sought
     };
-    let g = collector_xs::common_horizontal_collector_xs(
-        routes,
-        second,
-        left,
-        &mut xs[n..],
-        scratch,
-    );
+    let g = collector_xs::common_horizontal_collector_xs(second, left, &mut xs[n..], scratch);
     match g {
         Listed::Spent => Promoted::SecondSpent(n),
         Listed::All(m, rest) => {
@@ -60,19 +53,18 @@ fn add_adjacent<'a>(
 // The candidates of both searches, at the front of xs. What the rest of xs and scratch hold
 // afterwards is left open.
 pub fn promotion_candidates<'a>(
-    routes: MemberRoutes<'a>,
-    sought: Sought,
+    sought: Sought<'a>,
     granted: TapVisits,
     xs: &mut [f64],
     scratch: &mut [f64],
 ) -> Promoted
-    requires room { 2 * runs_in (members_lent sought.role sought.pitch routes) + 1 < length xs.old }
-    requires scratch_room { length xs.old + 2 * runs_in (members_lent sought.role sought.pitch routes) ≤ length scratch.old }
-    ensures { Promotes result xs.new (length xs.old) (promotion_xs sought.role sought.pitch sought.bounds (members_lent sought.role sought.pitch routes.entry) granted.0) }
+    requires room { 2 * runs_in (sought_lent sought) + 1 < length xs.old }
+    requires scratch_room { length xs.old + 2 * runs_in (sought_lent sought) ≤ length scratch.old }
+    ensures { Promotes result xs.new (length xs.old) (promotion_xs sought.entry.role sought.entry.pitch sought.entry.bounds (sought_lent sought.entry) granted.0) }
 {
-    let g = collector_xs::common_horizontal_collector_xs(routes, sought, granted, xs, scratch);
+    let g = collector_xs::common_horizontal_collector_xs(sought, granted, xs, scratch);
     match g {
         Listed::Spent => Promoted::Spent,
-        Listed::All(n, left) => add_adjacent(routes, sought, n, left, xs, scratch),
+        Listed::All(n, left) => add_adjacent(sought, n, left, xs, scratch),
     }
 }

@@ -22,6 +22,7 @@ use geometry::{Point, Role, RouteView, Segment};
 // stops at its first hit.
 
 // The first run that is met, by its place: .enumerate().find_map(..).
+#[tactic(auto, using(route::proofs::WindowSteps::first_hit, route::proofs::WindowSteps::first_miss, route::proofs::WindowSteps::first_end))]
 fn first_met<F: Fn(Segment) -> Option<Point>>(route: RouteView, on_run: F) -> Option<(usize, Point)>
     requires { F.IsAlwaysCallable on_run }
     ensures met { (f : Segment → Option Point) → AnswersAs (F.post on_run) f → result ≡ first_met f 0 (runs (route_lent route.entry)) }
@@ -36,6 +37,7 @@ fn first_met<F: Fn(Segment) -> Option<Point>>(route: RouteView, on_run: F) -> Op
 }
 
 // The last run that is met, by its place: .enumerate().rev().find_map(..).
+#[tactic(auto, using(route::proofs::WindowSteps::last_hit, route::proofs::WindowSteps::last_miss, route::proofs::WindowSteps::last_end))]
 fn last_met<F: Fn(Segment) -> Option<Point>>(route: RouteView, on_run: F) -> Option<(usize, Point)>
     requires { F.IsAlwaysCallable on_run }
     ensures met { (f : Segment → Option Point) → AnswersAs (F.post on_run) f → result ≡ last_met f 0 (runs (route_lent route.entry)) }
@@ -56,6 +58,7 @@ fn trunk_on_run(run: Segment, x: f64, role: Role, minimum_length: f64) -> Option
     shapes::shared_trunk_horizontal_intersection(run.start, run.end, x, role, minimum_length)
 }
 
+#[tactic(auto, unfolding(route::specs::Intersection::first_vertical_line_intersection))]
 pub fn first_vertical_line_intersection(route: RouteView, x: f64) -> Option<(usize, Point)>
     ensures met { result ≡ first_vertical_line_intersection (route_lent route.entry) x }
     ensures within { Within result route.entry.count }
@@ -65,6 +68,7 @@ pub fn first_vertical_line_intersection(route: RouteView, x: f64) -> Option<(usi
     })
 }
 
+#[tactic(auto, unfolding(route::specs::Intersection::last_vertical_line_intersection))]
 pub fn last_vertical_line_intersection(route: RouteView, x: f64) -> Option<(usize, Point)>
     ensures met { result ≡ last_vertical_line_intersection (route_lent route.entry) x }
     ensures within { Within result route.entry.count }
@@ -74,6 +78,7 @@ pub fn last_vertical_line_intersection(route: RouteView, x: f64) -> Option<(usiz
     })
 }
 
+#[tactic(auto, unfolding(route::specs::Intersection::first_shared_trunk_intersection))]
 pub fn first_shared_trunk_intersection(
     route: RouteView,
     x: f64,
@@ -86,6 +91,7 @@ pub fn first_shared_trunk_intersection(
     first_met(route, |run| trunk_on_run(run, x, role, minimum_length))
 }
 
+#[tactic(auto, unfolding(route::specs::Intersection::last_shared_trunk_intersection))]
 pub fn last_shared_trunk_intersection(
     route: RouteView,
     x: f64,

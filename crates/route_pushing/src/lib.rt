@@ -23,6 +23,7 @@ fn is_aligned(a: Point, b: Point, p: Point) -> bool
 }
 
 // Whether the point takes the place of a route's last point.
+#[tactic(auto, using(route::proofs::WindowSteps::replaces_is))]
 fn replaces_last(route: RouteView, point: Point) -> bool
     ensures { result ≡ replaces (route_lent route.entry) point }
 {
@@ -41,6 +42,7 @@ fn replaces_last(route: RouteView, point: Point) -> bool
 }
 
 // The route of the first count points with one point pushed; answers how many points it has then.
+#[tactic(auto, using(route::proofs::WindowSteps::in_place, route::proofs::WindowSteps::after_it, route::proofs::WindowSteps::replaces_some, route::specs::Window::points_length))]
 pub fn push_point(points: &mut [f64], count: usize, point: Point) -> usize
     requires { 2 * count + 1 < length points.old }
     ensures points { points_from points.new 0 result ≡ push_point (points_from points.old 0 count) point }
@@ -60,6 +62,7 @@ pub fn push_point(points: &mut [f64], count: usize, point: Point) -> usize
 }
 
 // Three points pushed one after the other.
+#[tactic(auto, unfolding(route::specs::Push::push_points))]
 pub fn push_three(out: &mut [f64], count: usize, a: Point, b: Point, c: Point) -> usize
     requires { 2 * (count + 3) ≤ length out.old }
     ensures { Pushed out.old count (a ∷ b ∷ c ∷ []) out.new result }
@@ -70,6 +73,7 @@ pub fn push_three(out: &mut [f64], count: usize, a: Point, b: Point, c: Point) -
 }
 
 // The points of a route, pushed one after the other.
+#[tactic(auto, using(route::proofs::WindowSteps::push_step, route::proofs::WindowSteps::push_end, route::specs::Window::points_length))]
 pub fn push_points(route: RouteView, out: &mut [f64], count: usize) -> usize
     requires { 2 * (count + route.count) ≤ length out.old }
     ensures { Pushed out.old count (route_lent route.entry) out.new result }

@@ -20,6 +20,7 @@ use limits::SLOT_POINTS;
 // its references stay the same.
 
 // The points of a route, written into another slice from point at on.
+#[tactic(auto, using(route::proofs::WindowSteps::copy_step, route::proofs::WindowSteps::copy_end))]
 fn copy_points(route: RouteView, out: &mut [f64], at: usize)
     requires { 2 * (at + route.count) ≤ length out.old }
     ensures { out.new ≡ put_points out.old at (route_lent route.entry) }

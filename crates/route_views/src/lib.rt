@@ -40,6 +40,13 @@ pub fn put_point(out: &mut [f64], i: usize, p: Point)
 // That a view's points lie in its slice is a field of it. route_point, route_run and route_last are for
 // callers that have the slice and the numbers apart.
 
+// How many points the route has.
+pub fn view_count<'a>(v: RouteView<'a>) -> usize
+    ensures { result ≡ v.entry.count }
+{
+    v.count
+}
+
 // Point i of the route.
 pub fn view_point<'a>(v: RouteView<'a>, i: usize) -> Point
     requires { i < v.count }

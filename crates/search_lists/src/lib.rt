@@ -8,36 +8,35 @@
 
 ghost use Rattle.std.specs.Prelude.{[], ◌*◌, ◌≤◌, ◌<◌, length};
 ghost use Rattle.search.specs.Stretches.{all_runs, runs_in};
-ghost use Rattle.search.specs.Lent.{members_lent};
+ghost use Rattle.search.specs.Lent.{sought_lent};
 ghost use Rattle.search.specs.Search.{gathered, tried, Lists, InOrder};
 ghost use Rattle.search.specs.Kept.{members_from, Keeps};
 
 use geometry::{Role, RouteView};
-use search::{Candidate, Listed, MemberRoutes, Sought, TapVisits};
+use search::{Candidate, Listed, Sought, TapVisits};
 
 // The first pass: the desired x and a candidate of each run that has one, one visit paid before
 // each run. Each run's stretch, or that it has none, is kept as a pair at the front of kept.
 pub fn gather<'a>(
-    routes: MemberRoutes<'a>,
-    sought: Sought,
+    sought: Sought<'a>,
     granted: TapVisits,
     xs: &mut [f64],
     kept: &mut [f64],
 ) -> Listed
-    requires room { runs_in (members_lent sought.role sought.pitch routes) < length xs.old }
-    requires pair_room { 2 * runs_in (members_lent sought.role sought.pitch routes) ≤ length kept.old }
-    ensures found { Lists result xs.new (length xs.old) (gathered sought.role sought.bounds (members_lent sought.role sought.pitch routes.entry) granted.0) }
-    ensures keeps { Keeps result kept.new (all_runs (members_lent sought.role sought.pitch routes.entry)) }
+    requires room { runs_in (sought_lent sought) < length xs.old }
+    requires pair_room { 2 * runs_in (sought_lent sought) ≤ length kept.old }
+    ensures found { Lists result xs.new (length xs.old) (gathered sought.entry.role sought.entry.bounds (sought_lent sought.entry) granted.0) }
+    ensures keeps { Keeps result kept.new (all_runs (sought_lent sought.entry)) }
 {
     xs[0] = sought.bounds.desired;
     let mut n = 1;
     let mut k = 0;
     let mut left = granted.0;
-    for m in 0..routes.starts.len() {
-        let start = routes.starts[m];
-        let count = routes.counts[m];
+    for m in 0..sought.routes.starts.len() {
+        let start = sought.routes.starts[m];
+        let count = sought.routes.counts[m];
         let route = RouteView {
-            points: routes.points,
+            points: sought.routes.points,
             start,
             count,
         };

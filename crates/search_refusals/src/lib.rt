@@ -20,6 +20,7 @@ use search_calls::{Call, LentRoutes};
 // ---- what the public entries refuse
 
 // Every member's points are within the points lent. Numbers that would wrap are out of them.
+#[tactic(auto, using(search_calls::proofs::RefusalSteps::places_differ, search_calls::proofs::RefusalSteps::places_next, search_calls::proofs::RefusalSteps::places_end))]
 pub fn places_fit<'a>(lent: LentRoutes<'a>) -> bool
     ensures { result ≡ lent_places_fit lent.entry }
 {
@@ -37,6 +38,7 @@ pub fn places_fit<'a>(lent: LentRoutes<'a>) -> bool
 }
 
 // No route has too many points, and all together have not.
+#[tactic(auto, using(search_calls::proofs::RefusalSteps::counts_next, search_calls::proofs::RefusalSteps::counts_end))]
 pub fn counts_fit(counts: &[usize]) -> bool
     ensures { result ≡ counts_fit max_points counts.now }
 {
@@ -56,6 +58,7 @@ pub fn is_point(p: Point) -> bool
     binary64::is_coordinate(p.x) & binary64::is_coordinate(p.y)
 }
 
+#[tactic(auto, using(search_calls::proofs::RefusalSteps::points_next, search_calls::proofs::RefusalSteps::points_end))]
 pub fn points_fit<'a>(route: RouteView<'a>) -> bool
     ensures { result ≡ points_fit (route_lent route.entry) }
 {
@@ -67,6 +70,7 @@ pub fn points_fit<'a>(route: RouteView<'a>) -> bool
     true
 }
 
+#[tactic(auto, using(search_calls::proofs::RefusalSteps::routes_next, search_calls::proofs::RefusalSteps::routes_end))]
 pub fn routes_fit<'a>(routes: MemberRoutes<'a>) -> bool
     ensures { result ≡ routes_fit (routes_lent routes.entry) }
 {

@@ -50,7 +50,8 @@ pub fn reply(mark: u8, left: u32, n: usize, list: &[f64], xs: &mut [f64]) -> Sea
     }
 }
 
-// The mark of n numbers: nothing common, or found.
+// The mark of n numbers: nothing common, or found. No `From`: the mark is a number for C, and a count
+// has one only in a reply.
 pub fn mark_of(n: usize) -> u8
     ensures { (list : List Float) → n ≤ length list → result ≡ mark (first (take n list)) }
 {

@@ -16,19 +16,16 @@ ghost use Rattle.plan.specs.Prepared.{Among, ranged_from, x_of, plan_in};
 ghost use Rattle.plan.specs.Lent.{BundleTells};
 ghost use Rattle.separation.specs.Taken.{taken, lanes_in, outer, outmost, cut_past, none_taken, RangesTell, RangesFit};
 
+use board::Table;
 use geometry::Role;
 use limits::MAX_BUNDLES;
-use plan::layout::Layout;
+use plan::layout::Setting;
 use plan::search_work::SearchWork;
 use plan::{Bound, Planned, Planning, Range, Ranges};
 use search::{Bounds, CollectorBounds, Outcome, Searched, TapVisits};
 
-// The x taken so far by bundles of one role, with room for all of them, as no heap is asked for.
-#[derive(Clone, Copy)]
-pub struct Taken {
-    pub xs: [f64; MAX_BUNDLES],
-    pub count: usize,
-}
+// The x taken so far by bundles of one role.
+pub type Taken = Table<f64, MAX_BUNDLES>;
 
 // The same of both roles.
 #[derive(Clone, Copy)]
@@ -116,15 +113,15 @@ fn cut_beside(pitch: f64, role: Role, b: CollectorBounds, x: f64, used: &[f64]) 
 
 // One bundle: a planned x stays if it is clear of those taken, and otherwise is sought anew.
 fn beside(
-    layout: Layout,
+    setting: Setting,
     s: Range,
     planned: Bound,
     used: &[f64],
     granted: TapVisits,
     work: &mut SearchWork,
 ) -> Searched
-    requires among { Among layout.routes.starts.now s.bundle }
-    ensures { (b : Board) (given : List Route) → layout.entry.pitch ≡ pitch_of b s.bundle → BundleTells b given layout.entry.routes s.bundle → result ≡ beside search_of b given (ranged_from s) planned used.now granted.0 }
+    requires among { Among setting.routes.starts.now s.bundle }
+    ensures { (b : Board) (given : List Route) → setting.entry.pitch ≡ pitch_of b s.bundle → BundleTells b given setting.entry.routes s.bundle → result ≡ beside search_of b given (ranged_from s) planned used.now granted.0 }
 {
     let Bound::At(x) = planned else {
         return Searched {
@@ -132,14 +129,14 @@ fn beside(
             left: granted,
         };
     };
-    if collector_has_lane_separation(layout.pitch, x, used) {
+    if collector_has_lane_separation(setting.pitch, x, used) {
         return Searched {
             outcome: Outcome::Found(x),
             left: granted,
         };
     }
-    let cut = cut_beside(layout.pitch, s.bundle.role, s.bounds, x, used);
-    plan_searches::search_between(layout, s.bundle, cut, granted, work)
+    let cut = cut_beside(setting.pitch, s.bundle.role, s.bounds, x, used);
+    plan_searches::search_between(setting, s.bundle, cut, granted, work)
 }
 
 fn if_clear(pitch: f64, x: Bound, used: &[f64]) -> Bound
@@ -160,7 +157,7 @@ fn if_clear(pitch: f64, x: Bound, used: &[f64]) -> Bound
 fn lanes_of(role: Role, l: Lanes) -> Taken
     ensures told { taken result ≡ lanes_of role (lanes_in l) }
     ensures few { (n : ℕ) → l.input.count ≤ n → l.output.count ≤ n → result.count ≤ n }
-    ensures size { length result.xs ≡ max_bundles }
+    ensures size { length result.rows ≡ max_bundles }
 {
     match role {
         Role::Input => l.input,
@@ -174,7 +171,7 @@ fn taken_with(mut t: Taken, x: f64) -> Taken
     ensures told { taken result ≡ taken t ++ (x ∷ []) }
     ensures one { result.count ≡ t.count + 1 }
 {
-    t.xs[t.count] = x;
+    t.rows[t.count] = x;
     t.count += 1;
     t
 }
@@ -200,12 +197,18 @@ fn add_lane(role: Role, x: Bound, l: Lanes) -> Lanes
 }
 
 // Each bundle of the plan in order, clear of those of its role before it.
-pub fn separate(layout: Layout, t: Ranges, n: usize, p: Planning, work: &mut SearchWork) -> Planning
-    requires ranges_fit { RangesFit layout.routes.starts.now t n }
-    ensures { (b : Board) (given : List Route) → RangesTell b given layout.entry t n → plan_in n result ≡ separated search_of b given (map ranged_from (take n t.rows)) (map x_of (take n p.rows)) none_taken p.left.0 }
+pub fn separate(
+    setting: Setting,
+    t: Ranges,
+    n: usize,
+    p: Planning,
+    work: &mut SearchWork,
+) -> Planning
+    requires ranges_fit { RangesFit setting.routes.starts.now t n }
+    ensures { (b : Board) (given : List Route) → RangesTell b given setting.entry t n → plan_in n result ≡ separated search_of b given (map ranged_from (take n t.rows)) (map x_of (take n p.rows)) none_taken p.left.0 }
 {
     let none = Taken {
-        xs: [0.0; MAX_BUNDLES],
+        rows: [0.0; MAX_BUNDLES],
         count: 0,
     };
     let mut lanes = Lanes {
@@ -218,10 +221,10 @@ pub fn separate(layout: Layout, t: Ranges, n: usize, p: Planning, work: &mut Sea
         let s = t.rows[i];
         let role = s.bundle.role;
         let taken = lanes_of(role, lanes);
-        let used = &taken.xs[..taken.count];
-        let r = beside(layout, s, rows[i].x, used, left, work);
+        let used = &taken.rows[..taken.count];
+        let r = beside(setting, s, rows[i].x, used, left, work);
         let found = plan_numbers::found_x(r.outcome);
-        let x = if_clear(layout.pitch, found, used);
+        let x = if_clear(setting.pitch, found, used);
         rows[i] = Planned { x };
         lanes = add_lane(role, x, lanes);
         left = r.left;

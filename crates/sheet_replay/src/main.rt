@@ -5,7 +5,7 @@
 #![tactic(auto)]
 
 ghost use Rattle.std.specs.Prelude.{◌≡◌, ◌*◌, ◌≤◌, length};
-ghost use Rattle.limits.specs.Limits.{max_nodes, max_edges, max_bundles, max_members, point_numbers, slot_numbers, any_answer_room};
+ghost use Rattle.limits.specs.Limits.{max_nodes, max_edges, max_bundles, max_members, slot_numbers};
 ghost use Rattle.route.specs.Slots.{Held};
 ghost use Rattle.answer.specs.SheetTables.{Windows};
 ghost use Rattle.job_tables.specs.Came.{Came};
@@ -20,7 +20,6 @@ use limits::{
     ALL_SLOT_NUMBERS, ANY_ANSWER_ROOM, JOB_ROOM, MAX_BUNDLES, MAX_EDGES, MAX_MEMBERS,
     POINT_NUMBERS, SLOT_NUMBERS, TAP_NUMBERS,
 };
-use plan::tables::BoardTables;
 use plan::{Bound, Planned, Planning};
 use search::TapVisits;
 use turns::TurnWork;
@@ -28,13 +27,18 @@ use turns::TurnWork;
 // The number of the one operation that is replayed here.
 const SHEET_OF_A_PLAN: u64 = 0x39;
 
+// The bytes of a result: a sheet before its last shift and after it, and more.
+const OUT_ROOM: usize = 131072;
+
 // ---- the plan of a record
+//
+// plan_replay has both functions too: of the crates below both, those that know a plan read no records.
 
 fn bound_at(record: &[u8], at: usize) -> Bound {
-    if records::u8_at(record, at) == 0 {
-        return Bound::None;
+    match records::option_at(record, at) {
+        None => Bound::None,
+        Some(x) => Bound::At(x),
     }
-    Bound::At(records::f64_at(record, records::plus(at, 1)))
 }
 
 fn plan_at(record: &[u8], from: usize, left: TapVisits) -> Planning {
@@ -52,23 +56,13 @@ fn plan_at(record: &[u8], from: usize, left: TapVisits) -> Planning {
 // ---- the result
 
 // Number, bundle and visits left: 7 bytes.
-fn put_verdict(out: &mut [u8], number: u64, bundle: usize, left: GeometryVisits) -> usize
+fn put_verdict(out: &mut [u8; OUT_ROOM], number: u64, bundle: usize, left: GeometryVisits) -> usize
     ensures { result ≡ 7 }
 {
     records::put_u8(out, 0, number);
     records::put_u16(out, 1, bundle as u64);
     records::put_u32(out, 3, left.0 as u64);
     7
-}
-
-// The first n bytes of a slice, from a place of another on; answers the place after them.
-fn put_bytes(from: &[u8], n: usize, out: &mut [u8], start: usize) -> usize {
-    let mut at = start;
-    for i in 0..n {
-        records::put_u8(out, at, records::u8_at(from, i));
-        at = records::plus(at, 1);
-    }
-    at
 }
 
 // A sheet, written as an answer is, by way of a page with room for every table. The routes are in
@@ -82,17 +76,24 @@ struct WrittenSheet<'a> {
     taps: &'a [f64],
 }
 
-// The page is a part of a longer buffer: that it has room is asked.
-
-fn put_page(page: &mut [u8], f: Frame, j: Job, s: WrittenSheet, out: &mut [u8], at: usize) -> usize
+// Answers the place after it.
+fn put_page(
+    page: &mut [u8; ANY_ANSWER_ROOM],
+    f: Frame,
+    j: Job,
+    s: WrittenSheet,
+    out: &mut [u8; OUT_ROOM],
+    at: usize,
+) -> usize
     requires count_le_max_nodes { (s.nodes.count ≤ max_nodes) × (j.edges.count ≤ max_edges) × (s.drawn.count ≤ max_bundles) × (j.members.count ≤ max_members) }
     requires count_in_bounds { (j.edges.count ≤ length s.counts.now) × (slot_numbers * j.edges.count ≤ length s.points.now) × Held s.counts.now }
     requires windows { Windows s.drawn.count s.drawn.rows j.members.count × (2 * j.members.count ≤ length s.taps.now) }
-    requires members_on { MembersOn j.edges j.members × (any_answer_room ≤ length page.old) }
+    requires members_on { MembersOn j.edges j.members }
 {
     let t = draw_job::tap_rows(j.edges, j.members, s.taps);
     let n = answer::write_answer(page, f, s.nodes, j.edges, s.points, s.counts, s.drawn, t);
-    put_bytes(page, n, out, at)
+    records::put(out, at, &page[..n]);
+    records::plus(at, n)
 }
 
 // The sheet before the last shift, its width and height 0, and after it. Taps and points are slices of
@@ -106,11 +107,10 @@ fn put_pages(
     points: &mut [f64],
     counts: &[usize],
     taps: &mut [f64],
-    page: &mut [u8],
-    out: &mut [u8],
+    page: &mut [u8; ANY_ANSWER_ROOM],
+    out: &mut [u8; OUT_ROOM],
 ) -> usize
-    requires on_sheet { OnSheet j edges.now drawn points.old counts.now taps.old }
-    requires any_answer_room_in_bounds { any_answer_room ≤ length page.old }
+    requires { OnSheet j edges.now drawn points.old counts.now taps.old }
 {
     let start = put_verdict(out, 0, drawn.count, rest);
     let before = WrittenSheet {
@@ -151,28 +151,26 @@ fn draw_in(
     p: Planning,
     work: SheetWork,
     points: &mut [f64],
-    page: &mut [u8],
-    out: &mut [u8],
+    page: &mut [u8; ANY_ANSWER_ROOM],
+    out: &mut [u8; OUT_ROOM],
 ) -> usize
-    requires came { Came j given.now × (any_answer_room ≤ length page.old) }
-    requires lent { Lent j work.edges.now work.lanes.now work.taps.now points.old work.counts.now }
+    requires came { Came j given.now }
+    requires lent { Lent j work.edges.now work.lanes.now work.taps.now points.old work.counts.now work.mask.now work.scratch.now }
 {
-    let board = BoardTables {
-        options: j.options,
-        nodes: &j.nodes,
-        ports: &j.ports,
-        edges: &j.edges,
-        bundles: &j.bundles,
-        members: &j.members,
-    };
+    let board = job_tables::board_tables(&j);
     let offsets = plan_depths::corridor_depth_offsets(board);
     let SheetWork {
         edges,
         lanes,
         taps,
         counts,
-        turn_work,
+        mask,
+        scratch,
     } = work;
+    let mut turn_work = TurnWork {
+        mask: &mut mask[..],
+        scratch: &mut scratch[..],
+    };
     let mut visits = GeometryVisits(j.grants.geometry_visits);
     let d = turns::draw_sheet(
         board,
@@ -185,7 +183,7 @@ fn draw_in(
         taps,
         points,
         counts,
-        turn_work,
+        &mut turn_work,
         &mut visits,
     );
     match d.ended {
@@ -197,24 +195,29 @@ fn draw_in(
 }
 
 // The same, in slices of its own.
-fn draw(j: Job, given: &[f64], p: Planning, page: &mut [u8], out: &mut [u8]) -> usize
-    requires { Came j given.now × (any_answer_room ≤ length page.old) }
+fn draw(
+    j: Job,
+    given: &[f64; POINT_NUMBERS],
+    p: Planning,
+    page: &mut [u8; ANY_ANSWER_ROOM],
+    out: &mut [u8; OUT_ROOM],
+) -> usize
+    requires { Came j given.now }
 {
     let mut edges = [0; MAX_MEMBERS];
     let mut lanes = [0; MAX_MEMBERS];
     let mut taps = [0.0; TAP_NUMBERS];
     let mut points = [0.0; ALL_SLOT_NUMBERS];
     let mut counts = [0; MAX_EDGES];
-    let mut turn_work = TurnWork {
-        mask: [false; MAX_EDGES],
-        scratch: [0.0; SLOT_NUMBERS],
-    };
+    let mut mask = [false; MAX_EDGES];
+    let mut scratch = [0.0; SLOT_NUMBERS];
     let work = SheetWork {
         edges: &mut edges[..j.members.count],
         lanes: &mut lanes[..j.members.count],
         taps: &mut taps[..],
         counts: &mut counts[..j.edges.count],
-        turn_work: &mut turn_work,
+        mask: &mut mask[..],
+        scratch: &mut scratch[..],
     };
     draw_in(j, given, p, work, &mut points, page, out)
 }
@@ -233,9 +236,12 @@ fn size_of(record: &[u8], rest: usize) -> usize
 }
 
 // The result of one record; answers its length. A record of another operation has an empty one.
-fn answer(record: &[u8], given: &mut [f64], page: &mut [u8], out: &mut [u8]) -> usize
-    requires { (length given.old ≡ point_numbers) × (any_answer_room ≤ length page.old) }
-{
+fn answer(
+    record: &[u8],
+    given: &mut [f64; POINT_NUMBERS],
+    page: &mut [u8; ANY_ANSWER_ROOM],
+    out: &mut [u8; OUT_ROOM],
+) -> usize {
     if record.len() < 1 {
         return 0;
     }
@@ -257,9 +263,12 @@ fn answer(record: &[u8], given: &mut [f64], page: &mut [u8], out: &mut [u8]) -> 
 }
 
 // One record; answers whether there was one.
-fn replay_one(space: &mut [u8], given: &mut [f64], page: &mut [u8], out: &mut [u8]) -> bool
-    requires { (length given.old ≡ point_numbers) × (any_answer_room ≤ length page.old) }
-{
+fn replay_one(
+    space: &mut [u8],
+    given: &mut [f64; POINT_NUMBERS],
+    page: &mut [u8; ANY_ANSWER_ROOM],
+    out: &mut [u8; OUT_ROOM],
+) -> bool {
     let Some(n) = records::next(space) else {
         return false;
     };
@@ -271,10 +280,6 @@ fn main() {
     let mut space = [0u8; JOB_ROOM];
     let mut given = [0.0; POINT_NUMBERS];
     let mut page = [0u8; ANY_ANSWER_ROOM];
-    let mut out = [0u8; 131072];
-    for _ in 0..4000000000u32 {
-        if !replay_one(&mut space, &mut given, &mut page, &mut out) {
-            return;
-        }
-    }
+    let mut out = [0u8; OUT_ROOM];
+    records::each(|| replay_one(&mut space, &mut given, &mut page, &mut out));
 }

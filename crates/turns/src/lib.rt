@@ -22,21 +22,22 @@ ghost use Rattle.checks.specs.Purse.{told};
 ghost use Rattle.checks.specs.MemberSlices.{members_from, Row};
 ghost use Rattle.turns.specs.TurnTables.{turn_of, standing, ends_as, drawn_in, row_drawn, spot_of, Faced, Ready, Longer, Shows, Named, Lists, Room, Short, Rows, Full, members_all, GivenIn, Listed, Boxed, Ended, Spotted, Follow, Once};
 
-use board::{Bundle, Bundles, DrawnBundle, DrawnBundles, Edges, Members, Nodes, Port, Ports};
+use board::{Bundle, DrawnBundle, DrawnBundles, Edge, Member, PlacedNode, Port};
 use checks::{BoardSlices, BundleRows, MemberRows, MemberTaps, PresentRoutes, Rules};
 use drawing::GeometryVisits;
 use geometry::{Point, RouteView, Segment};
-use limits::{MAX_BUNDLES, MAX_EDGES, MAX_NODES, SLOT_NUMBERS};
+use limits::{MAX_BUNDLES, MAX_EDGES, MAX_NODES};
 use member_rewriting::Lead;
 use plan::tables::BoardTables;
 use plan::{Bound, Offsets, Planned};
 use refusal::Refusal;
 
-// What a turn works in: a mask of the routes that it changes, and the numbers of one slot.
-#[derive(Clone, Copy)]
-pub struct TurnWork {
-    pub mask: [bool; MAX_EDGES],
-    pub scratch: [f64; SLOT_NUMBERS],
+// What a turn works in, lent: a mask of the routes that it changes, and room for the numbers of one slot.
+#[derive(Drop)]
+pub struct TurnWork<'a> {
+    pub mask: &'a mut [bool],
+    pub scratch: &'a mut [f64],
+    pub ghost spare: { slot_numbers ≤ length scratch.now },
 }
 
 // The bundles drawn, and how the last turn ended.
@@ -71,11 +72,12 @@ fn draw_bundle(
     work: &mut TurnWork,
     visits: &mut GeometryVisits,
 ) -> Result<DrawnBundle, Refusal>
-    requires { (2 * length counts.old ≤ length board.ends.now) × Ready t.bundle priors table.edges.now table.lanes.now taps.old points.old counts.old }
+    requires { (2 * length counts.old ≤ length board.ends.now) × Ready t.bundle priors table.edges.now table.lanes.now taps.old points.old counts.old work.old.mask.now }
     ensures told { (b : Board) → Faced b rules.options board.entry.boxes.now board.entry.ends.now t.bundle t.end (members_from table.entry.edges.now table.entry.lanes.now t.bundle.first t.bundle.count) → ends_as (told result visits.new.0) (routes_of points.new counts.new) (drawn_in table.entry.edges.now taps.new priors ++ row_drawn table.entry.edges.now taps.new result) ≡ turn b rules.permits_crossings (turn_of t.bundle t.planned t.offset) (standing (routes_of points.old counts.old) (drawn_in table.entry.edges.now taps.old priors) visits.old.0) }
     ensures row { IfOk result (λ d. Row t.bundle d) }
     ensures hold { Held counts.new }
     ensures longer { Longer (told result visits.new.0) counts.old counts.new (members_from table.entry.edges.now table.entry.lanes.now t.bundle.first t.bundle.count) }
+    ensures mask { length work.new.mask.now ≡ length work.old.mask.now }
 {
     let u = t.bundle;
     let before = PresentRoutes { points, counts };
@@ -98,39 +100,33 @@ fn draw_bundle(
         first: u.first,
         count: u.count,
     };
-    let scratch = &mut work.scratch;
-    if !member_rewriting::rewrite_member_routes(
-        lead, t.offset, members, taps, points, counts, scratch,
-    ) {
-        return Err(Refusal::TapUnreachable);
-    }
+    member_rewriting::rewrite_member_routes(
+        lead,
+        t.offset,
+        members,
+        taps,
+        points,
+        counts,
+        work.scratch,
+    )?;
     let tapped = MemberTaps {
         edges: table.edges,
         taps,
     };
     let present = PresentRoutes { points, counts };
-    bundle_checks::verify_bundle(
-        rules,
-        board,
-        d,
-        priors,
-        tapped,
-        present,
-        &mut work.mask,
-        visits,
-    )?;
+    bundle_checks::verify_bundle(rules, board, d, priors, tapped, present, work.mask, visits)?;
     Ok(d)
 }
 
 // ---- what is filled before the first turn
 
 // The four numbers of each node: corner x, corner y, width, height.
-fn node_boxes(nodes: &Nodes, boxes: &mut [f64])
-    requires { (nodes.now.count ≤ length nodes.now.rows) × (4 * nodes.now.count ≤ length boxes.old) }
-    ensures { Boxed boxes.new nodes.now.rows nodes.now.count }
+fn node_boxes(nodes: &[PlacedNode], boxes: &mut [f64])
+    requires { 4 * length nodes.now ≤ length boxes.old }
+    ensures { Boxed boxes.new nodes.now (length nodes.now) }
 {
-    for i in 0..nodes.count {
-        let body = nodes.rows[i].body;
+    for i in 0..nodes.len() {
+        let body = nodes[i].body;
         let size = Point {
             x: body.width,
             y: body.height,
@@ -149,31 +145,31 @@ fn spot(boxes: &[f64], p: Port) -> Point
 }
 
 // Where each bundle's port stands.
-fn port_spots(boxes: &[f64], ports: &Ports, bundles: &Bundles, spots: &mut [f64])
-    requires { Named boxes.now ports.now bundles.now × (2 * bundles.now.count ≤ length spots.old) }
-    ensures { Spotted spots.new boxes.now ports.now bundles.now bundles.now.count }
+fn port_spots(boxes: &[f64], ports: &[Port], bundles: &[Bundle], spots: &mut [f64])
+    requires { Named boxes.now ports.now bundles.now × (2 * length bundles.now ≤ length spots.old) }
+    ensures { Spotted spots.new boxes.now ports.now bundles.now (length bundles.now) }
 {
-    for i in 0..bundles.count {
-        let end = spot(boxes, ports.rows[bundles.rows[i].port]);
+    for i in 0..bundles.len() {
+        let end = spot(boxes, ports[bundles[i].port]);
         route_views::put_point(spots, i, end);
     }
 }
 
 // The ends of each edge, and its given route in its slot.
 fn store_edges(
-    table: &Edges,
+    table: &[Edge],
     given: &[f64],
     ends: &mut [usize],
     points: &mut [f64],
     counts: &mut [usize],
 )
-    requires { GivenIn given.now table.now × (2 * table.now.count ≤ length ends.old) × (length counts.old ≡ table.now.count) × (slot_numbers * length counts.old ≤ length points.old) }
-    ensures ends { Ended ends.new table.now.rows table.now.count }
+    requires { GivenIn given.now table.now × (2 * length table.now ≤ length ends.old) × (length counts.old ≡ length table.now) × (slot_numbers * length counts.old ≤ length points.old) }
+    ensures ends { Ended ends.new table.now (length table.now) }
     ensures routes { routes_of points.new counts.new ≡ given_routes given.now table.now }
     ensures short { Short counts.new }
 {
-    for i in 0..table.count {
-        let e = table.rows[i];
+    for i in 0..table.len() {
+        let e = table[i];
         let route = RouteView {
             points: given,
             start: e.first,
@@ -186,12 +182,12 @@ fn store_edges(
 }
 
 // The edge and the tap lane of each member.
-fn member_rows(members: &Members, edges: &mut [usize], lanes: &mut [u32])
-    requires { (members.now.count ≤ length members.now.rows) × (length edges.old ≡ members.now.count) × (length lanes.old ≡ members.now.count) }
-    ensures { Listed edges.new lanes.new members.now.rows members.now.count }
+fn member_rows(members: &[Member], edges: &mut [usize], lanes: &mut [u32])
+    requires { (length edges.old ≡ length members.now) × (length lanes.old ≡ length members.now) }
+    ensures { Listed edges.new lanes.new members.now (length members.now) }
 {
-    for i in 0..members.count {
-        let m = members.rows[i];
+    for i in 0..members.len() {
+        let m = members[i];
         edges[i] = m.edge;
         lanes[i] = m.tap_lane;
     }
@@ -221,15 +217,14 @@ fn none_drawn() -> DrawnBundles
 // The bundles, the plan of each and the offset of its corridor, and where its port stands.
 #[derive(Clone, Copy)]
 struct Turns<'a> {
-    bundles: &'a Bundles,
+    bundles: &'a [Bundle],
     plan: &'a [Planned],
     offsets: &'a [f64],
     spots: &'a [f64],
-    ghost bundles_few: { bundles.now.count ≤ max_bundles },
-    ghost bundles_fit: { bundles.now.count ≤ length bundles.now.rows },
-    ghost plan_long: { bundles.now.count ≤ length plan.now },
-    ghost offsets_long: { bundles.now.count ≤ length offsets.now },
-    ghost spots_long: { 2 * bundles.now.count ≤ length spots.now },
+    ghost bundles_few: { length bundles.now ≤ max_bundles },
+    ghost plan_long: { length bundles.now ≤ length plan.now },
+    ghost offsets_long: { length bundles.now ≤ length offsets.now },
+    ghost spots_long: { 2 * length bundles.now ≤ length spots.now },
 }
 
 // Every bundle in job order; after a refusal, those drawn before it.
@@ -245,17 +240,17 @@ fn draw_bundles(
     visits: &mut GeometryVisits,
 ) -> Drawing
     requires ends { 2 * length counts.old ≤ length board.ends.now }
-    requires lists { Lists (take turns.bundles.now.count turns.bundles.now.rows) table.edges.now table.lanes.now (length counts.old) }
-    requires room { Room (length table.edges.now) taps.old points.old counts.old × Short counts.old }
-    ensures told { (b : Board) → Shows b rules.options board.entry.boxes.now board.entry.ends.now turns.entry.spots.now turns.entry.bundles.now (members_all table.entry.edges.now table.entry.lanes.now) → ends_as (told result.ended visits.new.0) (routes_of points.new counts.new) (drawn_in table.entry.edges.now taps.new result.drawn) ≡ sheet_of b rules.permits_crossings (turns_from (take turns.entry.bundles.now.count turns.entry.bundles.now.rows) (map x_of (take turns.entry.bundles.now.count turns.entry.plan.now)) (take turns.entry.bundles.now.count turns.entry.offsets.now)) (blank (routes_of points.old counts.old) visits.old.0) }
-    ensures rows { Rows (take result.drawn.count turns.entry.bundles.now.rows) (take result.drawn.count result.drawn.rows) }
-    ensures full { Full (told result.ended visits.new.0) result.drawn.count turns.entry.bundles.now.count }
+    requires lists { Lists turns.bundles.now table.edges.now table.lanes.now (length counts.old) }
+    requires room { Room (length table.edges.now) taps.old points.old counts.old work.old.mask.now × Short counts.old }
+    ensures told { (b : Board) → Shows b rules.options board.entry.boxes.now board.entry.ends.now turns.entry.spots.now turns.entry.bundles.now (members_all table.entry.edges.now table.entry.lanes.now) → ends_as (told result.ended visits.new.0) (routes_of points.new counts.new) (drawn_in table.entry.edges.now taps.new result.drawn) ≡ sheet_of b rules.permits_crossings (turns_from turns.entry.bundles.now (map x_of (take (length turns.entry.bundles.now) turns.entry.plan.now)) (take (length turns.entry.bundles.now) turns.entry.offsets.now)) (blank (routes_of points.old counts.old) visits.old.0) }
+    ensures rows { Rows (take result.drawn.count turns.entry.bundles.now) (take result.drawn.count result.drawn.rows) }
+    ensures full { Full (told result.ended visits.new.0) result.drawn.count (length turns.entry.bundles.now) }
     ensures hold { Held counts.new }
 {
     let mut drawn = none_drawn();
-    for i in 0..turns.bundles.count {
+    for i in 0..turns.bundles.len() {
         let t = BundleTurn {
-            bundle: turns.bundles.rows[i],
+            bundle: turns.bundles[i],
             end: route_views::point_at(turns.spots, i),
             planned: turns.plan[i].x,
             offset: turns.offsets[i],
@@ -300,13 +295,13 @@ pub fn draw_sheet(
     visits: &mut GeometryVisits,
 ) -> Drawing
     requires tables { RoutesIn given.now board.edges.now board.members.now }
-    requires once { Follow 0 board.members.now.count (take board.bundles.now.count board.bundles.now.rows) × Once (take board.members.now.count board.members.now.rows) (take board.bundles.now.count board.bundles.now.rows) }
-    requires exact { (length edges.old ≡ board.members.now.count) × (length lanes.old ≡ board.members.now.count) × (length counts.old ≡ board.edges.now.count) }
-    requires room { Room board.members.now.count taps.old points.old counts.old }
-    ensures told { ends_as (told result.ended visits.new.0) (routes_of points.new counts.new) (drawn_in edges.new taps.new result.drawn) ≡ sheet_of (board_lent board.entry) permits_crossings (turns_from (take board.entry.bundles.now.count board.entry.bundles.now.rows) (map x_of (take board.entry.bundles.now.count plan)) (take board.entry.bundles.now.count offsets.rows)) (blank (given_routes given.now board.entry.edges.now) visits.old.0) }
-    ensures members { Listed edges.new lanes.new board.entry.members.now.rows board.entry.members.now.count }
-    ensures rows { Rows (take result.drawn.count board.entry.bundles.now.rows) (take result.drawn.count result.drawn.rows) }
-    ensures full { Full (told result.ended visits.new.0) result.drawn.count board.entry.bundles.now.count }
+    requires once { Follow 0 (length board.members.now) board.bundles.now × Once board.members.now board.bundles.now }
+    requires exact { (length edges.old ≡ length board.members.now) × (length lanes.old ≡ length board.members.now) × (length counts.old ≡ length board.edges.now) }
+    requires room { Room (length board.members.now) taps.old points.old counts.old work.old.mask.now }
+    ensures told { ends_as (told result.ended visits.new.0) (routes_of points.new counts.new) (drawn_in edges.new taps.new result.drawn) ≡ sheet_of (board_lent board.entry) permits_crossings (turns_from board.entry.bundles.now (map x_of (take (length board.entry.bundles.now) plan)) (take (length board.entry.bundles.now) offsets.rows)) (blank (given_routes given.now board.entry.edges.now) visits.old.0) }
+    ensures members { Listed edges.new lanes.new board.entry.members.now (length board.entry.members.now) }
+    ensures rows { Rows (take result.drawn.count board.entry.bundles.now) (take result.drawn.count result.drawn.rows) }
+    ensures full { Full (told result.ended visits.new.0) result.drawn.count (length board.entry.bundles.now) }
     ensures hold { Held counts.new }
 {
     let mut boxes = [0.0; 4 * MAX_NODES];
@@ -321,8 +316,8 @@ pub fn draw_sheet(
         permits_crossings,
     };
     let slices = BoardSlices {
-        boxes: &boxes[..4 * board.nodes.count],
-        ends: &ends[..2 * board.edges.count],
+        boxes: &boxes[..4 * board.nodes.len()],
+        ends: &ends[..2 * board.edges.len()],
     };
     let turns = Turns {
         bundles: board.bundles,

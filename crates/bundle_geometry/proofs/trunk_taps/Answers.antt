@@ -15,7 +15,7 @@ returns-in-None-clause-told c =
     let a = c.args in
     let l = c.loop-i in
     let h = c.loop-i-test.true in
-    let g = c.requires.slots.known l.i h in
+    let g = c.requires.known l.i h in
     let m = ap (trunk_met a.role a.pitch a.x) (slot_is a.present.points.now a.present.counts.now _ g) ∙ sym c.trunk_tap.ensures ∙ c.in-None.is in
     trunk_off a.role a.pitch a.x a.members.table.edges.now a.members.first a.members.count (routes_of a.present.points.now a.present.counts.now) l.taps l.i h m ∙ l.invariant.told
 
@@ -24,7 +24,7 @@ loop-i-preserved c =
     let a = c.args in
     let l = c.loop-i in
     let h = c.loop-i-test.true in
-    let g = c.requires.slots.known l.i h in
+    let g = c.requires.known l.i h in
     let p = c.requires.tapped in
     let m = ap (trunk_met a.role a.pitch a.x) (slot_is a.present.points.now a.present.counts.now _ g) ∙ sym c.trunk_tap.ensures ∙ c.in-Some.is in
     record {

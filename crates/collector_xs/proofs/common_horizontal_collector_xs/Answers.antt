@@ -1,16 +1,14 @@
 -- `collector_xs::common_horizontal_collector_xs` meets its contract. Assumes nothing.
 -- how many candidates there are, and the slices that `gather` leaves
-use mathlib.Core.Path.{◌≡◌, sym, ◌∙◌, ap, subst}
+use mathlib.Core.Path.{◌≡◌, ◌∙◌, subst}
 use mathlib.Core.List.{List, [], ◌++◌}
 use Prim.Native.Nat.{ℕ, ◌-◌, ◌≤◌}
 use native.Mathlib.Omega.{arith}
 use lib.ListN.{length, take, drop}
-use lib.Seq.{length-take-le}
 use lib.Ieee.{Float}
-use Rattle.search.specs.declared.Listed.{Listed}
 use Rattle.search.specs.Stretches.{all_runs}
 use Rattle.search.specs.Lent.{members_lent}
-use Rattle.search.specs.Search.{told, then_tried, Lists}
+use Rattle.search.specs.Search.{Lists}
 use Rattle.search.specs.Kept.{Keeps}
 use Rattle.search.proofs.Parts as parts
 use Rattle.search.proofs.KeptLaws as laws
@@ -40,12 +38,6 @@ keep-within c =
     let g = c.gather-g in
     omega (arith, g.auto.kept)
 
--- the part for sorting is as long as the slice of candidates
-sort-room : (c : In-All) → length (ks-of c) - keep-of c ≡ length (xs-of c)
-sort-room c =
-    let g = c.gather-g in
-    omega (arith, g.auto.xs, g.auto.kept, c.requires.scratch_room)
-
 -- the scratch after it was sorted in
 abbrev kept_in : After-put_in_order-k → List Float
 kept_in o =
@@ -54,7 +46,7 @@ kept_in o =
 -- the kept pairs are still there
 still_kept : (o : After-put_in_order-k)
     → let a = o.args in
-    Keeps o.gather-g.result (kept_in o) (all_runs (members_lent a.sought.role a.sought.pitch a.routes))
+    Keeps o.gather-g.result (kept_in o) (all_runs (members_lent a.sought.role a.sought.pitch a.sought.routes))
 still_kept o =
     let g = o.gather-g in
     laws.keeps_front g.result (ks-of (goal.at.After-put_in_order-k o).In-All) _ _ (keep-of (goal.at.After-put_in_order-k o).In-All) (keep-within (goal.at.After-put_in_order-k o).In-All) (omega (arith, o.requires.scratch_room)) g.ensures.keeps
@@ -63,55 +55,21 @@ kept-length : (o : After-put_in_order-k) → length (kept_in o) ≡ length (ks-o
 kept-length o =
     parts.whole_again (ks-of (goal.at.After-put_in_order-k o).In-All) (keep-of (goal.at.After-put_in_order-k o).In-All) (keep-within (goal.at.After-put_in_order-k o).In-All) o.put_in_order-k.new.scratch (o.put_in_order-k.auto.scratch ∙ parts.back_length (ks-of (goal.at.After-put_in_order-k o).In-All) (keep-of (goal.at.After-put_in_order-k o).In-All) (keep-within (goal.at.After-put_in_order-k o).In-All))
 
-pub gather-g-requires : goal.gather-g-requires
-gather-g-requires c =
-    record { room = c.requires.room; pair_room = omega (arith, c.requires.scratch_room) }
-
-pub slice_bounds-put_in_order-end : goal.slice_bounds-put_in_order-end
-slice_bounds-put_in_order-end c = within (goal.at.slice_bounds-put_in_order-end c).In-All
-
-pub slice_bounds-put_in_order-end-in-All : goal.slice_bounds-put_in_order-end-in-All
-slice_bounds-put_in_order-end-in-All c =
-    sym (length-take-le (n-of (goal.at.slice_bounds-put_in_order-end-in-All c).In-All) (xs-of (goal.at.slice_bounds-put_in_order-end-in-All c).In-All) (within (goal.at.slice_bounds-put_in_order-end-in-All c).In-All))
-
-pub slice_bounds-put_in_order-start : goal.slice_bounds-put_in_order-start
-slice_bounds-put_in_order-start c = keep-within (goal.at.slice_bounds-put_in_order-start c).In-All
-
-pub put_in_order-k-requires : goal.put_in_order-k-requires
-put_in_order-k-requires c =
-    omega (arith, parts.front_within (xs-of (goal.at.put_in_order-k-requires c).In-All) (n-of (goal.at.put_in_order-k-requires c).In-All), parts.back_length (ks-of (goal.at.put_in_order-k-requires c).In-All) (keep-of (goal.at.put_in_order-k-requires c).In-All) (keep-within (goal.at.put_in_order-k-requires c).In-All), sort-room (goal.at.put_in_order-k-requires c).In-All)
-
-pub slice_bounds-try_candidates-end : goal.slice_bounds-try_candidates-end
-slice_bounds-try_candidates-end c =
-    parts.count_in_front _ [] (xs-of (goal.at.slice_bounds-try_candidates-end c).In-All) c.put_in_order-k.new.xs (n-of (goal.at.slice_bounds-try_candidates-end c).In-All) c.put_in_order-k.result c.put_in_order-k.auto.xs c.put_in_order-k.ensures
-
-pub slice_bounds-try_candidates-end-in-All : goal.slice_bounds-try_candidates-end-in-All
-slice_bounds-try_candidates-end-in-All c =
-    let h = parts.count_in_front _ [] (xs-of (goal.at.slice_bounds-try_candidates-end-in-All c).In-All) c.put_in_order-k.new.xs (n-of (goal.at.slice_bounds-try_candidates-end-in-All c).In-All) c.put_in_order-k.result c.put_in_order-k.auto.xs c.put_in_order-k.ensures in
-    sym (length-take-le c.put_in_order-k.result (c.put_in_order-k.new.xs ++ drop (n-of (goal.at.slice_bounds-try_candidates-end-in-All c).In-All) (xs-of (goal.at.slice_bounds-try_candidates-end-in-All c).In-All)) h)
-
 pub try_candidates-requires : goal.try_candidates-requires
 try_candidates-requires c =
     let g = c.gather-g in
     let a = c.args in
-    let r = laws.kept_room a.sought.role a.sought.pitch a.routes.points.now (kept_in (goal.at.try_candidates-requires c).After-put_in_order-k) a.routes.starts.now a.routes.counts.now c.args.routes.windows.paired g.result (n-of (goal.at.try_candidates-requires c).In-All) c.in-All.left c.in-All.is (still_kept (goal.at.try_candidates-requires c).After-put_in_order-k) in
+    let r = laws.kept_room a.sought.role a.sought.pitch a.sought.routes.points.now (kept_in (goal.at.try_candidates-requires c).After-put_in_order-k) a.sought.routes.starts.now a.sought.routes.counts.now c.args.sought.routes.windows.paired g.result (n-of (goal.at.try_candidates-requires c).In-All) c.in-All.left c.in-All.is (still_kept (goal.at.try_candidates-requires c).After-put_in_order-k) in
     omega (arith, r, kept-length (goal.at.try_candidates-requires c).After-put_in_order-k, g.auto.kept, c.requires.scratch_room)
-
-pub returns-in-Spent : goal.returns-in-Spent
-returns-in-Spent c =
-    let g = c.gather-g in
-    let a = c.args in
-    let ms = members_lent a.sought.role a.sought.pitch a.routes in
-    record { within = tt; are = ap (λ (r : Listed). then_tried a.sought.role ms (told r g.new.xs)) (sym c.in-Spent.is) ∙ ap (then_tried a.sought.role ms) g.ensures.found.are }
 
 pub returns-in-All : goal.returns-in-All
 returns-in-All c =
     let g = c.gather-g in
     let a = c.args in
-    let ms = members_lent a.sought.role a.sought.pitch a.routes in
+    let ms = members_lent a.sought.role a.sought.pitch a.sought.routes in
     let m = c.try_candidates.new.xs in
     let front = take c.put_in_order-k.result (c.put_in_order-k.new.xs ++ drop (n-of (goal.at.returns-in-All c).In-All) (xs-of (goal.at.returns-in-All c).In-All)) in
-    let same = laws.kept_tried a.sought.role a.sought.pitch a.routes.points.now (kept_in (goal.at.returns-in-All c).After-put_in_order-k) a.routes.starts.now a.routes.counts.now c.args.routes.windows.paired g.result (n-of (goal.at.returns-in-All c).In-All) c.in-All.left c.in-All.is (still_kept (goal.at.returns-in-All c).After-put_in_order-k) front [] c.in-All.left.0 in
+    let same = laws.kept_tried a.sought.role a.sought.pitch a.sought.routes.points.now (kept_in (goal.at.returns-in-All c).After-put_in_order-k) a.sought.routes.starts.now a.sought.routes.counts.now c.args.sought.routes.windows.paired g.result (n-of (goal.at.returns-in-All c).In-All) c.in-All.left c.in-All.is (still_kept (goal.at.returns-in-All c).After-put_in_order-k) front [] c.in-All.left.0 in
     parts.then_are a.sought.role ms (xs-of (goal.at.returns-in-All c).In-All) c.put_in_order-k.new.xs (n-of (goal.at.returns-in-All c).In-All) c.put_in_order-k.result c.put_in_order-k.auto.xs c.put_in_order-k.ensures
     g.result c.try_candidates.result m c.in-All.left (length a.xs.now) _ c.in-All.is g.ensures.found
     g.auto.xs c.try_candidates.auto.xs (subst (Lists c.try_candidates.result m (length front)) same c.try_candidates.ensures)

@@ -1,8 +1,7 @@
 -- `component_extents::drop_all` meets its contract. Assumes nothing.
-use mathlib.Core.Path.{refl, ◌∙◌, ap}
+use mathlib.Core.Path.{◌∙◌, ap}
 use mathlib.Core.List.{List, map}
 use Prim.Native.Nat.{ℕ}
-use borrow.Author.Rules.{rules}
 use lib.ListN.{get_or, take, length-set}
 use Rattle.plan.specs.declared.Bound.{Bound}
 use Rattle.plan.specs.declared.Bound.TheVariants.{None}
@@ -11,9 +10,6 @@ use Rattle.plan.proofs.TableReads as rows
 use Rattle.plan.proofs.Agains as agains
 use Rattle.components.proofs.Turns as laws
 use Rattle.component_extents.proofs.drop_all.Goals as goal
-
-pub loop-k-init : goal.loop-k-init
-loop-k-init c = record { rows_length = search (rules, rows.length_mapped); xs_are = λ m h. refl }
 
 pub loop-k-preserved : goal.loop-k-preserved
 loop-k-preserved c =

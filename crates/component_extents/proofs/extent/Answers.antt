@@ -1,14 +1,12 @@
 -- `component_extents::extent` meets its contract. Assumes nothing.
 use mathlib.Core.Path.{◌≡◌, ◌∙◌, ap}
-use mathlib.Core.List.{List}
 use Prim.Native.Nat.{ℕ, ◌<◌}
-use lib.ListN.{get_or, drop}
-use lib.Ieee.{Float}
+use lib.ListN.{get_or}
 use Rattle.binary64.specs.Accepted.{zero64}
 use Rattle.plan.specs.Plan.{Ranged, if_between, desired_at}
 use Rattle.plan.specs.Prepared.{range_at}
 use Rattle.plan.proofs.TableReads as rows
-use Rattle.components.specs.Settled.{ranges_in, bound_in, bound_at, inmost}
+use Rattle.components.specs.Settled.{ranges_in, bound_in, bound_at}
 use Rattle.components.proofs.Turns as laws
 use Rattle.component_extents.proofs.extent.Goals as goal
 use Rattle.component_extents.proofs.extent.Goals.{Start}
@@ -18,17 +16,6 @@ bound-read s m i h = ap (λ (z : Ranged). bound_in s.args.role z.bounds) (laws.r
 
 desired-read : (s : Start) (m i : ℕ) → i < m → if_between (range_at s.args.t.now i).bounds zero64 (λ r. r.desired) ≡ desired_at (ranges_in m s.args.t.now) i
 desired-read s m i h = ap (λ (z : Ranged). if_between z.bounds zero64 (λ r. r.desired)) (laws.range_read s.args.t.now.rows m i h)
-
-pub loop-k-init : goal.loop-k-init
-loop-k-init c =
-    let a = c.args in
-    let i : ℕ = get_or a.which.now 0 0 in
-    let is : List ℕ = drop 1 a.which.now in
-    λ m e.
-    let h = e.each 0 c.requires.0 in
-    laws.extent _ _ _ _
-    (ap (λ (z : Float). inmost a.role (bound_at a.role (ranges_in m a.t.now)) z is) (c.bound_of-bound.ensures ∙ bound-read (goal.at.loop-k-init c).Start m i h))
-    (ap (λ (z : Float). inmost a.role (desired_at (ranges_in m a.t.now)) z is) (c.desired_of-desired.ensures ∙ desired-read (goal.at.loop-k-init c).Start m i h))
 
 pub loop-k-preserved : goal.loop-k-preserved
 loop-k-preserved c =

@@ -1,5 +1,5 @@
 -- `component_extents::of_role` meets its contract. Assumes nothing.
-use mathlib.Core.Path.{refl, sym, ◌∙◌, ap, subst}
+use mathlib.Core.Path.{sym, ◌∙◌, ap, subst}
 use Prim.Native.Nat.{ℕ, ◌≤◌, ◌<◌}
 use native.Mathlib.Omega.{arith}
 use lib.ListN.{length, get_or, take, length-set}
@@ -11,9 +11,6 @@ use Rattle.components.specs.Settled.{ranges_in}
 use Rattle.components.proofs.Turns as laws
 use Rattle.component_extents.proofs.of_role.Goals as goal
 use Rattle.component_extents.proofs.of_role.Goals.{then-is_same_role, else-is_same_role}
-
-pub loop-k-init : goal.loop-k-init
-loop-k-init c = record { few = omega arith; rows_length = refl; rows_are = λ m h. refl }
 
 pub loop-k-preserved : goal.loop-k-preserved
 loop-k-preserved c =

@@ -21,25 +21,25 @@ use Rattle.component_plan.proofs.components.Goals as goal
 use Rattle.component_plan.proofs.components.Goals.{Start, then-not-seen-i+then-is_found+in_ok-p, else-not-seen-i, else-not-seen-i-via-then-not-seen-i+else-is_found, else-not-seen-i-via-else-not-seen-i}
 use Rattle.std.proofs.lemmas.Result.{err_from_is_err_and}
 
-long : (s : Start) → length (ranges_in s.args.layout.reaches.now.count s.args.ranges) ≡ s.args.layout.reaches.now.count
+long : (s : Start) → length (ranges_in (length s.args.layout.reaches.now) s.args.ranges) ≡ length s.args.layout.reaches.now
 long s =
     let e : length s.args.ranges.rows ≡ max_bundles = search (rules, rows.length_mapped) in
-    laws.ranges_length s.args.layout.reaches.now.count s.args.ranges (omega (arith, s.args.layout.among.bundles_few))
+    laws.ranges_length (length s.args.layout.reaches.now) s.args.ranges (omega (arith, s.args.layout.among.bundles_few))
 
-next : (s : Start) (i : ℕ) → i < s.args.layout.reaches.now.count
-    → drop i (indices_from 0 (ranges_in s.args.layout.reaches.now.count s.args.ranges)) ≡ i ∷ drop (i + 1) (indices_from 0 (ranges_in s.args.layout.reaches.now.count s.args.ranges))
-next s i h = laws.indices_cons (ranges_in s.args.layout.reaches.now.count s.args.ranges) i (omega (arith, h, long s))
+next : (s : Start) (i : ℕ) → i < length s.args.layout.reaches.now
+    → drop i (indices_from 0 (ranges_in (length s.args.layout.reaches.now) s.args.ranges)) ≡ i ∷ drop (i + 1) (indices_from 0 (ranges_in (length s.args.layout.reaches.now) s.args.ranges))
+next s i h = laws.indices_cons (ranges_in (length s.args.layout.reaches.now) s.args.ranges) i (omega (arith, h, long s))
 
 -- the array of marks as the definition has it
 none_seen : (s : Start) (b : Board) (given : List Route)
-    → components search_of b given (ranges_in s.args.layout.reaches.now.count s.args.ranges) (indices_from 0 (ranges_in s.args.layout.reaches.now.count s.args.ranges)) (take s.args.layout.reaches.now.count (replicate max_bundles false)) (plan_in s.args.layout.reaches.now.count s.args.before)
-    ≡ components search_of b given (ranges_in s.args.layout.reaches.now.count s.args.ranges) (indices_from 0 (ranges_in s.args.layout.reaches.now.count s.args.ranges)) (replicate s.args.layout.reaches.now.count false) (plan_in s.args.layout.reaches.now.count s.args.before)
+    → components search_of b given (ranges_in (length s.args.layout.reaches.now) s.args.ranges) (indices_from 0 (ranges_in (length s.args.layout.reaches.now) s.args.ranges)) (take (length s.args.layout.reaches.now) (replicate max_bundles false)) (plan_in (length s.args.layout.reaches.now) s.args.before)
+    ≡ components search_of b given (ranges_in (length s.args.layout.reaches.now) s.args.ranges) (indices_from 0 (ranges_in (length s.args.layout.reaches.now) s.args.ranges)) (replicate (length s.args.layout.reaches.now) false) (plan_in (length s.args.layout.reaches.now) s.args.before)
 none_seen s b given =
-    ap (λ (l : List Bool). components search_of b given (ranges_in s.args.layout.reaches.now.count s.args.ranges) (indices_from 0 (ranges_in s.args.layout.reaches.now.count s.args.ranges)) l (plan_in s.args.layout.reaches.now.count s.args.before))
-    (laws.none_seen s.args.layout.reaches.now.count max_bundles s.args.layout.among.bundles_few)
+    ap (λ (l : List Bool). components search_of b given (ranges_in (length s.args.layout.reaches.now) s.args.ranges) (indices_from 0 (ranges_in (length s.args.layout.reaches.now) s.args.ranges)) l (plan_in (length s.args.layout.reaches.now) s.args.before))
+    (laws.none_seen (length s.args.layout.reaches.now) max_bundles s.args.layout.among.bundles_few)
 
-found-read : (s : Start) (i : ℕ) (f : Bool) → i < s.args.layout.reaches.now.count → f ≡ found? (range_at s.args.ranges i).bounds → f ≡ found? (ranged_at (ranges_in s.args.layout.reaches.now.count s.args.ranges) i).bounds
-found-read s i f h e = e ∙ ap (λ (z : Ranged). found? z.bounds) (turns.range_read s.args.ranges.rows s.args.layout.reaches.now.count i h)
+found-read : (s : Start) (i : ℕ) (f : Bool) → i < length s.args.layout.reaches.now → f ≡ found? (range_at s.args.ranges i).bounds → f ≡ found? (ranged_at (ranges_in (length s.args.layout.reaches.now) s.args.ranges) i).bounds
+found-read s i f h e = e ∙ ap (λ (z : Ranged). found? z.bounds) (turns.range_read s.args.ranges.rows (length s.args.layout.reaches.now) i h)
 
 pub loop-i-init : goal.loop-i-init
 loop-i-init c = record { seen_length = refl; plan_is = λ b given k e. refl }
@@ -47,7 +47,7 @@ loop-i-init c = record { seen_length = refl; plan_is = λ b given k e. refl }
 pub treat-requires : goal.treat-requires
 treat-requires c =
     let a = c.args in
-    let n = a.layout.reaches.now.count in
+    let n = length a.layout.reaches.now in
     let l = c.loop-i in
     let w = c.component-w in
     let k : length w.result.order ≡ max_bundles = search (rules, rows.length_mapped) in
@@ -57,7 +57,7 @@ treat-requires c =
 pub returns-in_err-p : goal.returns-in_err-p
 returns-in_err-p c =
     let a = c.args in
-    let n = a.layout.reaches.now.count in
+    let n = length a.layout.reaches.now in
     let l = c.loop-i in
     let h = c.loop-i-test.true in
     let m : l.i < length l.seen = omega (arith, h, l.invariant.seen_length, c.args.layout.among.bundles_few) in
@@ -75,7 +75,7 @@ returns-in_err-p c =
 pub loop-i-preserved : goal.loop-i-preserved
 loop-i-preserved c =
     let a = c.args in
-    let n = a.layout.reaches.now.count in
+    let n = length a.layout.reaches.now in
     let l = c.loop-i in
     let h = c.loop-i-test.true in
     let m : l.i < length l.seen = omega (arith, h, l.invariant.seen_length, c.args.layout.among.bundles_few) in
@@ -109,7 +109,7 @@ loop-i-preserved c =
 pub returns : goal.returns
 returns c =
     let a = c.args in
-    let n = a.layout.reaches.now.count in
+    let n = length a.layout.reaches.now in
     let l = c.loop-i in
     let h : length (ranges_in n a.ranges) ≤ l.i = omega (arith, c.loop-i-test.false, long (goal.at.returns c).Start) in
     λ b given k e.

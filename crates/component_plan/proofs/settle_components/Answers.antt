@@ -12,13 +12,13 @@ use Rattle.component_plan.proofs.Joins as laws
 use Rattle.component_plan.proofs.settle_components.Goals as goal
 use Rattle.component_plan.proofs.settle_components.Goals.{Start}
 
-few : (s : Start) → s.args.layout.reaches.now.count ≤ length s.args.ranges.rows
+few : (s : Start) → (length s.args.layout.reaches.now) ≤ length s.args.ranges.rows
 few s = let e : length s.args.ranges.rows ≡ max_bundles = search (rules, rows.length_mapped) in omega (arith, s.args.layout.among.bundles_few)
 
 pub returns : goal.returns
 returns c =
     let a = c.args in
-    let n = a.layout.reaches.now.count in
+    let n = length a.layout.reaches.now in
     let q = c.adjacency-a in
     let i = c.initial-p in
     λ b given k e.

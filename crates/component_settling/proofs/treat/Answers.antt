@@ -11,7 +11,7 @@ use Rattle.component_settling.proofs.treat.Goals as goal
 pub returns : goal.returns
 returns c =
     let a = c.args in
-    let n = a.layout.reaches.now.count in
+    let n = length a.layout.reaches.now in
     let i = c.of_role-i in
     let o = c.of_role-o in
     let ci = i.ensures n c.requires.listing.1 in

@@ -8,4 +8,4 @@ use Rattle.crossing_list.proofs.put_list.Goals as goal
 pub returns : goal.returns
 returns c =
     let a = c.args in
-    rw (c.put_rows.ensures, c.put_count.ensures) (list_joined _ _ _ (sym (length-map a.order.now (row_at a.kept.now.places a.kept.now.names))))
+    rw (c.put_rows.ensures, c.put_count.ensures) (list_joined _ _ _ (sym (length-map a.order.now (row_at a.kept.places.now a.kept.names.now))))

@@ -20,8 +20,8 @@ loop-k-preserved c =
     let a = c.args in
     let l = c.loop-k in record {
       place = omega arith;
-      bytes = entry_next a.kept.now.places a.kept.now.names a.order.now _ _ l.k-index l.at c.loop-k-test.true c.put_row.ensures ∙ l.invariant.bytes;
+      bytes = entry_next a.kept.places.now a.kept.names.now a.order.now _ _ l.k-index l.at c.loop-k-test.true c.put_row.ensures ∙ l.invariant.bytes;
     }
 
 pub returns : goal.returns
-returns c = let a = c.args in let l = c.loop-k in ap (λ z. sets l.out l.at z) (sym (entry_end a.kept.now.places a.kept.now.names a.order.now l.k-index c.loop-k-test.false)) ∙ l.invariant.bytes
+returns c = let a = c.args in let l = c.loop-k in ap (λ z. sets l.out l.at z) (sym (entry_end a.kept.places.now a.kept.names.now a.order.now l.k-index c.loop-k-test.false)) ∙ l.invariant.bytes

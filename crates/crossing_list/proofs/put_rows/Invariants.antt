@@ -12,5 +12,5 @@ use Rattle.crossing_list.proofs.put_rows.Given as goal
 abbrev pub invariant-loop-k : goal.invariant-loop-k
 invariant-loop-k l = record {
   place : l.at ≡ 2 + crossing_bytes * l.k-index;
-  bytes : sets l.out l.at (entries_at l.kept.places l.kept.names l.order l.k-index) ≡ sets l.initial.out 2 (all_bytes row_bytes (map (row_at l.kept.places l.kept.names) l.order));
+  bytes : sets l.out l.at (entries_at l.kept.places.now l.kept.names.now l.order l.k-index) ≡ sets l.initial.out 2 (all_bytes row_bytes (map (row_at l.kept.places.now l.kept.names.now) l.order));
 }

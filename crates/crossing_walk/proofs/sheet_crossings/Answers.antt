@@ -3,9 +3,9 @@ use Rattle.crossing_rows.specs.Walk.{none_kept, permitted_kept, kept_all}
 use Rattle.std.proofs.Common.{ap, not}
 use Rattle.crossing_walk.proofs.sheet_crossings.Goals as goal
 
-pub returns-then-not-permitted : goal.returns-then-not-permitted
-returns-then-not-permitted c = none_kept c.args.permitted _ _ _ _ _ _ (ap not c.if-not-permitted.true)
+pub returns-then-not-permitted-clause-rows : goal.returns-then-not-permitted-clause-rows
+returns-then-not-permitted-clause-rows c = none_kept c.args.permitted _ _ _ _ _ _ (ap not c.if-not-permitted.true)
 
-pub returns : goal.returns
-returns c =
-    permitted_kept c.args.permitted _ _ _ _ _ _ _ _ (ap not c.if-not-permitted.false) c.edge_ids.ensures (kept_all _ _ _ _ _ _ c.walk_bundles.ensures)
+pub returns-clause-rows : goal.returns-clause-rows
+returns-clause-rows c =
+    permitted_kept c.args.permitted _ _ _ _ _ _ _ _ (ap not c.if-not-permitted.false) c.edge_ids.ensures (kept_all _ _ _ _ _ _ c.walk_bundles.ensures.rows)

@@ -1,8 +1,12 @@
 use Rattle.crossing_rows.specs.Walk.{routes_at}
 use Rattle.crossing_rows.specs.Keep.{SoFar}
+use Rattle.crossing_rows.specs.Lent.{SameSlices}
 use Rattle.crossing_rows.specs.Rows.{bundle_rows}
 use Rattle.route.specs.Slots.{routes_of}
 use Rattle.crossing_walk.proofs.walk_bundle.Given as goal
 
 abbrev pub invariant-loop-e : goal.invariant-loop-e
-invariant-loop-e l = SoFar l.initial.kept.places l.initial.kept.names l.initial.kept.count l.kept.places l.kept.names l.kept.count (routes_at l.fn.row l.routes.ids.now l.routes.points.now l.routes.counts.now l.e) (bundle_rows l.fn.row l.routes.ids.now (routes_of l.routes.points.now l.routes.counts.now) 0)
+invariant-loop-e l = record {
+  same : SameSlices l.initial.kept l.kept;
+  rows : SoFar l.initial.kept.places.now l.initial.kept.names.now l.initial.kept.count l.kept.places.now l.kept.names.now l.kept.count (routes_at l.fn.row l.routes.ids.now l.routes.points.now l.routes.counts.now l.e) (bundle_rows l.fn.row l.routes.ids.now (routes_of l.routes.points.now l.routes.counts.now) 0);
+}

@@ -3,5 +3,5 @@ use Rattle.crossing_rows.specs.Walk.{route_grown}
 use Rattle.geometry.specs.Points.{points_from}
 use Rattle.crossing_walk.proofs.walk_route.Goals as goal
 
-pub returns : goal.returns
-returns c = let a = c.args in route_grown a.d.row a.edge (points_from a.route.points.now a.route.start a.route.count) _ _ _ _ _ _ _ _ _ c.walk_runs.ensures c.walk_runs-2.ensures
+pub returns-clause-rows : goal.returns-clause-rows
+returns-clause-rows c = let a = c.args in route_grown a.d.row a.edge (points_from a.route.points.now a.route.start a.route.count) _ _ _ _ _ _ _ _ _ c.walk_runs.ensures.rows c.walk_runs-2.ensures.rows

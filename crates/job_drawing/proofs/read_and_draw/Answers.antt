@@ -1,14 +1,10 @@
 -- `job_drawing::read_and_draw` meets its contract. Assumes nothing.
-use mathlib.Core.Path.{◌≡◌, refl, sym, ◌∙◌, ap, subst}
-use Prim.Native.Nat.{ℕ, ◌+◌, ◌*◌, ◌≤◌, ◌<◌}
+use mathlib.Core.Path.{◌≡◌, refl, sym, ◌∙◌, ap}
 use native.Mathlib.Omega.{arith}
-use lib.ListN.{length, take}
-use lib.Seq.{length-take-le, length_front}
-use borrow.Author.Tests.{not-true, not-false}
+use lib.ListN.{length}
 use Rattle.limits.specs.Limits.{point_numbers}
 use Rattle.job_tables.proofs.Ready.{came}
 use Rattle.draw_job.proofs.Phases as laws
-use borrow.Author.Rules.{rules}
 use Rattle.job_drawing.proofs.read_and_draw.Goals as goal
 
 pub read_job-requires : goal.read_job-requires
@@ -42,7 +38,8 @@ draw_in-requires c =
         edges_long = w.members.0;
         lanes_long = w.members.1;
         counts_long = w.routes;
-        room = laws.room_for _ _ _ _ _ fits.members fits.edges (w.taps ∙ p.2) (omega (arith, c.if-n-le-FEW_ROUTES.true)) w.routes;
+        room = laws.room_for _ _ _ _ _ _ fits.members fits.edges (w.taps ∙ p.2) (omega (arith, c.if-n-le-FEW_ROUTES.true)) w.routes (omega (arith, w.turn.0, p.4));
+        spare = omega (arith, w.turn.1, p.5);
       };
     }
 
@@ -68,7 +65,8 @@ draw_in-requires-2 c =
         edges_long = w.members.0;
         lanes_long = w.members.1;
         counts_long = w.routes;
-        room = laws.room_for _ _ _ _ _ fits.members fits.edges (w.taps ∙ p.2) (omega (arith, fits.edges)) w.routes;
+        room = laws.room_for _ _ _ _ _ _ fits.members fits.edges (w.taps ∙ p.2) (omega (arith, fits.edges)) w.routes (omega (arith, w.turn.0, p.4));
+        spare = omega (arith, w.turn.1, p.5);
       };
     }
 

@@ -1,5 +1,5 @@
 -- `job_rows::read_edges` meets its contract. Assumes nothing.
-use Rattle.std.proofs.Common.{◌≡◌, ℕ, ◌+◌, [], take, length, drop, refl, sym, subst, ◌∙◌, arith, length-set, rules}
+use Rattle.std.proofs.Common.{◌≡◌, ℕ, ◌+◌, [], take, length, drop, refl, sym, subst, ◌∙◌, arith, length-set}
 use Rattle.std.proofs.Common.{take_all}
 use Rattle.std.proofs.lemmas.Result.{err_from_is_err_and}
 use Rattle.wire.specs.ReadLaws.{many_refused}
@@ -28,12 +28,6 @@ returns-in_err-e c =
     (sym r.left ∙ many_refused (next_edge a.grid) (length a.keys.now) l.i (record { edges = r.raw; points = ps }) (drop l.at a.s.now) _ (omega arith)
     (edge_head_refused a.grid r.raw ps l.total (points_length l.points 0 l.total) (drop l.at a.s.now) _ (sym c.in_err-e.ensures)))
 
-pub read_points-requires : goal.read_points-requires
-read_points-requires c =
-    let l = c.loop-i in
-    let w = edge_window l.total (drop l.at c.args.s.now) _ (drop (l.at + 22) c.args.s.now) (sym c.in_ok-e.ensures) in
-    search rules
-
 pub returns-in_err-read_points : goal.returns-in_err-read_points
 returns-in_err-read_points c =
     let a = c.args in
@@ -45,30 +39,6 @@ returns-in_err-read_points c =
     rw (p.1, p.2)
     (sym r.left ∙ many_refused (next_edge a.grid) (length a.keys.now) l.i (record { edges = r.raw; points = ps }) (drop l.at a.s.now) _ (omega arith)
     (edge_points_refused a.grid r.raw ps l.total (points_length l.points 0 l.total) (drop l.at a.s.now) _ (drop (l.at + 22) a.s.now) _ (sym c.in_ok-e.ensures) (sym c.in_err-read_points.ensures)))
-
-pub overflow_mul-at : goal.overflow_mul-at
-overflow_mul-at c =
-    let l = c.loop-i in
-    let w = edge_window l.total (drop l.at c.args.s.now) _ (drop (l.at + 22) c.args.s.now) (sym c.in_ok-e.ensures) in
-    search rules
-
-pub overflow_add-at-in-loop-i : goal.overflow_add-at-in-loop-i
-overflow_add-at-in-loop-i c =
-    let l = c.loop-i in
-    let w = edge_window l.total (drop l.at c.args.s.now) _ (drop (l.at + 22) c.args.s.now) (sym c.in_ok-e.ensures) in
-    search rules
-
-pub overflow_add-at-in-loop-i-2 : goal.overflow_add-at-in-loop-i-2
-overflow_add-at-in-loop-i-2 c =
-    let l = c.loop-i in
-    let w = edge_window l.total (drop l.at c.args.s.now) _ (drop (l.at + 22) c.args.s.now) (sym c.in_ok-e.ensures) in
-    search rules
-
-pub overflow_add-total : goal.overflow_add-total
-overflow_add-total c =
-    let l = c.loop-i in
-    let w = edge_window l.total (drop l.at c.args.s.now) _ (drop (l.at + 22) c.args.s.now) (sym c.in_ok-e.ensures) in
-    search rules
 
 pub loop-i-preserved : goal.loop-i-preserved
 loop-i-preserved c =

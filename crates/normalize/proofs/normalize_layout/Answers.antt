@@ -7,33 +7,11 @@ use Rattle.normalize.proofs.Shift.{rows_shifted, windows_kept}
 use Rattle.normalize.proofs.Paged.{taps_in, laid_is, page_shifted, page_still, sheet_shifted}
 use Rattle.normalize.proofs.normalize_layout.Goals as goal
 
-pub outermost_of_sheet-o-requires : goal.outermost_of_sheet-o-requires
-outermost_of_sheet-o-requires c =
-    let a = c.args in
-    (c.requires.tables.0, c.requires.tables.1, taps_in a.drawn.count a.drawn.rows a.tap_count a.taps.now c.requires.taps.0 c.requires.taps.1)
-
-pub shift_routes-requires : goal.shift_routes-requires
-shift_routes-requires c =
-    c.requires.slots
-
-pub shift_points-requires : goal.shift_points-requires
-shift_points-requires c =
-    let room = c.requires.taps.0 in
-    omega arith
-
-pub shift_nodes-n-requires : goal.shift_nodes-n-requires
-shift_nodes-n-requires c =
-    c.requires.tables.0
-
-pub shift_drawn-d-requires : goal.shift_drawn-d-requires
-shift_drawn-d-requires c =
-    c.requires.tables.1
-
 pub outermost_of_sheet-size-requires : goal.outermost_of_sheet-size-requires
 outermost_of_sheet-size-requires c =
     let a = c.args in
-    let d = c.shift_drawn-d in
-    let n = c.shift_nodes-n in
+    let d = c.shift_table-d in
+    let n = c.shift_table-n in
     let p = c.shift_points in
     let r = c.shift_routes in
     let few = c.requires.tables in
@@ -50,8 +28,8 @@ unfolding of_bits
 returns-then-o c =
     let a = c.args in
     let z = c.outermost_of_sheet-size in
-    let d = c.shift_drawn-d in
-    let n = c.shift_nodes-n in
+    let d = c.shift_table-d in
+    let n = c.shift_table-n in
     let p = c.shift_points in
     let r = c.shift_routes in
     let o = c.outermost_of_sheet-o in record {
@@ -63,11 +41,6 @@ returns-then-o c =
       drawn = d.ensures.count;
       rows = rows_shifted o.result a.drawn d.result d.ensures.rows;
     }
-
-pub outermost_of_sheet-size-requires-2 : goal.outermost_of_sheet-size-requires-2
-outermost_of_sheet-size-requires-2 c =
-    let a = c.args in
-    (c.requires.tables.0, c.requires.tables.1, taps_in a.drawn.count a.drawn.rows a.tap_count a.taps.now c.requires.taps.0 c.requires.taps.1)
 
 pub returns : goal.returns
 unfolding of_bits

@@ -29,9 +29,6 @@ module _ (b : Board) (edges lanes : List ℕ) (u : Bundle) (i : ℕ) (w : Rowed 
   part : drop i (members_in b u) ≡ member ∷ drop (i + 1) (members_in b u)
   part = rows.part_at no_member b.members u.first u.count k i h
 
-pub corridor_of-corridor-requires : goal.corridor_of-corridor-requires
-corridor_of-corridor-requires c = c.requires.below.low c.loop-i.i c.loop-i-test.true
-
 pub returns-in_default : goal.returns-in_default
 returns-in_default c =
     let a = c.args in

@@ -30,24 +30,23 @@ pub loop-i-preserved : goal.loop-i-preserved
 loop-i-preserved c =
     let a = c.args in
     let l = c.loop-i in
-    let h : l.i < a.bundles.now.count = c.loop-i-test.true in
+    let h : l.i < length a.bundles.now = c.loop-i-test.true in
     let same = c.is_same_role in
     let rail = c.boundary_bundle_rail_depth-rail in
     let ko = offsets_length (goal.at.loop-i-preserved c).Start in
-    let q = c.requires.all_below.0.bundles_fit in
-    let qo : a.bundles.now.count ≤ length a.offsets.rows = omega (arith, c.requires.all_below.0.bundles_few) in
-    let u : Bundle = get_or a.bundles.now.rows l.i no_bundle in
+    let qo : length a.bundles.now ≤ length a.offsets.rows = omega (arith, c.requires.all_below.0.bundles_few) in
+    let u : Bundle = get_or a.bundles.now l.i no_bundle in
     let d : Float = get_or a.offsets.rows l.i nan in
     elim c.if-is_same_role.branch [
       | then-is_same_role v ↦ rw v.corridors-is (λ b e w n.
-          among.from_turn b a.role e u d _ _ _ _ (laws.part_cons a.bundles.now.rows a.bundles.now.count l.i no_bundle h q) (laws.part_cons a.offsets.rows a.bundles.now.count l.i nan h qo)
+          among.from_turn b a.role e u d _ _ _ _ (laws.rest_cons a.bundles.now l.i no_bundle h) (laws.part_cons a.offsets.rows (length a.bundles.now) l.i nan h qo)
           (get_or l.corridors e None) _ (sym same.ensures ∙ v.if-is_same_role.true)
           (v.add_corridors.ensures b e w (n.members_in l.i h)
           (v.inward-tap.ensures ∙ ap (λ (z : Float). inward u.role z rail.result) (n.end_is l.i h) ∙ ap (inward u.role (endpoint_of b u).x) (rail.ensures ∙ ap rail_depth n.options_are))
           (v.pitch_of_bundle-pitch.ensures ∙ ap (λ (z : Options). bundle_pitch z u) n.options_are))
           ∙ l.invariant b e w n)
       | else-is_same_role v ↦ rw v.corridors-is (λ b e w n.
-          among.from_skip b a.role e u d _ _ _ _ (laws.part_cons a.bundles.now.rows a.bundles.now.count l.i no_bundle h q) (laws.part_cons a.offsets.rows a.bundles.now.count l.i nan h qo)
+          among.from_skip b a.role e u d _ _ _ _ (laws.rest_cons a.bundles.now l.i no_bundle h) (laws.part_cons a.offsets.rows (length a.bundles.now) l.i nan h qo)
           (get_or l.corridors e None) (sym same.ensures ∙ v.if-is_same_role.false)
           ∙ l.invariant b e w n)
     ]
@@ -56,7 +55,6 @@ pub returns : goal.returns
 returns c =
     let a = c.args in
     let l = c.loop-i in
-    let q = c.requires.all_below.0.bundles_fit in
     λ b e w n.
-    among.from_end b a.role e _ _ (get_or l.corridors e None) (laws.part_none a.bundles.now.rows a.bundles.now.count l.i c.loop-i-test.false q)
+    among.from_end b a.role e _ _ (get_or l.corridors e None) (laws.rest_none a.bundles.now l.i c.loop-i-test.false)
     ∙ l.invariant b e w n

@@ -1,6 +1,6 @@
 use mathlib.Core.Path.{◌≡◌}
 use Prim.Native.Nat.{ℕ}
-use lib.ListN.{get_or, take, drop}
+use lib.ListN.{length, get_or, take, drop}
 use Rattle.board.specs.Board.{Board}
 use Rattle.plan.specs.Depths.{first_of, corridor_from}
 use Rattle.plan.specs.declared.Bound.TheVariants.{None}
@@ -10,5 +10,5 @@ use Rattle.plan_corridors.proofs.fallback_corridors_by_edge.Given as goal
 abbrev pub invariant-loop-i : goal.invariant-loop-i
 invariant-loop-i l =
     (b : Board) (e : ℕ) → Rowed b l.places.edges.now l.places.lanes.now → Ended b l.o l.bundles l.ends.rows
-    → first_of (get_or l.corridors e None) (corridor_from b l.role e (drop l.i (take l.bundles.count l.bundles.rows)) (drop l.i (take l.bundles.count l.offsets.rows)))
-    ≡ first_of (get_or l.initial.corridors e None) (corridor_from b l.role e (take l.bundles.count l.bundles.rows) (take l.bundles.count l.offsets.rows))
+    → first_of (get_or l.corridors e None) (corridor_from b l.role e (drop l.i l.bundles) (drop l.i (take (length l.bundles) l.offsets.rows)))
+    ≡ first_of (get_or l.initial.corridors e None) (corridor_from b l.role e l.bundles (take (length l.bundles) l.offsets.rows))

@@ -4,12 +4,11 @@ use lib.ListN.{length, take, drop}
 use Rattle.limits.specs.Limits.{max_bundles}
 use Rattle.board.specs.declared.Edge.{Edge}
 use Rattle.plan.specs.Depths.{offsets_from}
-use Rattle.plan.specs.BoardTables.{board_of}
+use Rattle.plan.specs.Lent.{board_with}
 use Rattle.plan_depths.proofs.corridor_depth_offsets.Given as goal
 
 abbrev pub invariant-loop-i : goal.invariant-loop-i
 invariant-loop-i l = record {
   rows_length : length l.rows ≡ max_bundles;
-  offsets_are : (edges : List Edge) → take l.i l.rows ++ offsets_from (board_of l.t.options l.t.nodes.now l.t.ports.now edges l.t.bundles.now l.t.members.now) (drop l.i (take l.t.bundles.now.count l.t.bundles.now.rows)) l.w
-      ≡ offsets_from (board_of l.t.options l.t.nodes.now l.t.ports.now edges l.t.bundles.now l.t.members.now) (take l.t.bundles.now.count l.t.bundles.now.rows) l.initial.w;
+  offsets_are : (edges : List Edge) → take l.i l.rows ++ offsets_from (board_with l.t edges) (drop l.i l.t.bundles.now) l.w ≡ offsets_from (board_with l.t edges) l.t.bundles.now l.initial.w;
 }

@@ -36,9 +36,6 @@ asked-some b given u x d c y pitch m ex e n p em =
     ap At (em ∙ ap (λ (z : Float). greatest (c ⊕ z) (y ⊕ z)) p)
     ∙ sym (ap (asked b given u) ex ∙ ap (λ (z : Bound). if_at z None (λ y. At (greatest (c ⊕ parting_pitch b) (y ⊕ parting_pitch b)))) (sym e ∙ n))
 
-pub returns-in-None : goal.returns-in-None
-returns-in-None c = let a = c.args in λ b given p t. sym (ap (asked b given a.u) c.in-None.is)
-
 pub returns-in-None-d : goal.returns-in-None-d
 returns-in-None-d c =
     let a = c.args in

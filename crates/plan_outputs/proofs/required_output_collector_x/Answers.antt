@@ -2,7 +2,7 @@
 use mathlib.Core.Path.{sym, ◌∙◌, ap}
 use mathlib.Core.List.{map}
 use Prim.Native.Nat.{ℕ}
-use lib.ListN.{get_or, take}
+use lib.ListN.{length, get_or, take}
 use Rattle.board.specs.declared.Bundle.{Bundle}
 use Rattle.plan.specs.Plan.{ranged_at, asked}
 use Rattle.plan.specs.Prepared.{x_of, no_planned}
@@ -20,10 +20,10 @@ loop-k-preserved c =
     let g = c.requires.each l.k h in
     let f = c.ask-a in
     λ b given ranges t e.
-    laws.required_turn b given ranges i _ _ (rows.rest_cons a.which.now l.k 0 h) (map x_of (take a.layout.reaches.now.count a.p.rows)) l.r f.result c.further_of-r.result
+    laws.required_turn b given ranges i _ _ (rows.rest_cons a.which.now l.k 0 h) (map x_of (take (length a.layout.reaches.now) a.p.rows)) l.r f.result c.further_of-r.result
     (f.ensures b given (t.each i g).pitch_is (t.each i g).routed
     ∙ ap (λ (z : Bundle). asked b given z (get_or a.p.rows i no_planned).x) (sym (e.same i g))
-    ∙ ap (asked b given (ranged_at ranges i).bundle) (laws.x_at a.p.rows a.layout.reaches.now.count i g))
+    ∙ ap (asked b given (ranged_at ranges i).bundle) (laws.x_at a.p.rows (length a.layout.reaches.now) i g))
     c.further_of-r.ensures
     ∙ l.invariant b given ranges t e
 
@@ -32,5 +32,5 @@ returns c =
     let a = c.args in
     let l = c.loop-k in
     λ b given ranges t e.
-    laws.required_end b given ranges (map x_of (take a.layout.reaches.now.count a.p.rows)) l.r _ (rows.rest_none a.which.now l.k c.loop-k-test.false)
+    laws.required_end b given ranges (map x_of (take (length a.layout.reaches.now) a.p.rows)) l.r _ (rows.rest_none a.which.now l.k c.loop-k-test.false)
     ∙ l.invariant b given ranges t e

@@ -1,6 +1,6 @@
 use mathlib.Core.Path.{◌≡◌}
 use mathlib.Core.List.{List, map}
-use lib.ListN.{take, drop}
+use lib.ListN.{length, take, drop}
 use Rattle.geometry.specs.Points.{Route}
 use Rattle.board.specs.Board.{Board}
 use Rattle.plan.specs.Plan.{Ranged, required}
@@ -11,4 +11,4 @@ use Rattle.plan_outputs.proofs.required_output_collector_x.Given as goal
 abbrev pub invariant-loop-k : goal.invariant-loop-k
 invariant-loop-k l =
     (b : Board) (given : List Route) (ranges : List Ranged) → LayoutTells b given l.layout → SameBundles ranges l.layout.reaches.now
-    → required b given ranges (map x_of (take l.layout.reaches.now.count l.p.rows)) l.r (drop l.k l.which) ≡ required b given ranges (map x_of (take l.layout.reaches.now.count l.p.rows)) l.initial.r l.which
+    → required b given ranges (map x_of (take (length l.layout.reaches.now) l.p.rows)) l.r (drop l.k l.which) ≡ required b given ranges (map x_of (take (length l.layout.reaches.now) l.p.rows)) l.initial.r l.which

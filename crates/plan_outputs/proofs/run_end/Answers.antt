@@ -7,14 +7,6 @@ use Rattle.plan.specs.Plan.{diverges_at}
 use Rattle.plan.proofs.Ends as laws
 use Rattle.plan_outputs.proofs.run_end.Goals as goal
 
-pub loop-i-init : goal.loop-i-init
-loop-i-init c =
-    let a = c.args in
-    let e : a.route.start + 0 ≡ a.route.start = omega arith in
-    let f : a.route.count - 0 ≡ a.route.count = omega arith in
-    ap (λ (j : ℕ). diverges_at a.role a.pitch a.x (points_from a.route.points.now j (a.route.count - 0))) e
-    ∙ ap (λ (j : ℕ). diverges_at a.role a.pitch a.x (points_from a.route.points.now a.route.start j)) f
-
 pub returns-then-stretch_holds : goal.returns-then-stretch_holds
 returns-then-stretch_holds c =
     let a = c.args in

@@ -2,7 +2,7 @@
 use Rattle.std.proofs.Common.{rules}
 use Rattle.plan.proofs.TableReads.{length_mapped}
 use Rattle.job_tables.specs.Came.{Sizes}
-use Rattle.job_tables.proofs.Ready.{tables_sound, routes_in}
+use Rattle.job_tables.proofs.Ready.{routes_lent}
 use Rattle.plan_replay.proofs.call_read.Goals as goal
 use Rattle.plan_replay.proofs.call_read.Goals.{Start}
 
@@ -15,12 +15,13 @@ sizes s = record {
   members = let g = s.well_formed.0.1.1.1.1.1.1.1.1.1.0 in search (rules, length_mapped, g);
 }
 
-pub invariant_of-tables : goal.invariant_of-tables
-invariant_of-tables c =
+pub board_tables-requires : goal.board_tables-requires
+board_tables-requires c =
     let a = c.args in
-    record { sound = tables_sound a.j a.points.now c.requires (sizes (goal.at.invariant_of-tables c).Start) }
+    record { came = (a.points.now, c.requires); sizes = sizes (goal.at.board_tables-requires c).Start }
 
 pub invariant_of-q : goal.invariant_of-q
 invariant_of-q c =
     let a = c.args in
-    record { routes_in = routes_in a.j a.points.now c.requires (sizes (goal.at.invariant_of-q c).Start) }
+    let t = c.board_tables in
+    record { routes_in = routes_lent a.j a.points.now c.requires (sizes (goal.at.invariant_of-q c).Start) t.result (t.ensures a.points.now) }

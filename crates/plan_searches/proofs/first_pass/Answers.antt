@@ -17,13 +17,12 @@ pub loop-i-preserved : goal.loop-i-preserved
 loop-i-preserved c =
     let a = c.args in
     let l = c.loop-i in
-    let h : l.i < a.layout.reaches.now.count = c.loop-i-test.true in
+    let h : l.i < length a.layout.reaches.now = c.loop-i-test.true in
     let f = c.interior_collector_range-s in
-    let g : l.i < length l.rows = omega (arith, a.layout.among.bundles_few) in
-    let q = a.layout.among.bundles_fit in record {
+    let g : l.i < length l.rows = omega (arith, a.layout.among.bundles_few) in record {
       rows_length = length-set l.rows l.i f.result.range ∙ l.invariant.rows_length;
       passed_is = λ b given t.
-          laws.pass_turn b given _ _ (reached_at a.layout.reaches.now l.i).bundle l.i l.rows l.left.0 f.result (ap (map bundle_of) (rows.part_cons a.layout.reaches.now.rows a.layout.reaches.now.count l.i no_reached h q)) g (f.ensures.told b given (t.each l.i h))
+          laws.pass_turn b given _ _ (reached_at a.layout.reaches.now l.i).bundle l.i l.rows l.left.0 f.result (ap (map bundle_of) (rows.rest_cons a.layout.reaches.now l.i no_reached h)) g (f.ensures.told b given (t.each l.i h))
           ∙ l.invariant.passed_is b given t;
       same = rows.filled (λ j x. x.bundle ≡ (reached_at a.layout.reaches.now j).bundle) l.rows l.i f.result.range no_range g f.ensures.same l.invariant.same;
     }
@@ -32,10 +31,9 @@ pub returns-clause-told : goal.returns-clause-told
 returns-clause-told c =
     let a = c.args in
     let l = c.loop-i in
-    let q = a.layout.among.bundles_fit in
-    let e : a.layout.reaches.now.count ≡ l.i = omega (arith, c.loop-i-test.false) in
+    let e : length a.layout.reaches.now ≡ l.i = omega (arith, c.loop-i-test.false) in
     λ b given t.
     ap (λ (j : ℕ). passed j (record { rows = l.rows; left = l.left })) e
-    ∙ laws.pass_end b given _ (map ranged_from (take l.i l.rows)) l.left.0 (ap (map bundle_of) (rows.part_none a.layout.reaches.now.rows a.layout.reaches.now.count l.i c.loop-i-test.false q))
+    ∙ laws.pass_end b given _ (map ranged_from (take l.i l.rows)) l.left.0 (ap (map bundle_of) (rows.rest_none a.layout.reaches.now l.i c.loop-i-test.false))
     ∙ l.invariant.passed_is b given t
     ∙ ap (λ (us : List Bundle). first_pass search_of b given us a.granted.0) (sym t.bundles_are)

@@ -16,6 +16,6 @@ abbrev pub invariant-loop-i : goal.invariant-loop-i
 invariant-loop-i l = record {
   rows_length : length l.rows ≡ max_bundles;
   passed_is : (b : Board) (given : List Route) → LayoutTells b given l.layout
-      → laws.behind (map ranged_from (take l.i l.rows)) (first_pass search_of b given (map bundle_of (drop l.i (take l.layout.reaches.now.count l.layout.reaches.now.rows))) l.left.0) ≡ first_pass search_of b given (map bundle_of (take l.layout.reaches.now.count l.layout.reaches.now.rows)) l.initial.left.0;
+      → laws.behind (map ranged_from (take l.i l.rows)) (first_pass search_of b given (map bundle_of (drop l.i l.layout.reaches.now)) l.left.0) ≡ first_pass search_of b given (map bundle_of l.layout.reaches.now) l.initial.left.0;
   same : (j : ℕ) → j < l.i → (get_or l.rows j no_range).bundle ≡ (reached_at l.layout.reaches.now j).bundle;
 }

@@ -2,7 +2,7 @@
 use mathlib.Core.Path.{sym, ◌∙◌, ap}
 use mathlib.Core.List.{List}
 use Prim.Native.Nat.{ℕ, ◌+◌}
-use lib.ListN.{get_or, drop, set, length-set}
+use lib.ListN.{length, get_or, drop, set, length-set}
 use Rattle.board.specs.declared.Bundle.{Bundle}
 use Rattle.search.specs.Search.{search_of}
 use Rattle.plan.specs.declared.Bound.{Bound}
@@ -25,13 +25,13 @@ loop-k-preserved c =
     let x = c.found_x-x in record {
       rows_length = length-set l.rows i (record { x = x.result }) ∙ l.invariant.rows_length;
       plan_is = λ b given ranges t e.
-          let q : Plan = plan_in a.layout.reaches.now.count (record { rows = l.rows; left = l.left }) in
-          ap (λ (z : List Bound). again search_of b given ranges (λ x. a.lower) (upper_at a.layout.pitch a.upper) (drop (l.k + 1) a.which.now) (record { xs = z; left = f.result.left.0 }))
-          (laws.x_set l.rows a.layout.reaches.now.count i x.result g ∙ ap (set q.xs i) x.ensures)
-          ∙ laws.again_turn b given ranges i _ _ (rows.rest_cons a.which.now l.k 0 h) (λ x. a.lower) (upper_at a.layout.pitch a.upper) q f.result
+          let q : Plan = plan_in (length a.layout.reaches.now) (record { rows = l.rows; left = l.left }) in
+          ap (λ (z : List Bound). again search_of b given ranges (λ x. a.lower) (upper_at a.layout.setting.pitch a.upper) (drop (l.k + 1) a.which.now) (record { xs = z; left = f.result.left.0 }))
+          (laws.x_set l.rows (length a.layout.reaches.now) i x.result g ∙ ap (set q.xs i) x.ensures)
+          ∙ laws.again_turn b given ranges i _ _ (rows.rest_cons a.which.now l.k 0 h) (λ x. a.lower) (upper_at a.layout.setting.pitch a.upper) q f.result
           (f.ensures b given (t.each i g)
           ∙ ap (λ (z : Bundle). seek search_of b given z a.lower u.result l.left.0) (sym (e.same i g))
-          ∙ ap (λ (z : Bound). seek search_of b given (ranged_at ranges i).bundle a.lower z l.left.0) (u.ensures ∙ ap (upper_at a.layout.pitch a.upper) (laws.x_at l.rows a.layout.reaches.now.count i g)))
+          ∙ ap (λ (z : Bound). seek search_of b given (ranged_at ranges i).bundle a.lower z l.left.0) (u.ensures ∙ ap (upper_at a.layout.setting.pitch a.upper) (laws.x_at l.rows (length a.layout.reaches.now) i g)))
           ∙ l.invariant.plan_is b given ranges t e;
     }
 
@@ -40,5 +40,5 @@ returns c =
     let a = c.args in
     let l = c.loop-k in
     λ b given ranges t e.
-    laws.again_end b given ranges (λ x. a.lower) (upper_at a.layout.pitch a.upper) (plan_in a.layout.reaches.now.count (record { rows = l.rows; left = l.left })) _ (rows.rest_none a.which.now l.k c.loop-k-test.false)
+    laws.again_end b given ranges (λ x. a.lower) (upper_at a.layout.setting.pitch a.upper) (plan_in (length a.layout.reaches.now) (record { rows = l.rows; left = l.left })) _ (rows.rest_none a.which.now l.k c.loop-k-test.false)
     ∙ l.invariant.plan_is b given ranges t e

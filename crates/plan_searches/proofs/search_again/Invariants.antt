@@ -14,6 +14,6 @@ abbrev pub invariant-loop-k : goal.invariant-loop-k
 invariant-loop-k l = record {
   rows_length : length l.rows ≡ max_bundles;
   plan_is : (b : Board) (given : List Route) (ranges : List Ranged) → LayoutTells b given l.layout → SameBundles ranges l.layout.reaches.now
-      → again search_of b given ranges (λ x. l.lower) (upper_at l.layout.pitch l.upper) (drop l.k l.which) (plan_in l.layout.reaches.now.count (record { rows = l.rows; left = l.left }))
-      ≡ again search_of b given ranges (λ x. l.lower) (upper_at l.layout.pitch l.upper) l.which (plan_in l.layout.reaches.now.count (record { rows = l.initial.rows; left = l.initial.left }));
+      → again search_of b given ranges (λ x. l.lower) (upper_at l.layout.setting.pitch l.upper) (drop l.k l.which) (plan_in (length l.layout.reaches.now) (record { rows = l.rows; left = l.left }))
+      ≡ again search_of b given ranges (λ x. l.lower) (upper_at l.layout.setting.pitch l.upper) l.which (plan_in (length l.layout.reaches.now) (record { rows = l.initial.rows; left = l.initial.left }));
 }

@@ -1,6 +1,6 @@
 use mathlib.Core.Path.{◌≡◌}
 use Prim.Native.Nat.{ℕ, ◌<◌}
-use lib.ListN.{length, get_or, take}
+use lib.ListN.{length, get_or}
 use lib.Ieee.{nan}
 use Rattle.limits.specs.Limits.{max_bundles}
 use Rattle.board.specs.Board.{Board}
@@ -11,5 +11,5 @@ use Rattle.planner.proofs.bundle_ends.Given as goal
 abbrev pub invariant-loop-i : goal.invariant-loop-i
 invariant-loop-i l = record {
   rows_length : length l.rows ≡ max_bundles;
-  end_is : (j : ℕ) → j < l.i → (b : Board) → b.nodes ≡ take l.nodes.count l.nodes.rows → b.ports ≡ take l.ports.count l.ports.rows → get_or l.rows j nan ≡ (endpoint_of b (get_or l.bundles.rows j no_bundle)).x;
+  end_is : (j : ℕ) → j < l.i → (b : Board) → b.nodes ≡ l.nodes → b.ports ≡ l.ports → get_or l.rows j nan ≡ (endpoint_of b (get_or l.bundles j no_bundle)).x;
 }

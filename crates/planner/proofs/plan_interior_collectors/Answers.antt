@@ -1,7 +1,6 @@
 -- `planner::plan_interior_collectors` meets its contract. Assumes nothing.
 use mathlib.Core.Path.{refl, sym, ◌∙◌, ap}
 use Prim.Native.Nat.{ℕ}
-use lib.ListN.{take}
 use Rattle.components.specs.Settled.{step_in}
 use Rattle.plan.specs.Lent.{board_lent}
 use Rattle.plan.specs.BoardTables.{given_routes}
@@ -17,8 +16,8 @@ returns c =
     let t = a.t in
     let w = c.member_rows.ensures in
     let r = c.reach_bundles-reaches in
+    let windowed = laws.windowed t a.points.now _ _ _ _ w c.requires.routes_in in
+    let e = laws.edges_in t a.points.now _ _ _ _ w c.requires.routes_in r.result r.ensures.same in
     let given = given_routes a.points.now t.edges.now in
-    let windowed = laws.windowed t.options t.nodes.now t.ports.now t.edges.now t.bundles.now t.members.now a.points.now _ _ _ _ w t.sound c.requires.routes_in in
-    let e = laws.edges_in t.options t.nodes.now t.ports.now t.edges.now t.bundles.now t.members.now a.points.now _ _ _ _ w t.sound c.requires.routes_in r.result r.ensures.same in
-    ap (λ (n : ℕ). step_in n c.plan_reached.result) (sym r.ensures.same.as_many)
-    ∙ c.plan_reached.ensures (board_lent t) given c.pitch_of_sheet.ensures (rw (c.boundary_bundle_rail_depth.ensures, c.pitch_of_sheet.ensures) (r.ensures.told (take t.edges.now.count t.edges.now.rows) given windowed)) e
+    ap (λ (n : ℕ). step_in n c.plan_reached.result) (sym (laws.rows_long t a.points.now _ _ _ _ w c.requires.routes_in r.result r.ensures.same))
+    ∙ c.plan_reached.ensures (board_lent t) given c.pitch_of_sheet.ensures (rw (c.boundary_bundle_rail_depth.ensures, c.pitch_of_sheet.ensures) (r.ensures.told t.edges.now given windowed)) e

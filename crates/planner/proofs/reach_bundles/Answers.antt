@@ -6,7 +6,7 @@ use Rattle.limits.specs.Limits.{max_edges}
 use Rattle.geometry.specs.declared.Role.TheVariants.{Input, Output}
 use Rattle.board.specs.Board.{Board}
 use Rattle.plan.specs.Depths.{corridor_from}
-use Rattle.plan.specs.BoardTables.{board_of}
+use Rattle.plan.specs.Lent.{board_with}
 use Rattle.plan_corridors.proofs.Among.{none_put}
 use Rattle.planner.proofs.MemberTurns as laws
 use Rattle.planner.proofs.reach_bundles.Goals as goal
@@ -19,9 +19,9 @@ returns-clause-told c =
     let i = c.fallback_corridors_by_edge in
     let o = c.fallback_corridors_by_edge-2 in
     λ table given w.
-    let b : Board = board_of t.options t.nodes.now t.ports.now table t.bundles.now t.members.now in
-    let rowed = laws.rowed t.nodes.now t.ports.now t.bundles.now t.members.now t.sound a.places.edges.now a.places.lanes.now c.requires.placed t.options table in
-    let ended = laws.ended t.nodes.now t.ports.now t.bundles.now t.members.now t.sound a.places.edges.now a.places.lanes.now c.requires.placed t.options table e.result.rows e.ensures in
+    let b : Board = board_with t table in
+    let rowed = laws.rowed t a.places.edges.now a.places.lanes.now c.requires.placed table in
+    let ended = laws.ended t a.places.edges.now a.places.lanes.now c.requires.placed table e.result.rows e.ensures in
     c.reaches.ensures.told b given a.places.lanes.now ended rowed w (
       record { are = λ n. i.ensures b n rowed ended ∙ none_put max_edges n _ ∙ ap (λ (l : List Float). corridor_from b Input n b.bundles l) (c.requires.offsets_of table) },
       record { are = λ n. o.ensures b n rowed ended ∙ none_put max_edges n _ ∙ ap (λ (l : List Float). corridor_from b Output n b.bundles l) (c.requires.offsets_of table) },

@@ -1,9 +1,10 @@
 -- `planner::reaches` meets its contract. Assumes nothing.
-use mathlib.Core.Path.{◌≡◌, refl, ◌∙◌, ap}
+use mathlib.Core.Path.{◌≡◌, refl, sym, ◌∙◌, ap, subst}
 use mathlib.Core.List.{List}
-use Prim.Native.Nat.{ℕ, ◌<◌}
+use Prim.Native.Nat.{ℕ, ◌≤◌, ◌<◌}
 use native.Mathlib.Omega.{arith}
 use lib.ListN.{length, get_or, length-set}
+use lib.Seq.{get_or-take}
 use lib.Ieee.{nan}
 use Rattle.geometry.specs.Points.{Route}
 use Rattle.board.specs.declared.Options.{Options}
@@ -21,13 +22,13 @@ pub loop-i-preserved : goal.loop-i-preserved
 loop-i-preserved c =
     let a = c.args in
     let l = c.loop-i in
-    let h : l.i < a.bundles.now.count = c.loop-i-test.true in
+    let h : l.i < length a.bundles.now = c.loop-i-test.true in
     let f = c.reach_all-d in
-    let u : Bundle = get_or a.bundles.now.rows l.i no_bundle in
+    let u : Bundle = get_or a.bundles.now l.i no_bundle in
     let v : Reached = record { bundle = u; endpoint = get_or a.ends.rows l.i nan; reached = f.result } in
     let low : l.i < length l.rows = omega (arith, h, c.requires.all_below.bundles_few, l.invariant.rows_length) in record {
       rows_length = length-set l.rows l.i v ∙ l.invariant.rows_length;
-      bundle_is = rows.filled (λ j x. x.bundle ≡ get_or a.bundles.now.rows j no_bundle) l.rows l.i v no_reached low refl l.invariant.bundle_is;
+      bundle_is = rows.filled (λ j x. x.bundle ≡ get_or a.bundles.now j no_bundle) l.rows l.i v no_reached low refl l.invariant.bundle_is;
       told = rows.filled
           (λ j x. (b : Board) (given : List Route) (lanes : List ℕ) → Ended b a.o a.bundles.now a.ends.rows → Rowed b a.places.edges.now lanes → RoutesTell b given a.routes
           → CorridorsTell b a.corridors → Tells b given a.routes.points.now a.routes.starts.now a.routes.counts.now (rail_depth a.o) (sheet_pitch a.o) x)
@@ -46,9 +47,13 @@ pub returns-clause-told : goal.returns-clause-told
 returns-clause-told c =
     let a = c.args in
     let l = c.loop-i in
-    let e : l.i ≡ a.bundles.now.count = omega (arith, c.loop-i-test.false) in
+    let k = length a.bundles.now in
+    let e : l.i ≡ k = omega (arith, c.loop-i-test.false) in
+    let fit : k ≤ length l.rows = omega (arith, c.requires.all_below.bundles_few, l.invariant.rows_length) in
     λ b given lanes n w q o.
     record {
-      bundles_are = n.bundles_are ∙ laws.same_rows a.bundles.now.count a.bundles.now.rows l.rows c.requires.all_below.bundles_fit (omega (arith, c.requires.all_below.bundles_few, l.invariant.rows_length)) (λ j h. l.invariant.bundle_is j (omega (arith, h, e)));
-      each = λ j h. l.invariant.told j (omega (arith, h, e)) b given lanes n w q o;
+      bundles_are = n.bundles_are ∙ laws.same_rows a.bundles.now l.rows fit (λ j h. l.invariant.bundle_is j (omega (arith, h, e)));
+      each = λ j h.
+          let g : j < k = omega (arith, h, rows.length_part l.rows k fit) in
+          subst (Tells b given a.routes.points.now a.routes.starts.now a.routes.counts.now (rail_depth a.o) (sheet_pitch a.o)) (sym (get_or-take k l.rows j no_reached g)) (l.invariant.told j (omega (arith, g, e)) b given lanes n w q o);
     }

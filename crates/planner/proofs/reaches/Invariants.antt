@@ -13,7 +13,7 @@ use Rattle.planner.proofs.reaches.Given as goal
 abbrev pub invariant-loop-i : goal.invariant-loop-i
 invariant-loop-i l = record {
   rows_length : length l.rows ≡ max_bundles;
-  bundle_is : (j : ℕ) → j < l.i → (get_or l.rows j no_reached).bundle ≡ get_or l.bundles.rows j no_bundle;
+  bundle_is : (j : ℕ) → j < l.i → (get_or l.rows j no_reached).bundle ≡ get_or l.bundles j no_bundle;
   told : (j : ℕ) → j < l.i → (b : Board) (given : List Route) (lanes : List ℕ) → Ended b l.o l.bundles l.ends.rows → Rowed b l.places.edges.now lanes → RoutesTell b given l.routes → CorridorsTell b l.corridors
       → Tells b given l.routes.points.now l.routes.starts.now l.routes.counts.now (rail_depth l.o) (sheet_pitch l.o) (get_or l.rows j no_reached);
 }

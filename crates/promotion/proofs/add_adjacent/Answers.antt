@@ -4,9 +4,8 @@ use mathlib.Core.Path.{◌≡◌, sym, ◌∙◌, ap}
 use mathlib.Core.List.{List, ◌++◌}
 use Prim.Native.Nat.{ℕ, ◌+◌, ◌-◌, ◌≤◌}
 use native.Mathlib.Omega.{arith}
-use borrow.Author.Tests.{not-true, not-false}
+use borrow.Author.Tests.{not-false}
 use lib.ListN.{length, take, drop}
-use lib.Seq.{length-take-le}
 use lib.Ieee.{Float}
 use Rattle.search.specs.declared.Listed.{Listed}
 use Rattle.search.specs.Lent.{members_lent}
@@ -42,46 +41,10 @@ whole_length x = parts.whole_again (xs-of x) (n-of x) (in-front x) (ys-of x) (ys
 abbrev m-of : In-All → ℕ
 m-of k = k.in-All.m
 
-both-within : (k : In-All) → n-of (goal.at.In-All k).After-common_horizontal_collector_xs-g + m-of k ≤ length (whole (goal.at.In-All k).After-common_horizontal_collector_xs-g)
-both-within k =
-    let g = k.common_horizontal_collector_xs-g in
-    let f : m-of k ≤ length (ys-of (goal.at.In-All k).After-common_horizontal_collector_xs-g) = rw g.auto.xs (parts.count_within g.result (m-of k) k.in-All.rest _ k.in-All.is g.ensures.within) in
-    omega (arith, ys-length (goal.at.In-All k).After-common_horizontal_collector_xs-g, whole_length (goal.at.In-All k).After-common_horizontal_collector_xs-g, in-front (goal.at.In-All k).After-common_horizontal_collector_xs-g)
-
-pub returns-then-not-is_between : goal.returns-then-not-is_between
-returns-then-not-is_between c =
-    let a = c.args in
-    let ms = members_lent a.sought.role a.sought.pitch a.routes in
-    record {
-      within = omega (arith, c.requires.room);
-      are = parts.no_second a.sought.role a.sought.pitch a.sought.bounds ms (take a.n a.xs.now) a.left.0 _ c.adjacent_lane-lane.ensures (sym c.is_between.ensures ∙ not-true _ (ap not c.if-not-is_between.true));
-    }
-
-pub common_horizontal_collector_xs-g-requires : goal.common_horizontal_collector_xs-g-requires
-common_horizontal_collector_xs-g-requires c =
-    let h = c.requires.room in
-    let e = parts.back_length c.args.xs.now c.args.n (omega arith) in
-    record { room = omega arith; scratch_room = omega (arith, c.requires.scratch_room) }
-
-pub overflow_add-both : goal.overflow_add-both
-overflow_add-both c =
-    omega (arith, both-within (goal.at.overflow_add-both c).In-All, whole_length (goal.at.overflow_add-both c).After-common_horizontal_collector_xs-g, c.well_formed)
-
-pub slice_bounds-put_in_order-end : goal.slice_bounds-put_in_order-end
-slice_bounds-put_in_order-end c = both-within (goal.at.slice_bounds-put_in_order-end c).In-All
-
-pub slice_bounds-put_in_order-end-in-All : goal.slice_bounds-put_in_order-end-in-All
-slice_bounds-put_in_order-end-in-All c =
-    sym (length-take-le (n-of (goal.at.slice_bounds-put_in_order-end-in-All c).After-common_horizontal_collector_xs-g + m-of (goal.at.slice_bounds-put_in_order-end-in-All c).In-All) (whole (goal.at.slice_bounds-put_in_order-end-in-All c).After-common_horizontal_collector_xs-g) (both-within (goal.at.slice_bounds-put_in_order-end-in-All c).In-All))
-
-pub put_in_order-k-requires : goal.put_in_order-k-requires
-put_in_order-k-requires c =
-    omega (arith, parts.front_within (whole (goal.at.put_in_order-k-requires c).After-common_horizontal_collector_xs-g) (n-of (goal.at.put_in_order-k-requires c).After-common_horizontal_collector_xs-g + m-of (goal.at.put_in_order-k-requires c).In-All), whole_length (goal.at.put_in_order-k-requires c).After-common_horizontal_collector_xs-g, c.common_horizontal_collector_xs-g.auto.scratch, c.requires.scratch_room)
-
 pub returns-in-Spent : goal.returns-in-Spent
 returns-in-Spent c =
     let a = c.args in
-    let ms = members_lent a.sought.role a.sought.pitch a.routes in
+    let ms = members_lent a.sought.role a.sought.pitch a.sought.routes in
     let g = c.common_horizontal_collector_xs-g in
     let first = take (n-of (goal.at.returns-in-Spent c).After-common_horizontal_collector_xs-g) (xs-of (goal.at.returns-in-Spent c).After-common_horizontal_collector_xs-g) in
     let near = sym c.is_between.ensures ∙ not-false _ (ap not c.if-not-is_between.false) in
@@ -95,7 +58,7 @@ returns-in-Spent c =
 pub returns-in-All : goal.returns-in-All
 returns-in-All c =
     let a = c.args in
-    let ms = members_lent a.sought.role a.sought.pitch a.routes in
+    let ms = members_lent a.sought.role a.sought.pitch a.sought.routes in
     let g = c.common_horizontal_collector_xs-g in
     let first = take (n-of (goal.at.returns-in-All c).After-common_horizontal_collector_xs-g) (xs-of (goal.at.returns-in-All c).After-common_horizontal_collector_xs-g) in
     let near = sym c.is_between.ensures ∙ not-false _ (ap not c.if-not-is_between.false) in

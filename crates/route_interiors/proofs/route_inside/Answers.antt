@@ -1,11 +1,8 @@
 use Rattle.std.proofs.Common.{sym, ◌∙◌, ◌+◌, ◌/◌, arith, length}
 use Rattle.std.proofs.lemmas.Result.{err_from_is_err_and}
 use Rattle.checks.specs.CheckRows.{nodes_in}
-use Rattle.checks.proofs.TestSteps.{node_start, node_own, node_spent, node_hit, node_clean, node_end, inside_at, inside_start, inside_slanted, inside_straight, inside_end}
+use Rattle.checks.proofs.TestSteps.{node_start, node_own, node_spent, node_hit, node_clean, node_end, inside_at, inside_slanted, inside_straight, inside_end}
 use Rattle.route_interiors.proofs.route_inside.Goals as goal
-
-pub loop-i-init : goal.loop-i-init
-loop-i-init c = let a = c.args in inside_start (nodes_in a.boxes.now) a.e a.route.points.now a.route.start a.route.count _
 
 pub returns-then-is_slanted : goal.returns-then-is_slanted
 returns-then-is_slanted c =

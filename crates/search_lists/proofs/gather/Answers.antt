@@ -24,19 +24,19 @@ use Rattle.search_lists.proofs.gather.Goals.{After-candidate_of-c, At-loop-i, At
 abbrev from : At-loop-m → ℕ → List (Option (Float × Float))
 from s m =
     let a = s.args in
-    from_member a.routes.points.now a.sought.role a.sought.pitch a.routes.starts.now a.routes.counts.now m
+    from_member a.sought.routes.points.now a.sought.role a.sought.pitch a.sought.routes.starts.now a.sought.routes.counts.now m
 
 -- the runs of all members
 abbrev all : At-loop-m → List (Option (Float × Float))
 all s =
     let a = s.args in
-    all_runs (members_lent a.sought.role a.sought.pitch a.routes)
+    all_runs (members_lent a.sought.role a.sought.pitch a.sought.routes)
 
 -- those of member m from run i on, and of the members behind it
 abbrev behind : At-loop-i → ℕ → List (Option (Float × Float))
 behind r i =
     let a = r.args in
-    R a.routes.points.now a.sought.role a.sought.pitch (get_or a.routes.starts.now r.loop-m.m 0 + i) (get_or a.routes.counts.now r.loop-m.m 0 - i) ++ from (goal.at.At-loop-i r).At-loop-m (r.loop-m.m + 1)
+    R a.sought.routes.points.now a.sought.role a.sought.pitch (get_or a.sought.routes.starts.now r.loop-m.m 0 + i) (get_or a.sought.routes.counts.now r.loop-m.m 0 - i) ++ from (goal.at.At-loop-i r).At-loop-m (r.loop-m.m + 1)
 
 -- the whole pass, at the members' loop
 whole : (s : At-loop-m)
@@ -49,11 +49,11 @@ whole s =
 
 next-member : (s : At-loop-m)
     → let a = s.args in
-    s.loop-m.m < length a.routes.starts.now
-    → from s s.loop-m.m ≡ R a.routes.points.now a.sought.role a.sought.pitch (get_or a.routes.starts.now s.loop-m.m 0) (get_or a.routes.counts.now s.loop-m.m 0) ++ from s (s.loop-m.m + 1)
+    s.loop-m.m < length a.sought.routes.starts.now
+    → from s s.loop-m.m ≡ R a.sought.routes.points.now a.sought.role a.sought.pitch (get_or a.sought.routes.starts.now s.loop-m.m 0) (get_or a.sought.routes.counts.now s.loop-m.m 0) ++ from s (s.loop-m.m + 1)
 next-member s h =
     let a = s.args in
-    ap all_runs (walk.members_next a.routes.points.now a.sought.role a.sought.pitch a.routes.starts.now a.routes.counts.now a.routes.windows.paired s.loop-m.m h) ∙ walk.runs_next _ _
+    ap all_runs (walk.members_next a.sought.routes.points.now a.sought.role a.sought.pitch a.sought.routes.starts.now a.sought.routes.counts.now a.sought.routes.windows.paired s.loop-m.m h) ∙ walk.runs_next _ _
 
 -- what is left of the pass at the members' loop, at the runs' loop
 part : (r : At-loop-i)
@@ -72,16 +72,16 @@ kept-part r = rw (next-member (goal.at.At-loop-i r).At-loop-m r.loop-m-test.true
 next-run : (c : In-loop-i)
     → let a = c.args in
     let r = (goal.at.In-loop-i c).At-loop-i in
-    behind r c.loop-i.i ≡ run a.routes.points.now a.sought.role a.sought.pitch (get_or a.routes.starts.now c.loop-m.m 0 + c.loop-i.i) ∷ behind r (c.loop-i.i + 1)
+    behind r c.loop-i.i ≡ run a.sought.routes.points.now a.sought.role a.sought.pitch (get_or a.sought.routes.starts.now c.loop-m.m 0 + c.loop-i.i) ∷ behind r (c.loop-i.i + 1)
 next-run c =
     let a = c.args in
     let i = c.loop-i.i in
-    let start = get_or a.routes.starts.now c.loop-m.m 0 in
-    let count = get_or a.routes.counts.now c.loop-m.m 0 in
+    let start = get_or a.sought.routes.starts.now c.loop-m.m 0 in
+    let count = get_or a.sought.routes.counts.now c.loop-m.m 0 in
     let e : start + (i + 1) ≡ start + i + 1 = omega arith in
     let f : count - (i + 1) ≡ count - i - 1 = omega arith in
     let h : 1 < count - i = omega arith in
-    rw (e, f) (ap (λ (l : List (Option (Float × Float))). l ++ from (goal.at.In-loop-i c).At-loop-m (c.loop-m.m + 1)) (walk.more a.routes.points.now a.sought.role a.sought.pitch (start + i) (count - i) h))
+    rw (e, f) (ap (λ (l : List (Option (Float × Float))). l ++ from (goal.at.In-loop-i c).At-loop-m (c.loop-m.m + 1)) (walk.more a.sought.routes.points.now a.sought.role a.sought.pitch (start + i) (count - i) h))
 
 room : (c : In-loop-i) → c.loop-i.n + 1 + length (behind (goal.at.In-loop-i c).At-loop-i (c.loop-i.i + 1)) ≤ length c.loop-i.xs
 room c = omega (arith, rw (next-run c) at c.loop-i.invariant.room)
@@ -97,7 +97,7 @@ stepped : (e : After-candidate_of-c) (o : Candidate) → e.candidate_of-c.result
     ≡ gathered_onto a.sought.role a.sought.bounds (onto (take e.loop-i.n e.loop-i.xs) o) (behind r (e.loop-i.i + 1)) (e.loop-i.left - 1)
 stepped e o g =
     let a = e.args in
-    let s = run a.routes.points.now a.sought.role a.sought.pitch (get_or a.routes.starts.now e.loop-m.m 0 + e.loop-i.i) in
+    let s = run a.sought.routes.points.now a.sought.role a.sought.pitch (get_or a.sought.routes.starts.now e.loop-m.m 0 + e.loop-i.i) in
     let v : 0 < e.loop-i.left = omega arith in
     let k : candidate a.sought.role a.sought.bounds s ≡ o = ap (candidate a.sought.role a.sought.bounds) (sym e.run_stretch-s.ensures) ∙ sym e.candidate_of-c.ensures ∙ g in
     rw (next-run (goal.at.After-candidate_of-c e).In-loop-i) (walk.gather_step a.sought.role a.sought.bounds (take e.loop-i.n e.loop-i.xs) s (behind (goal.at.After-candidate_of-c e).At-loop-i (e.loop-i.i + 1)) e.loop-i.left o v k)
@@ -108,7 +108,7 @@ kept_more : (e : After-candidate_of-c)
     points_from e.loop-i.kept 0 e.loop-i.k ++ map kept (behind r e.loop-i.i) ≡ points_from e.put_point.new.out 0 (e.loop-i.k + 1) ++ map kept (behind r (e.loop-i.i + 1))
 kept_more e =
     let a = e.args in
-    let s = run a.routes.points.now a.sought.role a.sought.pitch (get_or a.routes.starts.now e.loop-m.m 0 + e.loop-i.i) in
+    let s = run a.sought.routes.points.now a.sought.role a.sought.pitch (get_or a.sought.routes.starts.now e.loop-m.m 0 + e.loop-i.i) in
     let h : 2 * (e.loop-i.k + 1) ≤ length e.loop-i.kept = omega (arith, pair-room (goal.at.After-candidate_of-c e).In-loop-i) in
     rw (next-run (goal.at.After-candidate_of-c e).In-loop-i) (laws.kept_step e.loop-i.kept e.put_point.new.out e.loop-i.k e.kept_of.result s (behind (goal.at.After-candidate_of-c e).At-loop-i (e.loop-i.i + 1))
     h (e.kept_of.ensures ∙ ap kept e.run_stretch-s.ensures) e.put_point.ensures)
@@ -127,8 +127,8 @@ pub loop-i-init : goal.loop-i-init
 loop-i-init c =
     let a = c.args in
     let next = next-member (goal.at.loop-i-init c).At-loop-m c.loop-m-test.true in
-    let e : get_or a.routes.starts.now c.loop-m.m 0 + 0 ≡ get_or a.routes.starts.now c.loop-m.m 0 = omega arith in
-    let f : get_or a.routes.counts.now c.loop-m.m 0 - 0 ≡ get_or a.routes.counts.now c.loop-m.m 0 = omega arith in record {
+    let e : get_or a.sought.routes.starts.now c.loop-m.m 0 + 0 ≡ get_or a.sought.routes.starts.now c.loop-m.m 0 = omega arith in
+    let f : get_or a.sought.routes.counts.now c.loop-m.m 0 - 0 ≡ get_or a.sought.routes.counts.now c.loop-m.m 0 = omega arith in record {
       room = rw (e, f) (rw next at c.loop-m.invariant.room);
       passed = rw (e, f);
       pair_room = rw (e, f) (rw next at c.loop-m.invariant.pair_room);
@@ -139,9 +139,9 @@ pub loop-m-preserved : goal.loop-m-preserved
 loop-m-preserved c =
     let a = c.args in
     let r = (goal.at.loop-m-preserved c).At-loop-i in
-    let last : get_or a.routes.counts.now c.loop-m.m 0 - c.loop-i.i ≤ 1 = omega arith in
+    let last : get_or a.sought.routes.counts.now c.loop-m.m 0 - c.loop-i.i ≤ 1 = omega arith in
     let e : behind r c.loop-i.i ≡ from (goal.at.loop-m-preserved c).At-loop-m (c.loop-m.m + 1) =
-    ap (λ (l : List (Option (Float × Float))). l ++ from (goal.at.loop-m-preserved c).At-loop-m (c.loop-m.m + 1)) (walk.none a.routes.points.now a.sought.role a.sought.pitch _ _ last) in record {
+    ap (λ (l : List (Option (Float × Float))). l ++ from (goal.at.loop-m-preserved c).At-loop-m (c.loop-m.m + 1)) (walk.none a.sought.routes.points.now a.sought.role a.sought.pitch _ _ last) in record {
       room = rw e at c.loop-i.invariant.room;
       passed = c.loop-m.invariant.passed ∙ part r ∙ rw e;
       pair_room = rw e at c.loop-i.invariant.pair_room;
@@ -184,10 +184,10 @@ loop-i-preserved c =
       }
     ]
 
-end : (s : At-loop-m) → length s.args.routes.starts.now ≤ s.loop-m.m → from s s.loop-m.m ≡ []
+end : (s : At-loop-m) → length s.args.sought.routes.starts.now ≤ s.loop-m.m → from s s.loop-m.m ≡ []
 end s h =
     let a = s.args in
-    ap all_runs (walk.members_end a.routes.points.now a.sought.role a.sought.pitch a.routes.starts.now a.routes.counts.now a.routes.windows.paired s.loop-m.m h) ∙ walk.runs_end
+    ap all_runs (walk.members_end a.sought.routes.points.now a.sought.role a.sought.pitch a.sought.routes.starts.now a.sought.routes.counts.now a.sought.routes.windows.paired s.loop-m.m h) ∙ walk.runs_end
 
 pub returns-clause-found : goal.returns-clause-found
 returns-clause-found c =

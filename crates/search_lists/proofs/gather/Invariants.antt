@@ -17,9 +17,9 @@ from_member points role pitch starts counts m = all_runs (members role pitch (ro
 
 abbrev pub invariant-loop-i : goal.invariant-loop-i
 invariant-loop-i l =
-    let tail = from_member l.routes.points.now l.sought.role l.sought.pitch l.routes.starts.now l.routes.counts.now (l.m + 1) in
-    let all = R l.routes.points.now l.sought.role l.sought.pitch l.start l.count ++ tail in
-    let rest = R l.routes.points.now l.sought.role l.sought.pitch (l.start + l.i) (l.count - l.i) ++ tail in record {
+    let tail = from_member l.sought.routes.points.now l.sought.role l.sought.pitch l.sought.routes.starts.now l.sought.routes.counts.now (l.m + 1) in
+    let all = R l.sought.routes.points.now l.sought.role l.sought.pitch l.start l.count ++ tail in
+    let rest = R l.sought.routes.points.now l.sought.role l.sought.pitch (l.start + l.i) (l.count - l.i) ++ tail in record {
       room : l.n + length rest ≤ length l.xs;
       passed : gathered_onto l.sought.role l.sought.bounds (take l.initial.n l.initial.xs) all l.initial.left ≡ gathered_onto l.sought.role l.sought.bounds (take l.n l.xs) rest l.left;
       pair_room : 2 * (l.k + length rest) ≤ length l.kept;
@@ -28,8 +28,8 @@ invariant-loop-i l =
 
 abbrev pub invariant-loop-m : goal.invariant-loop-m
 invariant-loop-m l =
-    let all = all_runs (members l.sought.role l.sought.pitch (routes l.routes.points.now l.routes.starts.now l.routes.counts.now)) in
-    let rest = from_member l.routes.points.now l.sought.role l.sought.pitch l.routes.starts.now l.routes.counts.now l.m in record {
+    let all = all_runs (members l.sought.role l.sought.pitch (routes l.sought.routes.points.now l.sought.routes.starts.now l.sought.routes.counts.now)) in
+    let rest = from_member l.sought.routes.points.now l.sought.role l.sought.pitch l.sought.routes.starts.now l.sought.routes.counts.now l.m in record {
       room : l.n + length rest ≤ length l.xs;
       passed : gathered_onto l.sought.role l.sought.bounds (take l.initial.n l.initial.xs) all l.initial.left ≡ gathered_onto l.sought.role l.sought.bounds (take l.n l.xs) rest l.left;
       pair_room : 2 * (l.k + length rest) ≤ length l.kept;

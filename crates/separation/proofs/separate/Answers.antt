@@ -43,7 +43,7 @@ loop-i-preserved c =
           ∙ laws.separated_turn b given _ _ (ranged_from (range_at a.t l.i)) _ _ (get_or l.rows l.i no_planned).x y.result (lanes_in l.lanes) (lanes_in d.result) l.left.0 f.result l.i l.rows
           (ap (map ranged_from) (rows.part_cons a.t.rows a.n l.i no_range h q)) (ap (map x_of) (rows.part_cons l.rows a.n l.i no_planned h r)) g
           (f.ensures b given (t.pitch_is l.i h) (t.routed l.i h) ∙ ap (λ (ys : List Float). beside search_of b given (ranged_from (range_at a.t l.i)) (get_or l.rows l.i no_planned).x ys l.left.0) u)
-          (laws.if_clear_same y.result a.layout.pitch _ c.found_x-found.result _ _ _ y.ensures (t.pitch_is l.i h) c.found_x-found.ensures u) d.ensures.told
+          (laws.if_clear_same y.result a.setting.pitch _ c.found_x-found.result _ _ _ y.ensures (t.pitch_is l.i h) c.found_x-found.ensures u) d.ensures.told
           ∙ l.invariant.plan_is b given t;
     }
 

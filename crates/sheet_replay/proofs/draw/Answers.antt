@@ -1,17 +1,15 @@
 -- `sheet_replay::draw` is safe and ends. Assumes nothing.
-use mathlib.Core.Path.{◌≡◌, refl, sym, ◌∙◌, ap}
-use Prim.Native.Nat.{ℕ, ◌+◌, ◌*◌, ◌≤◌, ◌<◌}
+use mathlib.Core.Path.{refl}
+use Prim.Native.Nat.{◌*◌, ◌≤◌}
 use native.Mathlib.Omega.{arith}
-use lib.ListN.{length, take}
 use lib.Seq.{length-take-le}
 use Rattle.limits.specs.Limits.{slot_numbers, all_slot_numbers}
 use Rattle.draw_job.proofs.Phases as laws
-use borrow.Author.Rules.{rules}
 use Rattle.sheet_replay.proofs.draw.Goals as goal
 
 pub draw_in-requires : goal.draw_in-requires
 draw_in-requires c =
-    let fits = c.requires.0.fits in
+    let fits = c.requires.fits in
     let h = fits.edges in
     let slots : slot_numbers * c.args.j.edges.count ≤ all_slot_numbers = omega (arith, h) in record {
       came = c.requires;
@@ -19,6 +17,7 @@ draw_in-requires c =
         edges_long = length-take-le _ _ fits.members;
         lanes_long = length-take-le _ _ fits.members;
         counts_long = length-take-le _ _ fits.edges;
-        room = laws.room_for _ _ _ _ _ fits.members fits.edges refl slots (length-take-le _ _ fits.edges);
+        room = laws.room_for _ _ _ _ _ _ fits.members fits.edges refl slots (length-take-le _ _ fits.edges) (omega arith);
+        spare = omega arith;
       };
     }

@@ -1,7 +1,5 @@
 -- `sheet_replay::put_pages` is safe and ends. Assumes nothing.
-use mathlib.Core.Path.{◌≡◌, sym, ◌∙◌}
 use native.Mathlib.Omega.{arith}
-use lib.ListN.{length}
 use Rattle.job_tables.specs.Came.{Sizes}
 use Rattle.plan.proofs.TableReads as rows
 use Rattle.normalize.proofs.Shift.{windows_kept}
@@ -22,21 +20,20 @@ sizes s = record {
 pub put_page-next-requires : goal.put_page-next-requires
 put_page-next-requires c =
     let a = c.args in
-    let on = c.requires.on_sheet in
-    let w = answers.windows a.j a.edges.now a.drawn a.points.now a.counts.now a.taps.now c.requires.on_sheet (sizes (goal.at.put_page-next-requires c).Start) in
-    record { count_le_max_nodes = (on.fits.nodes, on.fits.edges, omega (arith, on.all_drawn, on.fits.bundles), on.fits.members); count_in_bounds = (omega (arith, on.counted), omega (arith, on.counted, on.slots), on.hold); windows = (w, on.places); members_on = (on.members_on, c.requires.any_answer_room_in_bounds) }
+    let on = c.requires in
+    let w = answers.windows a.j a.edges.now a.drawn a.points.now a.counts.now a.taps.now c.requires (sizes (goal.at.put_page-next-requires c).Start) in
+    record { count_le_max_nodes = (on.fits.nodes, on.fits.edges, omega (arith, on.all_drawn, on.fits.bundles), on.fits.members); count_in_bounds = (omega (arith, on.counted), omega (arith, on.counted, on.slots), on.hold); windows = (w, on.places); members_on = on.members_on }
 
 pub normalize_layout-l-requires : goal.normalize_layout-l-requires
 normalize_layout-l-requires c =
     let a = c.args in
-    let on = c.requires.on_sheet in
-    record { tables = (on.fits.nodes, omega (arith, on.all_drawn, on.fits.bundles)); slots = (on.slots, on.hold); taps = (on.places, answers.windows a.j a.edges.now a.drawn a.points.now a.counts.now a.taps.now c.requires.on_sheet (sizes (goal.at.normalize_layout-l-requires c).Start)) }
+    let on = c.requires in
+    record { tables = (on.fits.nodes, omega (arith, on.all_drawn, on.fits.bundles)); slots = (on.slots, on.hold); taps = (on.places, answers.windows a.j a.edges.now a.drawn a.points.now a.counts.now a.taps.now c.requires (sizes (goal.at.normalize_layout-l-requires c).Start)) }
 
 pub put_page-requires : goal.put_page-requires
 put_page-requires c =
     let a = c.args in
-    let on = c.requires.on_sheet in
+    let on = c.requires in
     let n = c.normalize_layout-l in
-    let p = c.put_page-next in
-    let w = windows_kept a.j.members.count a.drawn n.result.drawn n.ensures.rows n.ensures.drawn (answers.windows a.j a.edges.now a.drawn a.points.now a.counts.now a.taps.now c.requires.on_sheet (sizes (goal.at.put_page-requires c).Start)) in
-    record { count_le_max_nodes = (omega (arith, on.fits.nodes, n.ensures.nodes), on.fits.edges, omega (arith, on.all_drawn, on.fits.bundles, n.ensures.drawn), on.fits.members); count_in_bounds = (omega (arith, on.counted), omega (arith, on.counted, on.slots, n.auto.points), on.hold); windows = (w, omega (arith, on.places, n.auto.taps)); members_on = (on.members_on, omega (arith, c.requires.any_answer_room_in_bounds, p.auto.page)) }
+    let w = windows_kept a.j.members.count a.drawn n.result.drawn n.ensures.rows n.ensures.drawn (answers.windows a.j a.edges.now a.drawn a.points.now a.counts.now a.taps.now c.requires (sizes (goal.at.put_page-requires c).Start)) in
+    record { count_le_max_nodes = (omega (arith, on.fits.nodes, n.ensures.nodes), on.fits.edges, omega (arith, on.all_drawn, on.fits.bundles, n.ensures.drawn), on.fits.members); count_in_bounds = (omega (arith, on.counted), omega (arith, on.counted, on.slots, n.auto.points), on.hold); windows = (w, omega (arith, on.places, n.auto.taps)); members_on = on.members_on }

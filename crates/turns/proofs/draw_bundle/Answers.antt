@@ -1,25 +1,23 @@
-use Rattle.std.proofs.Common.{arith, rules, length, take, ◌∙◌, ◌≡◌}
+use Rattle.std.proofs.Common.{arith, length, take, ◌∙◌}
 use Rattle.std.proofs.lemmas.Result.{err_from_is_err_and}
 use Rattle.route.specs.Slots.{routes_of}
 use Rattle.turns.proofs.Turning.{earlier_tabled, known_row, turn_off, turn_on, ends_refused, longer_made, longer_refused}
 use Rattle.turns.proofs.draw_bundle.Goals as goal
-use Rattle.turns.proofs.draw_bundle.Goals.{Start}
-use Rattle.limits.specs.Limits.{max_edges}
-use Rattle.plan.proofs.TableReads.{length_mapped}
 
-mask_long : (s : Start) → length s.args.work.now.mask ≡ max_edges
-mask_long s = search (rules, length_mapped)
-
-pub returns-then-not-rewrite_member_routes-clause-told : goal.returns-then-not-rewrite_member_routes-clause-told
-returns-then-not-rewrite_member_routes-clause-told c b s =
+pub returns-in_err-rewrite_member_routes-clause-told : goal.returns-in_err-rewrite_member_routes-clause-told
+returns-in_err-rewrite_member_routes-clause-told c b s =
     let a = c.args in
-    let f = c.rewrite_member_routes in
+    let f = c.in_err-rewrite_member_routes.ensures in
     let g = c.build_geometry-d in
-    let e = rw c.pitch_of_bundle.ensures at f.ensures.told in
-    turn_off b a.rules.permits_crossings a.rules.options a.board.boxes.now a.board.ends.now a.t.bundle a.t.end a.t.planned a.t.offset a.table.edges.now a.table.lanes.now g.result _ (routes_of a.points.now a.counts.now) s g.ensures.row (g.ensures.drawn b s.seen) _ _ _ _ a.visits.now f.result c.if-not-rewrite_member_routes.true e
+    let e = rw c.pitch_of_bundle.ensures at f.told in
+    let p = err_from_is_err_and c.from_residual.result c.from_residual.ensures.1 in
+    rw (p.1, p.2, f.refusal)
+    (turn_off b a.rules.permits_crossings a.rules.options a.board.boxes.now a.board.ends.now a.t.bundle a.t.end a.t.planned a.t.offset a.table.edges.now a.table.lanes.now g.result _ (routes_of a.points.now a.counts.now) s g.ensures.row (g.ensures.drawn b s.seen) _ _ _ _ a.visits.now e)
 
-pub returns-then-not-rewrite_member_routes-clause-longer : goal.returns-then-not-rewrite_member_routes-clause-longer
-returns-then-not-rewrite_member_routes-clause-longer c = longer_refused 10 c.args.visits.now _ _ _
+pub returns-in_err-rewrite_member_routes-clause-longer : goal.returns-in_err-rewrite_member_routes-clause-longer
+returns-in_err-rewrite_member_routes-clause-longer c =
+    let p = err_from_is_err_and c.from_residual.result c.from_residual.ensures.1 in
+    rw (p.1, p.2) (longer_refused _ _ _ _ _)
 
 pub verify_bundle-requires : goal.verify_bundle-requires
 verify_bundle-requires c =
@@ -38,36 +36,36 @@ verify_bundle-requires c =
       r.few,
       earlier_tabled c.args.table.edges.now _ c.args.t.bundle.first (take c.args.priors.count c.args.priors.rows) (omega (arith, m)) (omega (arith, k, w)) r.earlier,
       record { members = omega (arith, m, i, j); places = omega (arith, k, w, i, j) },
-      omega (arith, kc, h, mask_long (goal.at.verify_bundle-requires c).Start),
-      (λ n o. known_row c.args.table.edges.now c.args.t.bundle.first c.args.t.bundle.count _ _ (length c.args.counts.now) _ i j (omega (arith, h, mask_long (goal.at.verify_bundle-requires c).Start)) (λ x y. r.roomy.known x (omega arith) y) n o),
+      omega (arith, kc, h),
+      (λ n o. known_row c.args.table.edges.now c.args.t.bundle.first c.args.t.bundle.count _ _ (length c.args.counts.now) _ i j h (λ x y. r.roomy.known x (omega arith) y) n o),
     )
 
 pub returns-in_err-verify_bundle-clause-told : goal.returns-in_err-verify_bundle-clause-told
 returns-in_err-verify_bundle-clause-told c b s =
     let a = c.args in
-    let f = c.rewrite_member_routes in
+    let f = c.in_ok-rewrite_member_routes.ensures in
     let g = c.build_geometry-d in
-    let e = rw c.pitch_of_bundle.ensures at f.ensures.told in
-    let p = err_from_is_err_and c.from_residual.result c.from_residual.ensures.1 in
+    let e = rw c.pitch_of_bundle.ensures at f.told in
+    let p = err_from_is_err_and c.from_residual-in_err-verify_bundle.result c.from_residual-in_err-verify_bundle.ensures.1 in
     rw (p.1, p.2)
     (ends_refused _ _ _ _ _ _
-    ∙ turn_on b a.rules.permits_crossings a.rules.options a.board.boxes.now a.board.ends.now a.t.bundle a.t.end a.t.planned a.t.offset a.table.edges.now a.table.lanes.now g.result _ (routes_of a.points.now a.counts.now) s g.ensures.row (g.ensures.drawn b s.seen) a.taps.now (take a.priors.count a.priors.rows) a.visits.now.0 _ _ g.ensures.kept c.requires.1.earlier _ f.result c.if-not-rewrite_member_routes.false e c.in_err-verify_bundle.ensures)
+    ∙ turn_on b a.rules.permits_crossings a.rules.options a.board.boxes.now a.board.ends.now a.t.bundle a.t.end a.t.planned a.t.offset a.table.edges.now a.table.lanes.now g.result _ (routes_of a.points.now a.counts.now) s g.ensures.row (g.ensures.drawn b s.seen) a.taps.now (take a.priors.count a.priors.rows) a.visits.now.0 _ _ g.ensures.kept c.requires.1.earlier _ e c.in_err-verify_bundle.ensures)
 
 pub returns-in_err-verify_bundle-clause-longer : goal.returns-in_err-verify_bundle-clause-longer
 returns-in_err-verify_bundle-clause-longer c =
-    let p = err_from_is_err_and c.from_residual.result c.from_residual.ensures.1 in
+    let p = err_from_is_err_and c.from_residual-in_err-verify_bundle.result c.from_residual-in_err-verify_bundle.ensures.1 in
     rw (p.1, p.2) (longer_refused _ _ _ _ _)
 
 pub returns-clause-told : goal.returns-clause-told
 returns-clause-told c b s =
     let a = c.args in
-    let f = c.rewrite_member_routes in
+    let f = c.in_ok-rewrite_member_routes.ensures in
     let g = c.build_geometry-d in
-    let e = rw c.pitch_of_bundle.ensures at f.ensures.told in
-    turn_on b a.rules.permits_crossings a.rules.options a.board.boxes.now a.board.ends.now a.t.bundle a.t.end a.t.planned a.t.offset a.table.edges.now a.table.lanes.now g.result _ (routes_of a.points.now a.counts.now) s g.ensures.row (g.ensures.drawn b s.seen) a.taps.now (take a.priors.count a.priors.rows) a.visits.now.0 _ _ g.ensures.kept c.requires.1.earlier _ f.result c.if-not-rewrite_member_routes.false e c.in_ok-verify_bundle.ensures
+    let e = rw c.pitch_of_bundle.ensures at f.told in
+    turn_on b a.rules.permits_crossings a.rules.options a.board.boxes.now a.board.ends.now a.t.bundle a.t.end a.t.planned a.t.offset a.table.edges.now a.table.lanes.now g.result _ (routes_of a.points.now a.counts.now) s g.ensures.row (g.ensures.drawn b s.seen) a.taps.now (take a.priors.count a.priors.rows) a.visits.now.0 _ _ g.ensures.kept c.requires.1.earlier _ e c.in_ok-verify_bundle.ensures
 
 pub returns-clause-longer : goal.returns-clause-longer
 returns-clause-longer c =
-    let f = c.rewrite_member_routes in
-    let e = rw c.pitch_of_bundle.ensures at f.ensures.told in
-    longer_made _ _ _ _ _ _ _ _ _ _ _ f.result c.if-not-rewrite_member_routes.false e
+    let f = c.in_ok-rewrite_member_routes.ensures in
+    let e = rw c.pitch_of_bundle.ensures at f.told in
+    longer_made _ _ _ _ _ _ _ _ _ _ _ e

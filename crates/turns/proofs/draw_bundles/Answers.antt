@@ -1,12 +1,12 @@
-use Rattle.std.proofs.Common.{arith, rules, refl, sym, ap, ◌∙◌, subst, ◌≡◌, ℕ, ◌<◌, ◌+◌, List, [], ◌∷◌, get_or, take, drop, set, map, length-set}
+use Rattle.std.proofs.Common.{arith, rules, refl, sym, ap, ◌∙◌, subst, ◌≡◌, ℕ, ◌<◌, ◌+◌, List, [], ◌∷◌, get_or, length, take, drop, set, map, length-set}
 use Rattle.std.specs.Float.{nan}
 use Rattle.route.specs.Slots.{routes_of}
 use Rattle.board.specs.declared.Bundle.{Bundle}
 use Rattle.board.specs.declared.DrawnBundle.{DrawnBundle}
-use Rattle.board.specs.declared.DrawnBundles.{DrawnBundles}
+use Rattle.board.specs.Tables.{DrawnBundles}
 use Rattle.plan.specs.BoardTables.{no_bundle}
 use Rattle.plan.specs.Prepared.{no_planned}
-use Rattle.plan.proofs.TableReads.{length_mapped, part_cons}
+use Rattle.plan.proofs.TableReads.{length_mapped, rest_cons}
 use Rattle.drawing.specs.Sheet.{Turn, sheet_of}
 use Rattle.checks.specs.CheckRows.{drawn_of}
 use Rattle.checks.specs.MemberSlices.{Row}
@@ -16,25 +16,25 @@ use Rattle.turns.proofs.draw_bundles.Goals as goal
 use Rattle.turns.proofs.draw_bundles.Goals.{Start}
 
 -- the bundle of turn i, and the turns from it on
-module _ (s : Start) (i : ℕ) (h : i < s.args.turns.bundles.now.count) where
+module _ (s : Start) (i : ℕ) (h : i < length s.args.turns.bundles.now) where
   abbrev this : Bundle
-  this = get_or s.args.turns.bundles.now.rows i no_bundle
+  this = get_or s.args.turns.bundles.now i no_bundle
 
   abbrev later : List Bundle
-  later = drop (i + 1) (take s.args.turns.bundles.now.count s.args.turns.bundles.now.rows)
+  later = drop (i + 1) s.args.turns.bundles.now
 
-  split : (ds : List DrawnBundle) (edges lanes counts : List ℕ) → Rest (drop i (take s.args.turns.bundles.now.count s.args.turns.bundles.now.rows)) ds edges lanes counts → Rest (this ∷ later) ds edges lanes counts
-  split ds edges lanes counts r = subst (λ (us : List Bundle). Rest us ds edges lanes counts) (part_cons s.args.turns.bundles.now.rows s.args.turns.bundles.now.count i no_bundle h s.args.turns.bundles_fit) r
+  split : (ds : List DrawnBundle) (edges lanes counts : List ℕ) → Rest (drop i s.args.turns.bundles.now) ds edges lanes counts → Rest (this ∷ later) ds edges lanes counts
+  split ds edges lanes counts r = subst (λ (us : List Bundle). Rest us ds edges lanes counts) (rest_cons s.args.turns.bundles.now i no_bundle h) r
 
   abbrev turn_here : Turn
   turn_here = turn_of this (get_or s.args.turns.plan.now i no_planned).x (get_or s.args.turns.offsets.now i nan)
 
   abbrev turns_later : List Turn
-  turns_later = turns_at s.args.turns.bundles.now.rows s.args.turns.plan.now s.args.turns.offsets.now s.args.turns.bundles.now.count (i + 1)
+  turns_later = turns_at s.args.turns.bundles.now s.args.turns.plan.now s.args.turns.offsets.now (i + 1)
 
-  turns_are : turns_at s.args.turns.bundles.now.rows s.args.turns.plan.now s.args.turns.offsets.now s.args.turns.bundles.now.count i ≡ turn_here ∷ turns_later
+  turns_are : turns_at s.args.turns.bundles.now s.args.turns.plan.now s.args.turns.offsets.now i ≡ turn_here ∷ turns_later
   turns_are =
-      turns_next s.args.turns.bundles.now.rows s.args.turns.plan.now s.args.turns.offsets.now s.args.turns.bundles.now.count i no_bundle no_planned nan h s.args.turns.bundles_fit s.args.turns.plan_long s.args.turns.offsets_long
+      turns_next s.args.turns.bundles.now s.args.turns.plan.now s.args.turns.offsets.now i no_bundle no_planned nan h s.args.turns.plan_long s.args.turns.offsets_long
 
 pub loop-i-init : goal.loop-i-init
 loop-i-init c =
@@ -44,9 +44,10 @@ loop-i-init c =
     let e : take d.count d.rows ≡ [] = ap (λ (n : ℕ). take n d.rows) z in
     record {
       drawn_to = z;
-      rest = subst (λ (ds : List DrawnBundle). Rest (take a.turns.bundles.now.count a.turns.bundles.now.rows) ds a.table.edges.now a.table.lanes.now a.counts.now) (sym e) (rest_start (take a.turns.bundles.now.count a.turns.bundles.now.rows) a.table.edges.now a.table.lanes.now a.counts.now _ c.requires.lists c.requires.room.1);
-      rows = rows_none a.turns.bundles.now.rows d.rows d.count z;
-      told = λ b s. ap (λ (ds : List DrawnBundle). sheet_of b a.rules.permits_crossings (turns_at a.turns.bundles.now.rows a.turns.plan.now a.turns.offsets.now a.turns.bundles.now.count 0) (standing (routes_of a.points.now a.counts.now) (map (drawn_of a.table.edges.now a.taps.now) ds) a.visits.now.0)) e;
+      rest = subst (λ (ds : List DrawnBundle). Rest a.turns.bundles.now ds a.table.edges.now a.table.lanes.now a.counts.now) (sym e) (rest_start a.turns.bundles.now a.table.edges.now a.table.lanes.now a.counts.now _ c.requires.lists c.requires.room.1);
+      rows = rows_none a.turns.bundles.now d.rows d.count z;
+      told = λ b s. ap (λ (ds : List DrawnBundle). sheet_of b a.rules.permits_crossings (turns_at a.turns.bundles.now a.turns.plan.now a.turns.offsets.now 0) (standing (routes_of a.points.now a.counts.now) (map (drawn_of a.table.edges.now a.taps.now) ds) a.visits.now.0)) e;
+      masked = c.requires.room.0.masked;
       long = search (rules, length_mapped);
     }
 
@@ -61,13 +62,13 @@ draw_bundle-requires c =
     let m = c.requires.room.0 in
     let places = m.places in
     let slots = m.slots in
-    let masked = m.masked in
+    let masked = l.invariant.masked in
     let count = l.invariant.drawn_to in
     let lt = l.auto.taps in
     let lp = l.auto.points in
     let lc = l.auto.counts in (
       omega (arith, most, lc),
-      rest_ready (this s l.i h) (later s l.i h) (take l.drawn.count l.drawn.rows) a.table.edges.now a.table.lanes.now l.counts (split s l.i h (take l.drawn.count l.drawn.rows) a.table.edges.now a.table.lanes.now l.counts l.invariant.rest) l.drawn _ _ (take a.turns.bundles.now.count a.turns.bundles.now.rows) _ refl (omega (arith, count, few, h)) lc c.requires.lists (omega (arith, lt, places)) (omega (arith, lp, lc, slots)) (omega (arith, lc, masked)),
+      rest_ready (this s l.i h) (later s l.i h) (take l.drawn.count l.drawn.rows) a.table.edges.now a.table.lanes.now l.counts (split s l.i h (take l.drawn.count l.drawn.rows) a.table.edges.now a.table.lanes.now l.counts l.invariant.rest) l.drawn _ _ _ a.turns.bundles.now _ refl (omega (arith, count, few, h)) lc c.requires.lists (omega (arith, lt, places)) (omega (arith, lp, lc, slots)) (omega (arith, lc, masked)),
     )
 
 pub returns-in-Err-clause-told : goal.returns-in-Err-clause-told
@@ -88,7 +89,7 @@ pub returns-in-Err-clause-full : goal.returns-in-Err-clause-full
 returns-in-Err-clause-full c =
     let count = c.loop-i.invariant.drawn_to in
     let h = c.loop-i-test.true in
-    full_off _ _ c.loop-i.drawn.count c.args.turns.bundles.now.count (omega (arith, count, h))
+    full_off _ _ c.loop-i.drawn.count (length c.args.turns.bundles.now) (omega (arith, count, h))
 
 pub loop-i-preserved : goal.loop-i-preserved
 loop-i-preserved c =
@@ -104,18 +105,18 @@ loop-i-preserved c =
     let count = l.invariant.drawn_to in
     let rows = l.invariant.long in
     let few = a.turns.bundles_few in
-    let long = a.turns.bundles_fit in
     let w : DrawnBundles = record { rows = set l.drawn.rows l.i d; count = l.i + 1 } in
     let more = drawn_next l.drawn l.i d count (omega (arith, h, few, rows)) in
     record {
       drawn_to = refl;
       rest = rest_next (this at l.i h) (later at l.i h) ds a.table.edges.now a.table.lanes.now l.counts r d _ _ more c.in-Ok.ensures.row c.in-Ok.ensures.hold (longer_clean _ l.counts _ _ c.in-Ok.ensures.longer);
-      rows = rows_next l.drawn w d more a.turns.bundles.now.rows no_bundle (omega (arith, count, h, few, long)) (ap (λ (k : ℕ). k + 1) (sym count)) (subst (λ (i : ℕ). Row (get_or a.turns.bundles.now.rows i no_bundle) d) (sym count) c.in-Ok.ensures.row) l.invariant.rows;
+      rows = rows_next l.drawn w d more a.turns.bundles.now no_bundle (omega (arith, count, h, few)) (ap (λ (k : ℕ). k + 1) (sym count)) (subst (λ (i : ℕ). Row (get_or a.turns.bundles.now i no_bundle) d) (sym count) c.in-Ok.ensures.row) l.invariant.rows;
       told = λ b s.
           sheet_on b a.rules.permits_crossings (turn_here at l.i h) (turns_later at l.i h) now f.new.visits _ _ _ (drawn_more l.drawn w d more a.table.edges.now _)
           (c.in-Ok.ensures.told b (faces (this at l.i h) (later at l.i h) ds a.table.edges.now a.table.lanes.now l.counts r b a.rules.options a.board.boxes.now a.board.ends.now a.turns.spots.now a.turns.bundles.now c.point_at.result s (s.stand l.i h ∙ sym c.point_at.ensures)))
           ∙ ap (λ (ts : List Turn). sheet_of b a.rules.permits_crossings ts now) (sym (turns_are at l.i h))
           ∙ l.invariant.told b s;
+      masked = omega (arith, l.invariant.masked, c.in-Ok.ensures.mask);
       long = length-set l.drawn.rows l.i d ∙ rows;
     }
 
@@ -124,11 +125,10 @@ returns-clause-told c b s =
     let a = c.args in
     let l = c.loop-i in
     let h = c.loop-i-test.false in
-    let long = a.turns.bundles_fit in
-    sheet_end b a.rules.permits_crossings l.visits _ _ (turns_at a.turns.bundles.now.rows a.turns.plan.now a.turns.offsets.now a.turns.bundles.now.count l.i) (turns_end a.turns.bundles.now.rows a.turns.plan.now a.turns.offsets.now a.turns.bundles.now.count l.i (omega (arith, h)) long)
+    sheet_end b a.rules.permits_crossings l.visits _ _ (turns_at a.turns.bundles.now a.turns.plan.now a.turns.offsets.now l.i) (turns_end a.turns.bundles.now a.turns.plan.now a.turns.offsets.now l.i (omega (arith, h)))
     ∙ l.invariant.told b s
 
 pub returns-clause-full : goal.returns-clause-full
 returns-clause-full c =
     let count = c.loop-i.invariant.drawn_to in
-    full_on c.loop-i.visits c.loop-i.drawn.count c.args.turns.bundles.now.count (omega (arith, count))
+    full_on c.loop-i.visits c.loop-i.drawn.count (length c.args.turns.bundles.now) (omega (arith, count))

@@ -1,4 +1,4 @@
-use Rattle.std.proofs.Common.{◌≡◌, [], drop, length, map, take}
+use Rattle.std.proofs.Common.{◌≡◌, ◌≤◌, [], drop, length, map, take}
 use Rattle.limits.specs.Limits.{max_bundles}
 use Rattle.route.specs.Slots.{routes_of}
 use Rattle.board.specs.Board.{Board}
@@ -11,10 +11,11 @@ use Rattle.turns.proofs.draw_bundles.Given as goal
 abbrev pub invariant-loop-i : goal.invariant-loop-i
 invariant-loop-i l = record {
   drawn_to : l.drawn.count ≡ l.i;
-  rest : Rest (drop l.i (take l.turns.bundles.now.count l.turns.bundles.now.rows)) (take l.drawn.count l.drawn.rows) l.table.edges.now l.table.lanes.now l.counts;
-  rows : Rows (take l.drawn.count l.turns.bundles.now.rows) (take l.drawn.count l.drawn.rows);
+  rest : Rest (drop l.i l.turns.bundles.now) (take l.drawn.count l.drawn.rows) l.table.edges.now l.table.lanes.now l.counts;
+  rows : Rows (take l.drawn.count l.turns.bundles.now) (take l.drawn.count l.drawn.rows);
   told : (b : Board) → Shows b l.rules.options l.board.boxes.now l.board.ends.now l.turns.spots.now l.turns.bundles.now (members_all l.table.edges.now l.table.lanes.now)
-      → sheet_of b l.rules.permits_crossings (turns_at l.turns.bundles.now.rows l.turns.plan.now l.turns.offsets.now l.turns.bundles.now.count l.i) (standing (routes_of l.points l.counts) (map (drawn_of l.table.edges.now l.taps) (take l.drawn.count l.drawn.rows)) l.visits.0)
-      ≡ sheet_of b l.rules.permits_crossings (turns_at l.turns.bundles.now.rows l.turns.plan.now l.turns.offsets.now l.turns.bundles.now.count 0) (standing (routes_of l.initial.points l.initial.counts) [] l.initial.visits.0);
+      → sheet_of b l.rules.permits_crossings (turns_at l.turns.bundles.now l.turns.plan.now l.turns.offsets.now l.i) (standing (routes_of l.points l.counts) (map (drawn_of l.table.edges.now l.taps) (take l.drawn.count l.drawn.rows)) l.visits.0)
+      ≡ sheet_of b l.rules.permits_crossings (turns_at l.turns.bundles.now l.turns.plan.now l.turns.offsets.now 0) (standing (routes_of l.initial.points l.initial.counts) [] l.initial.visits.0);
+  masked : length l.initial.counts ≤ length l.work.mask.now;
   long : length l.drawn.rows ≡ max_bundles;
 }

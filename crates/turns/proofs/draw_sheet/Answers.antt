@@ -1,4 +1,4 @@
-use Rattle.std.proofs.Common.{arith, ap, refl, ◌∙◌, List, map, take}
+use Rattle.std.proofs.Common.{arith, ap, refl, ◌∙◌, List, length, map, take}
 use Rattle.geometry.specs.Points.{Route}
 use Rattle.plan.specs.Lent.{board_lent}
 use Rattle.plan.specs.Prepared.{x_of}
@@ -19,7 +19,7 @@ draw_bundles-requires-clause-lists c =
     let ke = m.auto.edges in
     let kl = m.auto.lanes in
     let kc = c.store_edges.auto.counts in
-    lists _ _ a.board.members.now.rows a.board.members.now.count s.members_fit (omega (arith, ke, e)) m.ensures (take a.board.bundles.now.count a.board.bundles.now.rows) _ (omega (arith, kl, l)) (λ i h. let z = g.members_on i h in omega (arith, z, kc, k)) s.lanes_few o.0 o.1
+    lists _ _ a.board.members.now (omega (arith, ke, e)) m.ensures a.board.bundles.now _ (omega (arith, kl, l)) (λ i h. let z = g.members_on i h in omega (arith, z, kc, k)) s.lanes_few o.0 o.1
 
 pub returns-clause-told : goal.returns-clause-told
 returns-clause-told c =
@@ -34,14 +34,13 @@ returns-clause-told c =
     let ke = m.auto.edges in
     let kn = n.auto.boxes in
     let kr = r.auto.ends in
-    let h = s.nodes_fit in
     let b = board_lent a.board in
     f.ensures.told b (
     record {
       options = refl;
-      sliced = sliced a.board.options a.board.nodes.now a.board.ports.now a.board.edges.now a.board.bundles.now a.board.members.now s n.new.boxes p.new.spots r.new.ends h n.ensures (omega (arith, kn, s.nodes_few)) c.requires.tables.edges_fit (omega (arith, kr, c.requires.tables.edges_few)) r.ensures.ends;
-      stand = stands a.board.options a.board.nodes.now a.board.ports.now a.board.edges.now a.board.bundles.now a.board.members.now s n.new.boxes p.new.spots r.new.ends h n.ensures p.ensures;
-      members = members_are _ _ a.board.members.now.rows a.board.members.now.count s.members_fit (omega (arith, ke, e)) m.ensures;
+      sliced = sliced a.board.options a.board.nodes.now a.board.ports.now a.board.edges.now a.board.bundles.now a.board.members.now s n.new.boxes p.new.spots r.new.ends n.ensures (omega (arith, kn, s.nodes_few)) (omega (arith, kr, c.requires.tables.edges_few)) r.ensures.ends;
+      stand = stands a.board.options a.board.nodes.now a.board.ports.now a.board.edges.now a.board.bundles.now a.board.members.now s n.new.boxes p.new.spots r.new.ends n.ensures p.ensures;
+      members = members_are _ _ a.board.members.now (omega (arith, ke, e)) m.ensures;
     }
     )
-    ∙ ap (λ (rs : List Route). sheet_of b a.permits_crossings (turns_from (take a.board.bundles.now.count a.board.bundles.now.rows) (map x_of (take a.board.bundles.now.count a.plan)) (take a.board.bundles.now.count a.offsets.rows)) (blank rs a.visits.now.0)) r.ensures.routes
+    ∙ ap (λ (rs : List Route). sheet_of b a.permits_crossings (turns_from a.board.bundles.now (map x_of (take (length a.board.bundles.now) a.plan)) (take (length a.board.bundles.now) a.offsets.rows)) (blank rs a.visits.now.0)) r.ensures.routes

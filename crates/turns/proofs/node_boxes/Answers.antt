@@ -9,4 +9,4 @@ pub loop-i-preserved : goal.loop-i-preserved
 loop-i-preserved c =
     let a = c.args in
     let l = c.loop-i in
-    boxed_next l.boxes _ _ a.nodes.now.rows l.i _ (get_d_any a.nodes.now.rows l.i null_node no_node (omega arith)) (omega arith) c.put_point.ensures c.put_point-in-loop-i.ensures l.invariant
+    boxed_next l.boxes _ _ a.nodes.now l.i _ (get_d_any a.nodes.now l.i null_node no_node (omega arith)) (omega arith) c.put_point.ensures c.put_point-in-loop-i.ensures l.invariant

@@ -10,6 +10,5 @@ pub loop-i-preserved : goal.loop-i-preserved
 loop-i-preserved c =
     let a = c.args in
     let l = c.loop-i in
-    let fit = c.requires.0.ports_fit in
     let on = c.requires.0.bundles_on l.i c.loop-i-test.true in
-    spotted_next l.spots _ a.boxes.now a.ports.now a.bundles.now l.i _ _ (get_d_any a.ports.now.rows (get_or a.bundles.now.rows l.i no_bundle).port null_port no_port (omega (arith, on, fit))) c.spot-end.ensures (omega arith) c.put_point.ensures l.invariant
+    spotted_next l.spots _ a.boxes.now a.ports.now a.bundles.now l.i _ _ (get_d_any a.ports.now (get_or a.bundles.now l.i no_bundle).port null_port no_port on) c.spot-end.ensures (omega arith) c.put_point.ensures l.invariant

@@ -14,9 +14,8 @@ loop-i-preserved c =
     let h = c.loop-i-test.true in
     let f = c.store_route in
     let g = c.requires.0 in
-    let fit = g.fit in
     let here : l.i < length l.counts = omega arith in (
-      fill_short a.given.now a.table.now.rows l.i no_edge l.points _ l.counts _ f.ensures (g.short l.i h) here l.invariant.0,
-      fill_next a.given.now a.table.now.rows l.i no_edge l.points _ l.counts _ f.ensures (g.short l.i h) here l.invariant.0 (omega (arith, fit, h)) (omega arith) l.invariant.1,
-      ended_next l.ends a.table.now.rows l.i _ refl (omega arith) l.invariant.2,
+      fill_short a.given.now a.table.now l.i no_edge l.points _ l.counts _ f.ensures (g.short l.i h) here l.invariant.0,
+      fill_next a.given.now a.table.now l.i no_edge l.points _ l.counts _ f.ensures (g.short l.i h) here l.invariant.0 h (omega arith) l.invariant.1,
+      ended_next l.ends a.table.now l.i _ refl (omega arith) l.invariant.2,
     )

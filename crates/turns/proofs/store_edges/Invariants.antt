@@ -7,5 +7,5 @@ use Rattle.turns.proofs.store_edges.Given as goal
 abbrev pub invariant-loop-i : goal.invariant-loop-i
 invariant-loop-i l =
     Short (take l.i l.counts)
-    × (routes_of l.points (take l.i l.counts) ≡ map (given_route l.given) (take l.i l.table.rows))
-    × Ended l.ends l.table.rows l.i
+    × (routes_of l.points (take l.i l.counts) ≡ map (given_route l.given) (take l.i l.table))
+    × Ended l.ends l.table l.i

@@ -8,5 +8,5 @@ abbrev pub invariant-loop-i : goal.invariant-loop-i
 invariant-loop-i l = record {
   few : l.count ≤ l.i;
   rows_length : length l.rows ≡ max_bundles;
-  each : (k : ℕ) → k < l.count → get_or l.rows k 0 < l.t.count;
+  each : (k : ℕ) → k < l.count → get_or l.rows k 0 < length l.reaches;
 }

@@ -1,0 +1,5 @@
+use Rattle.job_tables.proofs.Ready.{tables_sound}
+use Rattle.job_tables.proofs.board_tables.Goals as goal
+
+pub invariant_of-result : goal.invariant_of-result
+invariant_of-result c = record { sound = tables_sound c.args.j.now c.requires.came.0 c.requires.came.1 c.requires.sizes }
