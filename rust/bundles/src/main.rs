@@ -357,11 +357,12 @@ fn followed(name: &str, settings: Settings<'_>) -> Result<Done, String> {
     let by_file = title(&loaded.name);
     let title = settings.title.unwrap_or(&by_file);
     let (_, answer) = drawn(&loaded)?;
-    let board = loaded.board()?;
     let page = match &answer {
-        Answer::Drawn(sheet) => html(&board, sheet, &loaded.names, title),
+        Answer::Drawn(sheet) => html(&loaded.board()?, sheet, &loaded.names, title),
+        // The refusal may be that the bytes are no job; then there is no board to show.
         Answer::Refused(refusal) => {
             tell(&answer, &loaded, None);
+            let board = loaded.board().unwrap_or_default();
             html_refused(&board, *refusal, &loaded.names, title)
         }
     };

@@ -384,6 +384,8 @@ fn a_refusal() {
         assert!(picture.contains("refused with 1"), "{picture}");
         assert_eq!(text(out(1, &["explain", "-", &job], NOTICE)), words);
     }
+    let page = text(out(1, &["html", "-"], NO_JOB));
+    assert!(page.contains("refused with 1"), "{page}");
 }
 
 #[test]
