@@ -265,7 +265,7 @@ same_taps rows n b fits inside =
 
 -- a bundle with its taps
 module _ (taps : List DrawnTap) (b : DrawnBundle) (inside : b.first + b.count ≤ length taps) where
-  taps_count : length (taps_of taps b) ≡ b.count
+  pub taps_count : length (taps_of taps b) ≡ b.count
   taps_count =
       let k : b.count ≤ length (drop b.first taps) = rw length-drop (omega arith) in
       length-take-le b.count (drop b.first taps) k

@@ -6,10 +6,11 @@ use mathlib.Core.List.{List, [], ◌∷◌, ◌++◌}
 use mathlib.Core.Bool.{Bool, cond}
 use native.Mathlib.Omega.{arith}
 use lib.ListN.{length}
-use lib.Ieee.{Float}
 use Rattle.std.specs.Prelude.{Some}
 use Rattle.geometry.specs.Points.{Route}
+use Rattle.board.specs.declared.Edge.{Edge}
 use Rattle.board.specs.declared.Options.{Options}
+use Rattle.board.specs.declared.PlacedNode.{PlacedNode}
 use Rattle.board.specs.declared.Member.{Member}
 use Rattle.drawing.specs.declared.GeometryVisits.{GeometryVisits}
 use Rattle.drawing.specs.Verdict.{Verdict, Clean, Refused}
@@ -55,8 +56,8 @@ module _ (ms : List Member) (mask : List Bool) (rs : List Route) (marks : Marks 
   contact_masked o allow new ds = ap (λ (x : List Test). drawn_tests o allow new every_route rs ++ x) (prior_masked o allow new ds)
 
   -- the tests of verify_one_bundle_route_node_interiors
-  pub inside_masked : (boxes : List Float) (ends : List ℕ) → over_routes (inside_route boxes ends) (chosen_by (Some mask)) rs 0 ≡ over_routes (inside_route boxes ends) (among ms) rs 0
-  inside_masked boxes ends = over_alike (inside_route boxes ends) (chosen_by (Some mask)) (among ms) rs 0 chosen_alike
+  pub inside_masked : (ns : List PlacedNode) (es : List Edge) → over_routes (inside_route ns es) (chosen_by (Some mask)) rs 0 ≡ over_routes (inside_route ns es) (among ms) rs 0
+  inside_masked ns es = over_alike (inside_route ns es) (chosen_by (Some mask)) (among ms) rs 0 chosen_alike
 
 -- ---- one check after the other
 

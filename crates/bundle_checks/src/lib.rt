@@ -7,18 +7,20 @@
 
 #![tactic(auto)]
 
-ghost use Rattle.std.specs.Prelude.{◌≡◌, [], map, ◌+◌, ◌*◌, ◌≤◌, length, take};
+ghost use Rattle.std.specs.Prelude.{◌≡◌, [], map, ◌+◌, ◌≤◌, length, take};
 ghost use Rattle.limits.specs.Limits.{max_bundles};
 ghost use Rattle.drawing.specs.Check.{walk, among, over_routes, contact_tests};
 ghost use Rattle.checks.specs.Purse.{told};
 ghost use Rattle.checks.specs.CheckRows.{inside_route, Tabled};
-ghost use Rattle.checks.specs.Lent.{routes_lent, drawn_lent, RowsLent};
+ghost use Rattle.route.specs.Lent.{routes_lent};
+ghost use Rattle.checks.specs.Lent.{drawn_lent, RowsLent};
 ghost use Rattle.checks.specs.MemberSlices.{members_from, Known, Marks, then_walk};
 
 use board::{DrawnBundle, DrawnBundles};
-use checks::{BoardSlices, ChosenRoutes, MemberTaps, PresentRoutes, Rules};
+use checks::{BoardSlices, ChosenRoutes, MemberTaps, Rules};
 use drawing::GeometryVisits;
 use refusal::Refusal;
+use route::PresentRoutes;
 
 // The mask becomes true at the edges of a bundle's members, and false elsewhere: the routes that the
 // bundle changes.
@@ -46,8 +48,8 @@ pub fn verify_bundle(
     mask: &mut [bool],
     visits: &mut GeometryVisits,
 ) -> Result<(), Refusal>
-    requires { (2 * length present.counts.now ≤ length board.ends.now) × (priors.count ≤ max_bundles) × RowsLent table (take priors.count priors.rows) × Tabled new.first new.count table.edges.now table.taps.now × (length present.counts.now ≤ length mask.old) × Known table.edges.now new.first new.count (length mask.old) }
-    ensures { told result visits.new.0 ≡ then_walk (walk 12 (over_routes (inside_route board.entry.boxes.now board.entry.ends.now) (among (members_from table.entry.edges.now [] new.first new.count)) (routes_lent present.entry) 0) visits.old.0) (λ k. walk 11 (contact_tests rules.options rules.permits_crossings (drawn_lent table.entry new) (among (members_from table.entry.edges.now [] new.first new.count)) (map (drawn_lent table.entry) (take priors.count priors.rows)) (routes_lent present.entry)) k) }
+    requires { (length present.counts.now ≤ length board.edges.now) × (priors.count ≤ max_bundles) × RowsLent table (take priors.count priors.rows) × Tabled new.first new.count table.edges.now table.taps.now × (length present.counts.now ≤ length mask.old) × Known table.edges.now new.first new.count (length mask.old) }
+    ensures { told result visits.new.0 ≡ then_walk (walk 12 (over_routes (inside_route board.entry.nodes.now board.entry.edges.now) (among (members_from table.entry.edges.now [] new.first new.count)) (routes_lent present.entry) 0) visits.old.0) (λ k. walk 11 (contact_tests rules.options rules.permits_crossings (drawn_lent table.entry new) (among (members_from table.entry.edges.now [] new.first new.count)) (map (drawn_lent table.entry) (take priors.count priors.rows)) (routes_lent present.entry)) k) }
 {
     mark_members(table.edges, new.first, new.count, mask);
     let changed = ChosenRoutes {

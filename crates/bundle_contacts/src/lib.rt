@@ -7,30 +7,28 @@
 #![tactic(auto)]
 
 ghost use Rattle.std.specs.Prelude.{◌≡◌, [], ◌∷◌, ◌++◌, map, ◌≤◌, take, None};
-ghost use Rattle.std.proofs.Props.{props};
 ghost use Rattle.limits.specs.Limits.{max_bundles};
-ghost use Rattle.geometry.specs.Apart.{trunk as trunk_of};
 ghost use Rattle.geometry.specs.Lent.{route_lent};
 ghost use Rattle.geometry.specs.Points.{runs};
 ghost use Rattle.drawing.specs.Build.{tap_of};
 ghost use Rattle.drawing.specs.Check.{due, walk, clash, run_tests, over_routes, route_tests, drawn_tests, pair_tests, prior_tests};
 ghost use Rattle.checks.specs.Purse.{told};
 ghost use Rattle.checks.specs.CheckRows.{drawn_of, Tabled};
-ghost use Rattle.checks.specs.Lent.{routes_lent, chosen_lent, drawn_lent, RowsLent, taps_lent};
+ghost use Rattle.route.specs.Lent.{routes_lent};
+ghost use Rattle.checks.specs.Lent.{chosen_lent, drawn_lent, RowsLent, taps_lent};
 
 use board::{DrawnBundle, DrawnBundles};
 use checks::{BundleTaps, ChosenRoutes, MemberTaps, Rules};
+use contact_test::Bus;
 use drawing::GeometryVisits;
-use geometry::{Point, RouteView, Segment, Trunk};
+use geometry::{Point, RouteView, Segment};
 use refusal::Refusal;
 
-// A segment of a bundle, with its trunk, worked out once, and the bundle's taps.
+// A segment of a bundle, and the bundle's taps.
 #[derive(Clone, Copy)]
-struct Bus<'a> {
-    segment: Segment,
-    trunk: Trunk,
+struct TappedBus<'a> {
+    bus: Bus,
     taps: BundleTaps<'a>,
-    ghost worked_out: { trunk ≡ trunk_of segment } by { Prim.hlevel props },
 }
 
 // ---- verify_new_bundle_route_contacts
@@ -56,19 +54,24 @@ fn bus_on_run(
 // only for those that are not.
 fn bus_on_route_run(
     rules: Rules,
-    bus: Bus,
+    own: TappedBus,
     e: usize,
     run: Segment,
     visits: &mut GeometryVisits,
 ) -> Result<(), Refusal>
-    ensures { told result visits.new.0 ≡ walk 11 (due (clash rules.options rules.permits_crossings bus.entry.segment (tap_of (taps_lent bus.entry.taps) e) run) ∷ []) visits.old.0 }
+    ensures { told result visits.new.0 ≡ walk 11 (due (clash rules.options rules.permits_crossings own.entry.bus.segment (tap_of (taps_lent own.entry.taps) e) run) ∷ []) visits.old.0 }
 {
     looks::charge(visits)?;
     let spacing = rules.options.minimum_parallel_wire_spacing;
-    if contact_test::is_apart(bus.trunk, spacing, run.start, run.end) {
+    if contact_test::is_apart(own.bus.line, spacing, run.start, run.end) {
         return Ok(());
     }
-    if looks::clashes(rules, bus.segment, looks::tap_on_route(bus.taps, e), run) {
+    if looks::clashes(
+        rules,
+        own.bus.segment,
+        looks::tap_on_route(own.taps, e),
+        run,
+    ) {
         return Err(Refusal::ForbiddenContact);
     }
     Ok(())
@@ -77,16 +80,16 @@ fn bus_on_route_run(
 // A bundle's segment against route e.
 fn bus_on_route(
     rules: Rules,
-    bus: Bus,
+    own: TappedBus,
     e: usize,
     route: RouteView,
     visits: &mut GeometryVisits,
 ) -> Result<(), Refusal>
-    ensures { told result visits.new.0 ≡ walk 11 (run_tests rules.options rules.permits_crossings bus.entry.segment (tap_of (taps_lent bus.entry.taps) e) (runs (route_lent route.entry))) visits.old.0 }
+    ensures { told result visits.new.0 ≡ walk 11 (run_tests rules.options rules.permits_crossings own.entry.bus.segment (tap_of (taps_lent own.entry.taps) e) (runs (route_lent route.entry))) visits.old.0 }
 {
     for i in 0..route.count.saturating_sub(1) {
         let run = route_views::view_run(route, i);
-        bus_on_route_run(rules, bus, e, run, visits)?;
+        bus_on_route_run(rules, own, e, run, visits)?;
     }
     Ok(())
 }
@@ -101,15 +104,21 @@ fn bus_on_routes(
 ) -> Result<(), Refusal>
     ensures { told result visits.new.0 ≡ walk 11 (over_routes (route_tests rules.options rules.permits_crossings segment (taps_lent taps.entry)) (chosen_lent chosen.entry) (routes_lent chosen.entry.routes) 0) visits.old.0 }
 {
-    let trunk = contact_test::trunk_of(segment);
     let bus = Bus {
         segment,
-        trunk,
-        taps,
+        line: contact_test::trunk_of(segment),
     };
+    let own = TappedBus { bus, taps };
+    // By index, the route's number: the mask, the slot and the tap go by it.
     for e in 0..chosen.routes.counts.len() {
         if looks::is_chosen(chosen, e) {
-            bus_on_route(rules, bus, e, looks::slot_of(chosen.routes, e), visits)?;
+            bus_on_route(
+                rules,
+                own,
+                e,
+                route_slots::slot_of(chosen.routes, e),
+                visits,
+            )?;
         }
     }
     Ok(())

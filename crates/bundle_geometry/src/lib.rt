@@ -7,10 +7,10 @@
 
 #![tactic(auto)]
 
-ghost use Rattle.std.specs.Prelude.{◌≡◌, [], ◌+◌, ◌*◌, ◌≤◌, length, get_or};
+ghost use Rattle.std.specs.Prelude.{◌≡◌, [], ◌+◌, ◌*◌, ◌≤◌, length, get_or, is_some};
 ghost use Rattle.geometry.specs.Lent.{route_lent};
 ghost use Rattle.route.specs.Slots.{routes_of};
-ghost use Rattle.plan.specs.Depths.{number, inward};
+ghost use Rattle.plan.specs.Depths.{number};
 ghost use Rattle.std.specs.Float.{binary64};
 ghost use Rattle.std.specs.Float.Ieee.{le, add, sub, div};
 ghost use Rattle.binary64.specs.Order.{magnitude};
@@ -18,15 +18,15 @@ ghost use Rattle.board.specs.Board.{bundle_pitch};
 ghost use Rattle.drawing.specs.Build.{pt, seg, trunk_met, trunk_taps, lowest, highest, center, rail_low, rail_high, all_at};
 ghost use Rattle.drawing.specs.Sheet.{planned_x};
 ghost use Rattle.checks.specs.CheckRows.{taps_from, drawn_of, Tabled};
-ghost use Rattle.checks.specs.Lent.{routes_lent};
+ghost use Rattle.route.specs.Lent.{routes_lent};
 ghost use Rattle.checks.specs.LentRows.{taps_in};
 ghost use Rattle.checks.specs.MemberSlices.{members_from, Placed, Untouched, Known, rail_point, tapped_in, interior_at, Row, drawn_row, inside_with, railed_with, corner_with, Draws};
 
 use board::{Bundle, DrawnBundle, Options};
-use checks::{BundleRows, MemberRows, PresentRoutes};
+use checks::{BundleRows, MemberRows};
 use geometry::{Point, Role, RouteView, Segment};
-use limits::SLOT_POINTS;
 use plan::Bound;
+use route::PresentRoutes;
 
 // The lowest and the highest y of a bundle's taps and its endpoint.
 #[derive(Clone, Copy)]
@@ -60,29 +60,19 @@ fn trunk_taps(
     members: BundleRows,
     present: PresentRoutes,
     taps: &mut [f64],
-) -> bool
+) -> Option<()>
     requires tapped { 2 * (members.first + members.count) ≤ length taps.old }
     requires known { Known members.table.edges.now members.first members.count (length present.counts.now) }
-    ensures told { tapped_in result members.entry.table.edges.now taps.new members.entry.first members.entry.count ≡ trunk_taps role pitch x (members_from members.entry.table.edges.now [] members.entry.first members.entry.count) (routes_lent present.entry) }
+    ensures told { tapped_in (is_some result) members.entry.table.edges.now taps.new members.entry.first members.entry.count ≡ trunk_taps role pitch x (members_from members.entry.table.edges.now [] members.entry.first members.entry.count) (routes_lent present.entry) }
     ensures kept { Untouched taps.old taps.new members.entry.first members.entry.count }
 {
     for i in 0..members.count {
         let e = members.table.edges[members.first + i];
-        let route = RouteView {
-            points: present.points,
-            start: SLOT_POINTS * e,
-            count: present.counts[e],
-        };
-        match trunk_tap(role, pitch, x, route) {
-            None => {
-                return false;
-            }
-            Some((k, p)) => {
-                route_views::put_point(&mut taps[..], members.first + i, p);
-            }
-        }
+        let route = route_slots::slot_of(present, e);
+        let (k, p) = trunk_tap(role, pitch, x, route)?;
+        route_views::put_point(&mut taps[..], members.first + i, p);
     }
-    true
+    Some(())
 }
 
 // How far a bundle's taps reach from y.
@@ -243,15 +233,6 @@ fn rail_reach(y: f64, taps: RouteView) -> Reach
     Reach { low, high }
 }
 
-fn inward_of(role: Role, x: f64, depth: f64) -> f64
-    ensures { result ≡ inward role x depth }
-{
-    match role {
-        Role::Input => x + depth,
-        Role::Output => x - depth,
-    }
-}
-
 // A bundle drawn at the rail, its taps written.
 #[tactic(auto, unfolding(checks::specs::MemberSlices::railed_with))]
 fn build_rail(
@@ -269,7 +250,7 @@ fn build_rail(
     let depth = board::boundary_bundle_rail_depth(o);
     let pitch = board::pitch_of_bundle(o, u);
     let role = u.role;
-    let x = inward_of(role, end.x, depth);
+    let x = plan_numbers::inward(role, end.x, depth);
     let corner = Point { x, y: end.y };
     let middle = middle_lane(members);
     rail_taps(corner, middle, pitch, members, &mut taps[..]);
@@ -311,7 +292,7 @@ pub fn build_geometry(
         Bound::At(x) => {
             let pitch = board::pitch_of_bundle(o, u);
             let role = u.role;
-            if trunk_taps(role, pitch, x, members, present, &mut taps[..]) {
+            if trunk_taps(role, pitch, x, members, present, &mut taps[..]).is_some() {
                 let written = RouteView {
                     points: &taps[..],
                     start: u.first,

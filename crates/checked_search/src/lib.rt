@@ -11,7 +11,7 @@ ghost use Rattle.search_calls.specs.Entry.{collector_bounds_fit, Replied, Untouc
 ghost use Rattle.search_calls.specs.Lent.{search_call, search_call_says, promotion_call, promotion_call_says};
 
 use limits::{ENTRY_WORK, LARGEST_LIST, MOST_KEPT, PROMOTION_SCRATCH, SEARCH_SCRATCH};
-use search::{Bounds, CollectorBounds, MemberRoutes, Sought, TapVisits};
+use search::{Bounds, MemberRoutes, Sought, TapVisits};
 use search_calls::{Call, SearchAnswer};
 
 // xs, candidates and scratch are the entries' parameters for C, handed on once: a struct of them would be
@@ -60,18 +60,18 @@ pub fn search_checked<'a>(
 }
 
 // Bounds that are absent are not looked at.
-fn is_collector_bounds(bounds: CollectorBounds) -> bool
+fn is_collector_bounds(bounds: Option<Bounds>) -> bool
     ensures { result ≡ collector_bounds_fit bounds }
 {
     match bounds {
-        CollectorBounds::Absent => true,
-        CollectorBounds::Between(b) => search_refusals::is_bounds(b),
+        None => true,
+        Some(b) => search_refusals::is_bounds(b),
     }
 }
 
 pub fn promotion_checked<'a>(
     call: Call<'a>,
-    bounds: CollectorBounds,
+    bounds: Option<Bounds>,
     xs: &mut [f64],
     candidates: &mut [f64],
     scratch: &mut [f64],
@@ -87,7 +87,7 @@ pub fn promotion_checked<'a>(
     if let Err(refusal) = refused {
         return search_replies::refuse(u8::from(refusal), call.granted);
     }
-    let CollectorBounds::Between(b) = bounds else {
+    let Some(b) = bounds else {
         return SearchAnswer {
             number: 0,
             mark: 3,

@@ -2,16 +2,15 @@
 -- Assumes nothing.
 use Prim.Native.Nat.{ℕ, zero, suc, ◌+◌, ◌*◌, ◌-◌, ◌≤◌, ◌<◌}
 use Rattle.std.specs.Prelude.{◌≡◌, refl, Bool, false, cond, length, get_or, take, drop, Float, Option, Some, None}
-use Rattle.std.proofs.Math.Path.{sym, ap, fun_ext}
+use Rattle.std.proofs.Math.Path.{sym, ap}
 use Rattle.std.proofs.Common.{◌∙◌, add-one, drop_of_length-le, get_or-take, length-take-le}
 use mathlib.Core.List.{List, [], ◌∷◌, ◌++◌, map}
 use Rattle.std.proofs.Math.Bool.{true}
 use native.Mathlib.Omega.{arith}
 use Rattle.std.proofs.Math.Seq.{drop-cons}
 use borrow.Author.Tests.{eq-eqb, ne_eqb}
-use Rattle.plan.proofs.TableReads.{part_cons, part_none}
+use Rattle.plan.proofs.TableReads.{null_node, part_cons, part_none, rest_cons, rest_none}
 use Rattle.limits.specs.Limits.{slot_points}
-use Rattle.geometry.specs.declared.Node.{Node}
 use Rattle.geometry.specs.declared.Point.{Point}
 use Rattle.geometry.specs.declared.Segment.{Segment}
 use Rattle.geometry.specs.Points.{Route, runs, point_at, run_at, points_from}
@@ -29,10 +28,10 @@ use Rattle.board.specs.Board.{Board}
 use Rattle.geometry.specs.Contact.{slanted}
 use Rattle.geometry.specs.Enters.{passes_inside}
 use Rattle.drawing.specs.Build.{tap_of}
-use Rattle.drawing.specs.Check.{Test, due, barred, clean, failed, walk, own, node_tests, inside_tests, member_tests, no_edge, clash, run_tests, over_routes, drawn_tests, pair_tests, prior_tests}
+use Rattle.drawing.specs.Check.{Test, due, barred, clean, failed, walk, own, node_tests, inside_tests, member_tests, clash, run_tests, over_routes, drawn_tests, pair_tests, prior_tests}
 use Rattle.drawing.proofs.CleanChecks.{walk_on, walk_off}
 use Rattle.checks.specs.Purse.{charged}
-use Rattle.checks.specs.CheckRows.{taps_from, drawn_of, box_at, boxes_from, nodes_in, edge_at, bare_node, bare_edge, inside_route, Sliced, Tabled, AllTabled}
+use Rattle.checks.specs.CheckRows.{taps_from, drawn_of, inside_route, Sliced, Tabled, AllTabled}
 
 -- ---- one test, and tests after tests
 
@@ -212,51 +211,40 @@ module _ (o : Options) (allow : Bool) (new : DrawnBundle) (changed : ℕ → Boo
 
 -- ---- node after node, and then the tests that are left
 
-boxes_next : (boxes : List Float) (n j : ℕ) → j < n → boxes_from boxes j (n - j) ≡ box_at boxes j ∷ boxes_from boxes (j + 1) (n - (j + 1))
-unfolding boxes_from
-boxes_next boxes n j h =
-    let a : n - j ≡ suc (n - (j + 1)) = omega arith in
-    let z : suc j ≡ j + 1 = omega arith in
-    rw (a, z)
-
-module _ (e : Edge) (s : Segment) (boxes : List Float) (n : ℕ) (rest : List Test) where
+module _ (e : Edge) (s : Segment) (ns : List PlacedNode) (rest : List Test) where
   abbrev pub nodes_at : ℕ → List Test
-  nodes_at j = node_tests e s (boxes_from boxes j (n - j)) j ++ rest
-
-  pub node_start : (k : ℕ) → walk 12 (nodes_at 0) k ≡ walk 12 (node_tests e s (boxes_from boxes 0 n) 0 ++ rest) k
-  node_start k = let a : n - 0 ≡ n = omega arith in rw a
+  nodes_at j = node_tests e s (drop j ns) j ++ rest
 
   abbrev look_at : ℕ → Test
-  look_at j = due (passes_inside s.start s.end (box_at boxes j).body)
+  look_at j = due (passes_inside s.start s.end (get_or ns j null_node).body)
 
-  own_next : (j : ℕ) → j < n → own e j ≡ true → nodes_at j ≡ nodes_at (j + 1)
+  own_next : (j : ℕ) → j < length ns → own e j ≡ true → nodes_at j ≡ nodes_at (j + 1)
   unfolding node_tests
-  own_next j h o = let z : suc j ≡ j + 1 = omega arith in rw (boxes_next boxes n j h, z, o)
+  own_next j h o = let z : suc j ≡ j + 1 = omega arith in rw (rest_cons ns j null_node h, z, o)
 
-  due_next : (j : ℕ) → j < n → own e j ≡ false → nodes_at j ≡ look_at j ∷ nodes_at (j + 1)
+  due_next : (j : ℕ) → j < length ns → own e j ≡ false → nodes_at j ≡ look_at j ∷ nodes_at (j + 1)
   unfolding node_tests
-  due_next j h o = let z : suc j ≡ j + 1 = omega arith in rw (boxes_next boxes n j h, z, o)
+  due_next j h o = let z : suc j ≡ j + 1 = omega arith in rw (rest_cons ns j null_node h, z, o)
 
-  pub node_own : (j k : ℕ) → j < n → own e j ≡ true → walk 12 (nodes_at (j + 1)) k ≡ walk 12 (nodes_at j) k
+  pub node_own : (j k : ℕ) → j < length ns → own e j ≡ true → walk 12 (nodes_at (j + 1)) k ≡ walk 12 (nodes_at j) k
   node_own j k h o = sym (ap (λ (x : List Test). walk 12 x k) (own_next j h o))
 
-  module _ (j k m : ℕ) (h : j < n) (o : own e j ≡ false) where
+  module _ (j k m : ℕ) (h : j < length ns) (o : own e j ≡ false) where
     abbrev now_due : walk 12 (look_at j ∷ nodes_at (j + 1)) k ≡ walk 12 (nodes_at j) k
     now_due = sym (ap (λ (x : List Test). walk 12 x k) (due_next j h o))
 
     pub node_spent : (false, m) ≡ charged k → failed 14 m ≡ walk 12 (nodes_at j) k
     node_spent p = due_spent k m 12 _ (nodes_at (j + 1)) p ∙ now_due
 
-    module _ (d : Node) (b : d ≡ (box_at boxes j).body) (p : (true, m) ≡ charged k) where
-      pub node_hit : passes_inside s.start s.end d ≡ true → failed 12 m ≡ walk 12 (nodes_at j) k
-      node_hit x = due_hit k m 12 _ (nodes_at (j + 1)) p (ap (passes_inside s.start s.end) (sym b) ∙ x) ∙ now_due
+    pub node_hit : (true, m) ≡ charged k → passes_inside s.start s.end (get_or ns j null_node).body ≡ true → failed 12 m ≡ walk 12 (nodes_at j) k
+    node_hit p x = due_hit k m 12 _ (nodes_at (j + 1)) p x ∙ now_due
 
-      pub node_clean : passes_inside s.start s.end d ≡ false → walk 12 (nodes_at (j + 1)) m ≡ walk 12 (nodes_at j) k
-      node_clean x = due_clean k m 12 _ (nodes_at (j + 1)) p (ap (passes_inside s.start s.end) (sym b) ∙ x) ∙ now_due
+    pub node_clean : (true, m) ≡ charged k → passes_inside s.start s.end (get_or ns j null_node).body ≡ false → walk 12 (nodes_at (j + 1)) m ≡ walk 12 (nodes_at j) k
+    node_clean p x = due_clean k m 12 _ (nodes_at (j + 1)) p x ∙ now_due
 
-  pub node_end : (j k : ℕ) → n ≤ j → walk 12 (nodes_at j) k ≡ walk 12 rest k
-  unfolding node_tests boxes_from
-  node_end j k h = let a : n - j ≡ 0 = omega arith in rw a
+  pub node_end : (j k : ℕ) → length ns ≤ j → walk 12 (nodes_at j) k ≡ walk 12 rest k
+  unfolding node_tests
+  node_end j k h = rw (rest_none ns j h)
 
 -- ---- run after run against the nodes
 
@@ -290,24 +278,9 @@ module _ (ns : List PlacedNode) (e : Edge) (s : List Float) (start n : ℕ) wher
   unfolding inside_tests walk
   inside_end i k h = let g : n - i ≤ 1 = omega arith in rw (runs_none s (start + i) (n - i) g)
 
-pub edge_tests : (boxes : List Float) (ends : List ℕ) (k : ℕ) (d : Edge) (r : Route) (m : ℕ) → d ≡ edge_at ends k → walk 12 (inside_tests (nodes_in boxes) d (runs r)) m ≡ walk 12 (inside_route boxes ends k r) m
-edge_tests boxes ends k d r m e = ap (λ (x : Edge). walk 12 (inside_tests (nodes_in boxes) x (runs r)) m) e
+-- ---- the nodes and the edges that are lent
 
--- ---- the tests read no more of a node and of an edge than the slices keep
-
-bare_nodes : (e : Edge) (s : Segment) (ns : List PlacedNode) (j : ℕ) → node_tests (bare_edge e) s (map bare_node ns) j ≡ node_tests e s ns j
-unfolding node_tests own
-bare_nodes e s [] j = refl
-bare_nodes e s (n ∷ ns) j = rw (bare_nodes e s ns (suc j))
-
-bare_tests : (ns : List PlacedNode) (e : Edge) (ss : List Segment) → inside_tests (map bare_node ns) (bare_edge e) ss ≡ inside_tests ns e ss
-unfolding inside_tests
-bare_tests ns e [] = refl
-bare_tests ns e (s ∷ ss) = rw (bare_nodes e s ns 0, bare_tests ns e ss)
-
-pub sliced_tests : (b : Board) (boxes : List Float) (ends : List ℕ) → Sliced b boxes ends → member_tests b ≡ inside_route boxes ends
-sliced_tests b boxes ends h =
-    fun_ext (λ i. fun_ext (λ r.
-    sym (bare_tests b.nodes (get_or b.edges i no_edge) (runs r))
-    ∙ ap (λ (ns : List PlacedNode). inside_tests ns (bare_edge (get_or b.edges i no_edge)) (runs r)) h.nodes
-    ∙ ap (λ (e : Edge). inside_tests (nodes_in boxes) e (runs r)) (h.edges i)))
+pub sliced_tests : (b : Board) (ns : List PlacedNode) (es : List Edge) → Sliced b ns es → member_tests b ≡ inside_route ns es
+sliced_tests b ns es h =
+    ap (λ (xs : List PlacedNode). inside_route xs b.edges) h.nodes
+    ∙ ap (inside_route ns) h.edges

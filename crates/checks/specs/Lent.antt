@@ -1,19 +1,12 @@
 -- What the structs of lent slices hold. Definitions of inner contracts.
 -- Assumes nothing.
 use Rattle.std.specs.Prelude.{ℕ, List, Bool, option_copied}
-use Rattle.geometry.specs.Points.{Route}
-use Rattle.route.specs.Slots.{routes_of}
 use Rattle.board.specs.declared.DrawnBundle.{DrawnBundle}
 use Rattle.drawing.specs.Build.{TapOn, Drawn}
-use Rattle.checks.specs.declared.PresentRoutes.{PresentRoutes}
 use Rattle.checks.specs.declared.ChosenRoutes.{ChosenRoutes}
 use Rattle.checks.specs.declared.MemberTaps.{MemberTaps}
 use Rattle.checks.specs.declared.BundleTaps.{BundleTaps}
 use Rattle.checks.specs.CheckRows.{taps_from, drawn_of, chosen_by, AllTabled}
-
--- the present routes
-abbrev pub routes_lent : PresentRoutes → List Route
-routes_lent p = routes_of p.points.now p.counts.now
 
 -- which of them are chosen
 abbrev pub chosen_lent : ChosenRoutes → ℕ → Bool

@@ -18,7 +18,7 @@ use components::{Extent, Places};
 use geometry::Role;
 use limits::MAX_BUNDLES;
 use plan::{Bound, Planned, Planning, Ranges};
-use search::CollectorBounds;
+use search::Bounds;
 
 // ---- the bundles of a component
 
@@ -29,9 +29,8 @@ pub fn of_role(role: Role, t: &Ranges, order: &[usize]) -> Places
 {
     let mut rows = [0; MAX_BUNDLES];
     let mut count = 0;
-    for k in 0..order.len() {
-        let i = order[k];
-        if plan_numbers::is_same_role(t.rows[i].bundle.role, role) {
+    for &i in order {
+        if t.rows[i].bundle.role == role {
             rows[count] = i;
             count += 1;
         }
@@ -40,24 +39,24 @@ pub fn of_role(role: Role, t: &Ranges, order: &[usize]) -> Places
 }
 
 // The bound of a role: an input's minimum, an output's maximum.
-fn bound_of(role: Role, b: CollectorBounds) -> f64
+fn bound_of(role: Role, b: Option<Bounds>) -> f64
     ensures { result ≡ bound_in role b }
 {
     match b {
-        CollectorBounds::Absent => 0.0,
-        CollectorBounds::Between(r) => match role {
+        None => 0.0,
+        Some(r) => match role {
             Role::Input => r.minimum,
             Role::Output => r.maximum,
         },
     }
 }
 
-fn desired_of(b: CollectorBounds) -> f64
+fn desired_of(b: Option<Bounds>) -> f64
     ensures { result ≡ if_between b zero64 (λ (s : Bounds). s.desired) }
 {
     match b {
-        CollectorBounds::Absent => 0.0,
-        CollectorBounds::Between(r) => r.desired,
+        None => 0.0,
+        Some(r) => r.desired,
     }
 }
 
@@ -80,8 +79,8 @@ pub fn extent(role: Role, t: &Ranges, which: &[usize]) -> Extent
     let b = t.rows[which[0]].bounds;
     let mut bound = bound_of(role, b);
     let mut desired = desired_of(b);
-    for k in 1..which.len() {
-        let c = t.rows[which[k]].bounds;
+    for &i in &which[1..] {
+        let c = t.rows[i].bounds;
         bound = inner(role, bound, bound_of(role, c));
         desired = inner(role, desired, desired_of(c));
     }
@@ -94,8 +93,8 @@ pub fn drop_all(which: &[usize], p: Planning) -> Planning
     ensures { (m : ℕ) → Listing which.now m → plan_in m result ≡ record { xs = drop_all which.now (plan_in m p).xs; left = p.left.0 } }
 {
     let mut rows = p.rows;
-    for k in 0..which.len() {
-        rows[which[k]] = Planned { x: Bound::None };
+    for &i in which {
+        rows[i] = Planned { x: Bound::None };
     }
     Planning { rows, left: p.left }
 }
@@ -103,12 +102,12 @@ pub fn drop_all(which: &[usize], p: Planning) -> Planning
 // ---- every component
 
 // The x that the first search found.
-fn initial_x(b: CollectorBounds) -> Bound
+fn initial_x(b: Option<Bounds>) -> Bound
     ensures { result ≡ if_between b None (λ (s : Bounds). At s.desired) }
 {
     match b {
-        CollectorBounds::Absent => Bound::None,
-        CollectorBounds::Between(r) => Bound::At(r.desired),
+        None => Bound::None,
+        Some(r) => Bound::At(r.desired),
     }
 }
 
@@ -118,9 +117,10 @@ pub fn initial(t: Ranges, n: usize) -> Planning
     ensures { plan_in n result ≡ record { xs = map initial_x (ranges_in n t); left = t.left.0 } }
 {
     let mut rows = [Planned { x: Bound::None }; MAX_BUNDLES];
-    for at in 0..n {
-        let x = initial_x(t.rows[at].bounds);
-        rows[at] = Planned { x };
+    for (at, r) in t.rows[..n].iter().enumerate() {
+        rows[at] = Planned {
+            x: initial_x(r.bounds),
+        };
     }
     Planning { rows, left: t.left }
 }

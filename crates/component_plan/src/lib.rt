@@ -35,7 +35,7 @@ fn components(
     let mut seen = [false; MAX_BUNDLES];
     let mut p = before;
     for i in 0..n {
-        if !seen[i] && plan_numbers::is_found(ranges.rows[i].bounds) {
+        if !seen[i] && ranges.rows[i].bounds.is_some() {
             let w = plan_neighbours::component(adjacent, n, i, seen);
             seen = w.seen;
             p = component_settling::treat(layout, &ranges, &w.order[..w.count], p, work)?;

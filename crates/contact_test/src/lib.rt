@@ -9,6 +9,7 @@
 #![tactic(auto)]
 
 ghost use Rattle.std.specs.Prelude.{◌≡◌};
+ghost use Rattle.std.proofs.Props.{props};
 ghost use Rattle.geometry.specs.Contact.{matches, slanted, across, upright, place, in_line, crossing, meet, at_tap, strict};
 ghost use Rattle.geometry.specs.Kind.{kind_at, kind_of, kind, disallowed, number};
 ghost use Rattle.geometry.specs.Crossing.{is_strict, crossing_place};
@@ -16,6 +17,14 @@ ghost use Rattle.geometry.specs.Apart.{trunk, over, beside, apart};
 ghost use Rattle.geometry.specs.Spacing.{overlap_positive, too_close};
 
 use geometry::{Contact, Meet, Point, Segment, Span, Trunk};
+
+// A segment of a bundle, and the trunk that it lies on, worked out once for all runs.
+#[derive(Clone, Copy)]
+pub struct Bus {
+    pub segment: Segment,
+    pub line: Trunk,
+    pub ghost worked_out: { line ≡ trunk segment } by { Prim.hlevel props },
+}
 
 // Same place: both rounded differences are at most 1e-7 in magnitude.
 pub fn preserved_point_matches(left: Point, right: Point) -> bool

@@ -1,8 +1,8 @@
 -- What the walk kept is counted and written: 19 where there are more than 1,024, else the bytes. Assumes nothing.
-use Rattle.std.specs.Prelude.{ℕ, suc, ◌≤◌, ◌<◌, ◌≡◌, refl, Bool, true, false, ◌||◌, cond, leb, ltb, length, Float}
-use Rattle.std.proofs.Common.{sym, ◌∙◌, true≢false, arith}
+use Rattle.std.specs.Prelude.{ℕ, suc, ◌≤◌, ◌<◌, ◌≡◌, refl, Bool, true, false, cond, leb, ltb, length, Float}
+use Rattle.std.proofs.Common.{sym, ◌∙◌, arith}
 use Rattle.std.proofs.Math.Path.{ap}
-use mathlib.Core.List.{List, []}
+use mathlib.Core.List.{List}
 use Rattle.std.proofs.Math.Seq.{sets}
 use borrow.Author.Tests.{leb-true, leb-false, lt-ltb, le-ltb}
 use Rattle.sorting.specs.Sort.{sorted}

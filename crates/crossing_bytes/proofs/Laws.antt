@@ -1,6 +1,6 @@
 -- Entries written one after the other, and rows sorted by their indices. Assumes nothing.
-use Prim.Native.Nat.{ℕ, zero, suc, ◌+◌, ◌*◌, ◌/◌, ◌≤◌, ◌<◌}
-use Rattle.std.specs.Prelude.{◌≡◌, Bool, true, false, cond, ltb, get_or, take, drop, Float}
+use Prim.Native.Nat.{ℕ, zero, suc, ◌+◌, ◌/◌, ◌≤◌, ◌<◌}
+use Rattle.std.specs.Prelude.{◌≡◌, Bool, true, false, cond, get_or, take, drop, Float}
 use Rattle.std.proofs.Math.Path.{refl, ap}
 use Rattle.std.proofs.Common.{sym, ◌∙◌, subst, true≢false, length-append, drop_of_length-le, length-take-le, lt-ltb}
 use mathlib.Core.List.{List, [], ◌∷◌, ◌++◌, map}
@@ -14,7 +14,7 @@ use Rattle.wire.specs.Bytes.{bytes}
 use Rattle.wire.proofs.BytesLaws.{bytes_length}
 use Rattle.geometry.specs.declared.Point.{Point}
 use Rattle.answer.specs.Answer.{all_bytes, point_bytes}
-use Rattle.answer.proofs.Stores.{sets_then, point_length, all_length}
+use Rattle.answer.proofs.Stores.{sets_then, point_length}
 use Rattle.sorting.specs.Lists.{Every}
 use Rattle.sorting.specs.Sort.{insert, sorted}
 use Rattle.sorting.specs.Sorted.{every_sorted, sorted_length}

@@ -1,7 +1,7 @@
 -- The rows that the walk keeps are the crossings of the list, and what is written for them is F-7's list. Assumes nothing.
-use Rattle.std.specs.Prelude.{ℕ, zero, suc, ◌+◌, ◌*◌, ◌≤◌, ◌<◌, ◌≡◌, Bool, leb, length, get_or, Float, Option, None}
+use Rattle.std.specs.Prelude.{ℕ, zero, suc, ◌+◌, ◌*◌, ◌≡◌, Bool, length, get_or, Option, None}
 use Rattle.std.proofs.Math.Path.{refl, sym, ap}
-use Rattle.std.proofs.Common.{◌∙◌, subst, true≢false, arith, length-append, leb-true, leb-false}
+use Rattle.std.proofs.Common.{◌∙◌, subst, true≢false, arith, length-append}
 use mathlib.Core.List.{List, [], ◌∷◌, ◌++◌, map, map-append}
 use Rattle.std.proofs.Math.Bool.{true, false, cond}
 use Rattle.std.proofs.lemmas.List.{length-map}
@@ -17,16 +17,15 @@ use Rattle.sorting.specs.Lists.{Every}
 use Rattle.sorting.specs.Sort.{sorted}
 use Rattle.sorting.specs.Sorted.{sorted_length}
 use Rattle.board.specs.declared.Bundle.{Bundle}
-use Rattle.board.specs.declared.Edge.{Edge}
 use Rattle.board.specs.declared.DrawnBundle.{DrawnBundle}
 use Rattle.board.specs.Board.{Board, no_bundle, no_edge}
 use Rattle.answer.specs.Answer.{all_bytes}
-use Rattle.answer.proofs.Stores.{all_length, all_map}
+use Rattle.answer.proofs.Stores.{all_length}
 use Rattle.drawing.specs.Build.{Drawn, tap_of}
 use Rattle.crossings.specs.List.{Crossing, crossing_of, run_crossings, route_crossings, bundle_crossings, sheet_crossings, order_key, crossing_list, listed}
-use Rattle.limits.specs.Limits.{max_crossings, crossing_bytes}
-use Rattle.crossing_rows.specs.Rows.{Row, row, one_row, run_rows, route_rows, bundle_rows, sheet_rows, id_of, rows_from, capped, Kept}
-use Rattle.crossing_bytes.specs.Bytes.{entry_bytes, crossing_entry, list_bytes}
+use Rattle.limits.specs.Limits.{crossing_bytes}
+use Rattle.crossing_rows.specs.Rows.{Row, row, one_row, run_rows, route_rows, bundle_rows, sheet_rows, id_of}
+use Rattle.crossing_bytes.specs.Bytes.{crossing_entry, list_bytes}
 use Rattle.crossing_bytes.specs.RowBytes.{row_bytes, rows_bytes, row_key}
 use Rattle.crossing_bytes.proofs.Laws.{entry_length, map_sorted}
 

@@ -40,6 +40,7 @@ fn put_row(out: &mut [u8], at: usize, kept: RowsView, k: usize)
 }
 
 // The rows that order names, behind the count.
+#[tactic(auto, using(crossing_bytes::proofs::Laws::entry_next, crossing_bytes::proofs::Laws::entry_end))]
 fn put_rows(out: &mut [u8], kept: RowsView, order: &[usize])
     requires { (2 + crossing_bytes * length order.now ≤ length out.old) × Every (λ k. k < max_crossings) order.now }
     ensures { out.new ≡ sets out.old 2 (all_bytes row_bytes (map (row_lent kept.entry) order.now)) }
@@ -53,6 +54,7 @@ fn put_rows(out: &mut [u8], kept: RowsView, order: &[usize])
 
 // out is a part of the caller's buffer, which C lends with its length: that it has room is asked.
 
+#[tactic(auto, using(crossing_bytes::proofs::Laws::list_joined, std::proofs::lemmas::Grind::common_steps))]
 fn put_list(out: &mut [u8], kept: RowsView, order: &[usize])
     requires { (length order.now ≤ max_crossings) × (crossings_room ≤ length out.old) × Every (λ k. k < max_crossings) order.now }
     ensures { out.new ≡ sets out.old 0 (rows_bytes (map (row_lent kept.entry) order.now)) }

@@ -2,11 +2,10 @@
 
 #![tactic(auto)]
 
-ghost use Rattle.std.specs.Prelude.{◌≡◌, ◌*◌, ◌≤◌, ltb, length, is_err, IfErr};
+ghost use Rattle.std.specs.Prelude.{◌≡◌, ◌≤◌, ltb, length, is_err, IfErr};
 ghost use Rattle.std.proofs.lemmas.List.Edits.{sets};
-ghost use Rattle.limits.specs.Limits.{max_edges, max_bundles, slot_numbers, max_crossings, crossings_room};
+ghost use Rattle.limits.specs.Limits.{max_edges, max_bundles, max_crossings, crossings_room};
 ghost use Rattle.refusal.specs.declared.Refusal.TheVariants.{TooManyCrossings};
-ghost use Rattle.route.specs.Slots.{Held};
 ghost use Rattle.crossing_rows.specs.Rows.{rows_met};
 ghost use Rattle.crossing_bytes.specs.RowBytes.{written_rows};
 
@@ -14,24 +13,25 @@ use board::{DrawnBundles, Edges};
 use crossing_rows::{Rows, RowsView};
 use limits::{CROSSING_NUMBERS, MAX_CROSSINGS};
 use refusal::Refusal;
+use route::PresentRoutes;
 
 // The list is written where there are at most 1,024 crossings, unless another refusal is due; more are
 // refused (19). The rows of the crossings are kept here, so that they are cleared only where the list is
-// wanted.
+// wanted. permitted is bit 1 of the job's flags. withheld says that the caller refuses the page (16) once
+// 19 was looked for, and is no switch between two ways to work.
 pub fn list_crossings(
     permitted: bool,
     withheld: bool,
     table: Edges,
     drawn: DrawnBundles,
-    points: &[f64],
-    counts: &[usize],
+    present: PresentRoutes,
     out: &mut [u8],
 ) -> Result<(), Refusal>
     requires count_le_max_edges { (table.count ≤ max_edges) × (drawn.count ≤ max_bundles) × (crossings_room ≤ length out.old) }
-    requires counts_len { (length counts.now ≡ table.count) × (slot_numbers * length counts.now ≤ length points.now) × Held counts.now }
-    ensures too_many { is_err result ≡ ltb max_crossings (length (rows_met permitted table drawn points.now counts.now)) }
+    requires counts_len { length present.counts.now ≡ table.count }
+    ensures too_many { is_err result ≡ ltb max_crossings (length (rows_met permitted table drawn present.entry.points.now present.entry.counts.now)) }
     ensures refusal { IfErr result (λ r. r ≡ TooManyCrossings) }
-    ensures bytes { out.new ≡ sets out.old 0 (written_rows withheld (rows_met permitted table drawn points.now counts.now)) }
+    ensures bytes { out.new ≡ sets out.old 0 (written_rows withheld (rows_met permitted table drawn present.entry.points.now present.entry.counts.now)) }
 {
     let mut places = [0.0; CROSSING_NUMBERS];
     let mut names = [0; CROSSING_NUMBERS];
@@ -40,7 +40,7 @@ pub fn list_crossings(
         names: &mut names[..],
         count: 0,
     };
-    crossing_walk::sheet_crossings(permitted, table, drawn, points, counts, &mut kept);
+    crossing_walk::sheet_crossings(permitted, table, drawn, present, &mut kept);
     if kept.count > MAX_CROSSINGS {
         return Err(Refusal::TooManyCrossings);
     }

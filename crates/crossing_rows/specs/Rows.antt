@@ -10,8 +10,8 @@ use Rattle.board.specs.declared.DrawnBundle.{DrawnBundle}
 use Rattle.board.specs.Tables.{DrawnBundles}
 use Rattle.board.specs.Tables.{Edges}
 use Rattle.board.specs.declared.Edge.{Edge}
-use Rattle.limits.specs.Limits.{slot_numbers, max_crossings}
-use Rattle.route.specs.Slots.{routes_of, Held}
+use Rattle.limits.specs.Limits.{max_crossings}
+use Rattle.route.specs.Slots.{routes_of}
 
 -- an entry: "the point as two f64, the bundle id, the edge id"
 pub record Row : Type 0 where
@@ -75,9 +75,3 @@ pub record Kept (l : List Row) (places : List Float) (names : List ℕ) (n : ℕ
 -- a walk that met the rows new, whatever was kept before it
 abbrev pub Grown : List Float → List ℕ → ℕ → List Float → List ℕ → ℕ → List Row → Type 0
 Grown places names n places' names' n' new = (l : List Row) → Kept l places names n → Kept (l ++ new) places' names' n'
-
--- every route has its slot and its id
-pub record Slotted (points : List Float) (counts ids : List ℕ) : Type 0 where
-  pub slots : slot_numbers * length counts ≤ length points
-  pub named : length counts ≤ length ids
-  pub hold : Held counts

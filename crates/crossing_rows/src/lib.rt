@@ -10,7 +10,8 @@ ghost use Rattle.std.specs.Prelude.{◌≤◌, length};
 ghost use Rattle.limits.specs.Limits.{crossing_numbers, max_crossings};
 
 // The rows kept so far, in slices that are lent with room for 1,024. Of more the count is 1,025, and
-// what is kept says nothing.
+// what is kept says nothing. Slices beside a count, since no heap is asked for and the count goes one past
+// the room.
 #[derive(Drop)]
 pub struct Rows<'a> {
     pub places: &'a mut [f64],
@@ -20,7 +21,8 @@ pub struct Rows<'a> {
     pub ghost names_room: { crossing_numbers ≤ length names.now },
 }
 
-// At most 1,024 rows that were kept, to be read: Rows are lent to be written.
+// At most 1,024 rows that were kept, to be read: Rows are lent to be written. The slices are
+// lent whole with the count beside, so that every k below 1,024 is in them and put_row asks no more.
 #[derive(Clone, Copy)]
 pub struct RowsView<'a> {
     pub places: &'a [f64],

@@ -6,29 +6,31 @@
 
 #![tactic(auto)]
 
-ghost use Rattle.std.specs.Prelude.{◌≡◌, [], ◌∷◌, map, ◌*◌, ◌≤◌, length, take, None};
+ghost use Rattle.std.specs.Prelude.{◌≡◌, [], ◌∷◌, map, ◌≤◌, length, take, None};
 ghost use Rattle.std.proofs.Props.{props};
-ghost use Rattle.limits.specs.Limits.{max_edges, max_bundles, slot_numbers};
+ghost use Rattle.limits.specs.Limits.{max_edges, max_bundles};
 ghost use Rattle.geometry.specs.Apart.{trunk};
 ghost use Rattle.geometry.specs.Points.{runs};
 ghost use Rattle.geometry.specs.Lent.{route_lent};
 ghost use Rattle.geometry.specs.Kind.{kind};
 ghost use Rattle.geometry.specs.Crossing.{is_strict};
-ghost use Rattle.route.specs.Slots.{routes_of, Held};
-ghost use Rattle.crossing_rows.specs.Rows.{row, one_row, run_rows, route_rows, bundle_rows, sheet_rows, id_of, rows_met, Slotted};
+ghost use Rattle.route.specs.Lent.{routes_lent};
+ghost use Rattle.crossing_rows.specs.Rows.{row, one_row, run_rows, route_rows, bundle_rows, sheet_rows, id_of, rows_met};
 ghost use Rattle.crossing_rows.specs.Lent.{KeptIn, GrownBy, SameSlices};
 
 use board::{DrawnBundle, DrawnBundles, Edges};
+use contact_test::Bus;
 use crossing_rows::Rows;
 use geometry::{Point, RouteView, Segment, Trunk};
-use limits::{MAX_CROSSINGS, MAX_EDGES, SLOT_POINTS};
+use limits::{MAX_CROSSINGS, MAX_EDGES};
+use route::PresentRoutes;
 
-// A bundle's segment and the trunk that it lies on.
+// The ids of a bundle and of an edge. The rows that are kept are lent beside it: of a struct with a `&mut`
+// each contract would have to say what it still lends.
 #[derive(Clone, Copy)]
-struct Bus {
-    segment: Segment,
-    line: Trunk,
-    ghost known: { line ≡ trunk segment },
+struct Ids {
+    bundle: u64,
+    edge: u64,
 }
 
 // A drawn bundle and the trunks of its segments, worked out once for all routes.
@@ -41,21 +43,20 @@ struct Walked {
     ghost spine_known: { spine ≡ trunk row.spine },
 }
 
-// The present routes in their slots, and the ids of their edges.
+// The present routes in their slots, and the id of each one's edge.
 #[derive(Clone, Copy)]
 struct NamedRoutes<'a> {
-    points: &'a [f64],
-    counts: &'a [usize],
+    present: PresentRoutes<'a>,
     ids: &'a [u64],
-    ghost slotted: { Slotted points.now counts.now ids.now } by { Prim.hlevel props },
+    ghost named: { length ids.now ≡ length present.counts.now } by { Prim.hlevel props },
 }
 
 // ---- the walk
 
 // One row more, where there is room.
-fn keep(kept: &mut Rows, p: Point, bundle: u64, edge: u64)
+fn keep(kept: &mut Rows, p: Point, ids: Ids)
     ensures same { SameSlices kept.old kept.new }
-    ensures rows { GrownBy kept.old kept.new (row p bundle edge ∷ []) }
+    ensures rows { GrownBy kept.old kept.new (row p ids.bundle ids.edge ∷ []) }
 {
     let n = kept.count;
     if n >= MAX_CROSSINGS {
@@ -63,8 +64,8 @@ fn keep(kept: &mut Rows, p: Point, bundle: u64, edge: u64)
         return;
     }
     route_views::put_point(kept.places, n, p);
-    kept.names[2 * n] = bundle;
-    kept.names[2 * n + 1] = edge;
+    kept.names[2 * n] = ids.bundle;
+    kept.names[2 * n + 1] = ids.edge;
     kept.count = n + 1;
 }
 
@@ -80,23 +81,23 @@ fn is_crossing(bus: Bus, run: Segment) -> bool
     contact_test::is_strict_crossing(k)
 }
 
-fn walk_run(bus: Bus, bundle: u64, edge: u64, run: Segment, kept: &mut Rows)
+fn walk_run(bus: Bus, ids: Ids, run: Segment, kept: &mut Rows)
     ensures same { SameSlices kept.old kept.new }
-    ensures rows { GrownBy kept.old kept.new (one_row bus.segment bundle edge run) }
+    ensures rows { GrownBy kept.old kept.new (one_row bus.segment ids.bundle ids.edge run) }
 {
     if is_crossing(bus, run) {
         let p = contact_test::crossing_point(bus.segment, run.start);
-        keep(kept, p, bundle, edge);
+        keep(kept, p, ids);
     }
 }
 
 // The runs of a route.
-fn walk_runs(bus: Bus, bundle: u64, edge: u64, route: RouteView, kept: &mut Rows)
+fn walk_runs(bus: Bus, ids: Ids, route: RouteView, kept: &mut Rows)
     ensures same { SameSlices kept.old kept.new }
-    ensures rows { GrownBy kept.old kept.new (run_rows bus.segment bundle edge (runs (route_lent route.entry))) }
+    ensures rows { GrownBy kept.old kept.new (run_rows bus.segment ids.bundle ids.edge (runs (route_lent route.entry))) }
 {
     for i in 0..route.count.saturating_sub(1) {
-        walk_run(bus, bundle, edge, route_views::view_run(route, i), kept);
+        walk_run(bus, ids, route_views::view_run(route, i), kept);
     }
 }
 
@@ -113,27 +114,26 @@ fn walk_route(d: Walked, edge: u64, route: RouteView, kept: &mut Rows)
         segment: d.row.spine,
         line: d.spine,
     };
-    walk_runs(collector, d.row.id, edge, route, kept);
-    walk_runs(spine, d.row.id, edge, route, kept);
+    let ids = Ids {
+        bundle: d.row.id,
+        edge,
+    };
+    walk_runs(collector, ids, route, kept);
+    walk_runs(spine, ids, route, kept);
 }
 
 // Every route against a bundle.
 fn walk_bundle(row: DrawnBundle, routes: NamedRoutes, kept: &mut Rows)
     ensures same { SameSlices kept.old kept.new }
-    ensures rows { GrownBy kept.old kept.new (bundle_rows row routes.entry.ids.now (routes_of routes.entry.points.now routes.entry.counts.now) 0) }
+    ensures rows { GrownBy kept.old kept.new (bundle_rows row routes.entry.ids.now (routes_lent routes.entry.present) 0) }
 {
     let d = Walked {
         row,
         collector: contact_test::trunk_of(row.collector),
         spine: contact_test::trunk_of(row.spine),
     };
-    for (e, count) in routes.counts.iter().enumerate() {
-        let route = RouteView {
-            points: routes.points,
-            start: SLOT_POINTS * e,
-            count: *count,
-        };
-        walk_route(d, routes.ids[e], route, kept);
+    for (e, id) in routes.ids.iter().enumerate() {
+        walk_route(d, *id, route_slots::slot_of(routes.present, e), kept);
     }
 }
 
@@ -141,7 +141,7 @@ fn walk_bundle(row: DrawnBundle, routes: NamedRoutes, kept: &mut Rows)
 fn walk_bundles(drawn: DrawnBundles, routes: NamedRoutes, kept: &mut Rows)
     requires { drawn.count ≤ max_bundles }
     ensures same { SameSlices kept.old kept.new }
-    ensures rows { GrownBy kept.old kept.new (sheet_rows (take drawn.count drawn.rows) routes.entry.ids.now (routes_of routes.entry.points.now routes.entry.counts.now)) }
+    ensures rows { GrownBy kept.old kept.new (sheet_rows (take drawn.count drawn.rows) routes.entry.ids.now (routes_lent routes.entry.present)) }
 {
     for i in 0..drawn.count {
         walk_bundle(drawn.rows[i], routes, kept);
@@ -159,19 +159,19 @@ fn edge_ids(table: Edges, ids: &mut [u64])
 }
 
 // Every bundle in job order, where crossings are permitted; where they are not there are none, and
-// none is looked for. What was kept before goes.
+// none is looked for. What was kept before goes. permitted is bit 1 of the job's flags, as the definition
+// takes it.
 pub fn sheet_crossings(
     permitted: bool,
     table: Edges,
     drawn: DrawnBundles,
-    points: &[f64],
-    counts: &[usize],
+    present: PresentRoutes,
     kept: &mut Rows,
 )
     requires few { (table.count ≤ max_edges) × (drawn.count ≤ max_bundles) }
-    requires slots { (length counts.now ≡ table.count) × (slot_numbers * length counts.now ≤ length points.now) × Held counts.now }
+    requires each { length present.counts.now ≡ table.count }
     ensures same { SameSlices kept.old kept.new }
-    ensures rows { KeptIn (rows_met permitted table drawn points.now counts.now) kept.new }
+    ensures rows { KeptIn (rows_met permitted table drawn present.entry.points.now present.entry.counts.now) kept.new }
 {
     kept.count = 0;
     if !permitted {
@@ -180,8 +180,7 @@ pub fn sheet_crossings(
     let mut ids = [0; MAX_EDGES];
     edge_ids(table, &mut ids[..]);
     let routes = NamedRoutes {
-        points,
-        counts,
+        present,
         ids: &ids[..table.count],
     };
     walk_bundles(drawn, routes, kept);

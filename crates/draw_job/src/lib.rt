@@ -26,6 +26,7 @@ use limits::{MAX_MEMBERS, SEARCH_WORK};
 use outputs::Wants;
 use plan::Planning;
 use refusal::Refusal;
+use route::PresentRoutes;
 use search::TapVisits;
 use turns::TurnWork;
 
@@ -173,6 +174,8 @@ pub fn draw_in(
         Ok(()) => (),
         Err(refusal) => return answer::write_notice(answer, u8::from(refusal)),
     }
+    // Lent anew: the borrow checker covers no struct made of a `&mut` that was moved out of a parameter's field.
+    let counts = &mut counts[..];
     let off_grid = wants.page & !j.flags.on_grid;
     if wants.crossings {
         match crossing_output::list_crossings(
@@ -180,8 +183,10 @@ pub fn draw_in(
             off_grid,
             j.edges,
             d.drawn,
-            points,
-            counts,
+            PresentRoutes {
+                points,
+                counts: &counts[..],
+            },
             crossings,
         ) {
             Ok(()) => (),
@@ -202,5 +207,9 @@ pub fn draw_in(
         width: l.width,
         height: l.height,
     };
-    answer::write_answer(answer, frame, l.nodes, j.edges, points, counts, l.drawn, t)
+    let present = PresentRoutes {
+        points,
+        counts: &counts[..],
+    };
+    answer::write_answer(answer, frame, l.nodes, j.edges, present, l.drawn, t)
 }

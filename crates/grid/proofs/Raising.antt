@@ -24,6 +24,9 @@ use Rattle.grid.proofs.GridArithmetic.{lt→Belowℤ}
 use Rattle.grid.proofs.Operations.{add_size}
 use Rattle.grid.proofs.DraftingLaws.{at_parts, parts_small}
 use Rattle.grid.specs.DraftingGrid.{multiple_within, parts_of}
+use Rattle.grid.specs.Grids.{parts, raise}
+use Rattle.grid.specs.declared.Grid.{Grid}
+use Rattle.grid.specs.declared.Grid.TheVariants.{Drafting, Plan}
 
 -- ---- sums whose result has at most 53 digits
 balanced : (s t ox ux dx oy uy dy G pa la pb lb P L : ℕ)
@@ -83,10 +86,6 @@ at_of_equal g x y z t e a =
         let k' = simp (add-mul, mul_assoc, mul_comm, mul_left_comm) at (ap (λ (z : ℕ). z * dy) k) in
         eq_of_mul-eq-mul_right dx X (oy * G + l * dy) (p * dy + uy * G) (simp (add-mul, mul_assoc, mul_comm, mul_left_comm) (omega arith))
 
--- ---- 1.5 * 2 ^ (52 - g)
-abbrev pub raise : ℕ → Float
-raise g = fin false 3 (pos (51 - g))
-
 -- what is closed for each g: a number within 2 ^ 20 is raised to one between 2 ^ (52 - g) and 2 ^ (53 - g)
 pub record Raises (g : ℕ) : Type 0 where
   pub small : g ≤ 1074
@@ -107,6 +106,10 @@ to_a_64th = record { small = lit≤ tt; near = lit≤ tt; is_bottom = refl; is_t
 pub to_a_128th : Raises 7
 unfolding add le
 to_a_128th = record { small = lit≤ tt; near = lit≤ tt; is_bottom = refl; is_top = refl; at = record { is_finite = tt; is = refl }; as_large = tt; bottom_finite = tt; top_finite = tt; bottom_raised = tt; top_raised = tt }
+
+pub raises : (g : Grid) → Raises (parts g)
+raises Drafting = to_a_64th
+raises Plan = to_a_128th
 
 -- a number of the format from 2 ^ (52 - g) on is a multiple of 1 / 2 ^ g
 coarse_positive : (g P k i : ℕ) → P * 2 ^ g ≡ 2 ^ 52 → k < 2 ^ 53 → P * 2 ^ suc i ≤ k → suc i ≤ g
@@ -257,7 +260,7 @@ multiple g R s m e f low high = as_one (eqb (m * up e * 2 ^ g % down e) 0) (eq (
         eq→eqb q
 
 -- THE TEST: within 2 ^ 20, and equal after it is raised and lowered again
-pub by_raising : (g : ℕ) → Raises g → (x : Float) → T (fits binary64 x) → multiple_within g x ≡ cond (le (fin true 1 (pos 20)) x && le x (two_to 20)) (eq (sub binary64 (add binary64 x (raise g)) (raise g)) x) false
+pub by_raising : (g : ℕ) → Raises g → (x : Float) → T (fits binary64 x) → multiple_within g x ≡ ((le (fin true 1 (pos 20)) x && le x (two_to 20)) && eq (sub binary64 (add binary64 x (raise g)) (raise g)) x)
 unfolding multiple_within
 by_raising g R nan f = unfold le in refl
 by_raising g R (inf true) f = unfold le in refl
@@ -274,7 +277,7 @@ by_raising g R (fin s m e) f =
     true_right true = refl
     true_right false = refl
 
-    go : (p q : Bool) → le (fin true 1 (pos 20)) (fin s m e) ≡ p → le (fin s m e) (two_to 20) ≡ q → (eqb (m * up e * 2 ^ g % down e) 0 && (p && q)) ≡ cond (p && q) (eq (sub binary64 (add binary64 (fin s m e) (raise g)) (raise g)) (fin s m e)) false
+    go : (p q : Bool) → le (fin true 1 (pos 20)) (fin s m e) ≡ p → le (fin s m e) (two_to 20) ≡ q → (eqb (m * up e * 2 ^ g % down e) 0 && (p && q)) ≡ ((p && q) && eq (sub binary64 (add binary64 (fin s m e) (raise g)) (raise g)) (fin s m e))
     go true true a b = true_right (eqb (m * up e * 2 ^ g % down e) 0) ∙ multiple g R s m e f (subst T (sym a) tt) (subst T (sym b) tt)
     go true false a b = false_right (eqb (m * up e * 2 ^ g % down e) 0)
     go false q a b = false_right (eqb (m * up e * 2 ^ g % down e) 0)

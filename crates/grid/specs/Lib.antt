@@ -1,2 +1,3 @@
 pub mod On
 pub mod DraftingGrid
+pub mod Grids

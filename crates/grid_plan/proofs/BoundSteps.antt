@@ -9,7 +9,6 @@ use mathlib.Core.List.{List, [], ◌∷◌, ◌++◌}
 use Rattle.binary64.specs.Order.{least}
 use Rattle.geometry.specs.declared.Role.{Role}
 use Rattle.geometry.specs.declared.Role.TheVariants.{Input, Output}
-use Rattle.search.specs.declared.CollectorBounds.TheVariants.{Absent, Between}
 use Rattle.search.specs.Search.{Tried, held, lacked, unpaid, after, or_else, falls}
 use Rattle.plan.specs.Bounds as M
 use Rattle.grid_plan.specs.Board as Z
@@ -44,7 +43,7 @@ tighter_on Output (Some d) x = greatest_on d x
 pub unless_crossed_on : (low d high : ℤ) → M.unless_crossed (on low) (on d) (on high) ≡ collector (B.unless_crossed low d high)
 unless_crossed_on low d high = rw (lt_on high low, clamped_on d low high) (go (below high low))
   where
-    go : (t : Bool) → cond t Absent (Between (record { minimum = on low; desired = on (B.clamped d low high); maximum = on high })) ≡ collector (cond t None (Some (record { minimum = low; desired = B.clamped d low high; maximum = high })))
+    go : (t : Bool) → cond t None (Some (record { minimum = on low; desired = on (B.clamped d low high); maximum = on high })) ≡ collector (cond t None (Some (record { minimum = low; desired = B.clamped d low high; maximum = high })))
     go true = refl
     go false = refl
 

@@ -20,7 +20,6 @@ use Rattle.geometry.specs.Points.{Route}
 use Rattle.board.specs.declared.Bundle.{Bundle}
 use Rattle.board.specs.declared.Member.{Member}
 use Rattle.board.specs.Board.{rail_depth}
-use Rattle.search.specs.declared.CollectorBounds.TheVariants.{Absent}
 use Rattle.search.specs.Stretches as T
 use Rattle.plan.specs.declared.Bound.{Bound}
 use Rattle.plan.specs.declared.Bound.TheVariants as bounded
@@ -171,7 +170,7 @@ module _ (b : Z.Board) (routes : List Z.Route) (good : OnDraftingGrid b routes) 
       ap (λ (o : Bound). M.bounds_with (board b) u (bound lower) (bound upper) o) (reach_all_on u.role None (Z.members_in b u))
       ∙ go (leb u.width 1) (leb u.count 1) (B.reach_all b routes u.role None (Z.members_in b u))
     where
-      go : (s t : Bool) (o : Option ℤ) → cond s Absent (cond t Absent (M.if_at (bound o) Absent (M.between (board b) u (bound lower) (bound upper) u.role))) ≡ collector (cond s None (cond t None (B.if_at o None (B.between b u lower upper u.role))))
+      go : (s t : Bool) (o : Option ℤ) → cond s None (cond t None (M.if_at (bound o) None (M.between (board b) u (bound lower) (bound upper) u.role))) ≡ collector (cond s None (cond t None (B.if_at o None (B.between b u lower upper u.role))))
       go true t o = refl
       go false true o = refl
       go false false None = refl

@@ -15,7 +15,7 @@ use Rattle.geometry.specs.Points.{Route}
 use Rattle.geometry.specs.Stretch as G
 use Rattle.board.specs.declared.Bundle.{Bundle}
 use Rattle.board.specs.declared.Member.{Member}
-use Rattle.search.specs.declared.CollectorBounds.{CollectorBounds}
+use Rattle.search.specs.declared.Bounds.{Bounds}
 use Rattle.search.specs.declared.Searched.{Searched}
 use Rattle.search.specs.Search.{search_of}
 use Rattle.plan.specs.declared.Bound.{Bound}
@@ -212,7 +212,7 @@ module _ (b : Z.Board) (routes : List Z.Route) (good : OnDraftingGrid b routes) 
 
   seek_on : (u : Bundle) (lower upper : Option ℤ) (v : ℕ) → OfOption Held lower → OfOption Held upper → K.seek search_of (board b) F u (bound lower) (bound upper) v ≡ searched (P.seek b routes u lower upper v)
   seek_on u lower upper v l h =
-      ap (λ (c : CollectorBounds). K.seek_in search_of (board b) F u c v) (bounds_on b routes good u lower upper)
+      ap (λ (c : Option Bounds). K.seek_in search_of (board b) F u c v) (bounds_on b routes good u lower upper)
       ∙ go (B.bounds_of b routes u lower upper) (bounds_are b routes good Held (held_sized (2 ^ 45) (omega arith)) u lower upper l h)
     where
       go : (c : Option S.Bounds) → OfCollector Held c → K.seek_in search_of (board b) F u (collector c) v ≡ searched (P.seek_in b routes u c v)
@@ -266,8 +266,8 @@ module _ (b : Z.Board) (routes : List Z.Route) (good : OnDraftingGrid b routes) 
   first_pass_on (u ∷ us) v =
       ap (λ (s : Searched). next s (K.first_pass search_of (board b) F us s.left.0)) (seek_on u None None v tt tt)
       ∙ ap (next (searched (P.seek b routes u None None v))) (first_pass_on us (P.seek b routes u None None v).left)
-      ∙ ap (λ (c : CollectorBounds). record { ranges = K.ranged u c (outcome (P.seek b routes u None None v).outcome) ∷ map ranged (P.first_pass b routes us (P.seek b routes u None None v).left).ranges; left = (P.first_pass b routes us (P.seek b routes u None None v).left).left }) (bounds_on b routes good u None None)
-      ∙ ap (λ (c : CollectorBounds). record { ranges = record { bundle = u; bounds = c } ∷ map ranged (P.first_pass b routes us (P.seek b routes u None None v).left).ranges; left = (P.first_pass b routes us (P.seek b routes u None None v).left).left }) (narrowed_on (B.bounds_of b routes u None None) (P.seek b routes u None None v).outcome)
+      ∙ ap (λ (c : Option Bounds). record { ranges = K.ranged u c (outcome (P.seek b routes u None None v).outcome) ∷ map ranged (P.first_pass b routes us (P.seek b routes u None None v).left).ranges; left = (P.first_pass b routes us (P.seek b routes u None None v).left).left }) (bounds_on b routes good u None None)
+      ∙ ap (λ (c : Option Bounds). record { ranges = record { bundle = u; bounds = c } ∷ map ranged (P.first_pass b routes us (P.seek b routes u None None v).left).ranges; left = (P.first_pass b routes us (P.seek b routes u None None v).left).left }) (narrowed_on (B.bounds_of b routes u None None) (P.seek b routes u None None v).outcome)
     where
       next : Searched → K.FirstPass → K.FirstPass
       next s rest = record { ranges = K.ranged u (M.bounds_of (board b) F u bounded.None bounded.None) s.outcome ∷ rest.ranges; left = rest.left }

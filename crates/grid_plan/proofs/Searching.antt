@@ -9,8 +9,6 @@ use Rattle.geometry.specs.declared.Role.{Role}
 use Rattle.geometry.specs.declared.Role.TheVariants.{Input, Output}
 use Rattle.geometry.specs.Points.{runs}
 use Rattle.geometry.specs.Stretch as G
-use Rattle.search.specs.declared.Candidate.{Candidate}
-use Rattle.search.specs.declared.Candidate.TheVariants as C
 use Rattle.search.specs.Stretches as T
 use Rattle.search.specs.Search as F
 use Rattle.search.specs.Search.{Tried, held, lacked, unpaid, after, falls}
@@ -88,9 +86,9 @@ nearest_on : (role : Role) (l h d : ℤ) → F.nearest role (on l) (on h) (on d)
 nearest_on Input l h d = least_on h d
 nearest_on Output l h d = greatest_on l d
 
-abbrev candidacy : Option ℤ → Candidate
-candidacy None = C.Missing
-candidacy (Some z) = C.At (on z)
+abbrev candidacy : Option ℤ → Option Float
+candidacy None = None
+candidacy (Some z) = Some (on z)
 
 candidate_on : (role : Role) (r : S.Bounds) (s : Option S.Stretch) → F.candidate role (bounds r) (stretch s) ≡ candidacy (S.candidate role r s)
 candidate_on role r None = refl
@@ -98,7 +96,7 @@ candidate_on role r (Some s) =
     rw (least_on s.high r.maximum, greatest_on s.low r.minimum, lt_on (smaller s.high r.maximum) (larger s.low r.minimum), nearest_on role (larger s.low r.minimum) (smaller s.high r.maximum) r.desired)
     (go (below (smaller s.high r.maximum) (larger s.low r.minimum)) (S.nearest role (larger s.low r.minimum) (smaller s.high r.maximum) r.desired))
   where
-    go : (t : Bool) (z : ℤ) → cond t C.Missing (C.At (on z)) ≡ candidacy (cond t None (Some z))
+    go : (t : Bool) (z : ℤ) → cond t None (Some (on z)) ≡ candidacy (cond t None (Some z))
     go true z = refl
     go false z = refl
 

@@ -10,8 +10,6 @@ use Rattle.board.specs.declared.PlacedNode.{PlacedNode}
 use Rattle.board.specs.declared.Port.{Port}
 use Rattle.board.specs.Board.{Board}
 use Rattle.search.specs.declared.Bounds.{Bounds}
-use Rattle.search.specs.declared.CollectorBounds.{CollectorBounds}
-use Rattle.search.specs.declared.CollectorBounds.TheVariants.{Absent, Between}
 use Rattle.plan.specs.declared.Bound.{Bound}
 use Rattle.plan.specs.declared.Bound.TheVariants as bounded
 use Rattle.plan.specs.Plan.{Ranged, Plan, FirstPass}
@@ -55,9 +53,9 @@ bound (Some z) = bounded.At (on z)
 abbrev pub bounds : S.Bounds → Bounds
 bounds r = record { minimum = on r.minimum; desired = on r.desired; maximum = on r.maximum }
 
-abbrev pub collector : Option S.Bounds → CollectorBounds
-collector None = Absent
-collector (Some r) = Between (bounds r)
+abbrev pub collector : Option S.Bounds → Option Bounds
+collector None = None
+collector (Some r) = Some (bounds r)
 
 abbrev pub ranged : P.Ranged → Ranged
 ranged s = record { bundle = s.bundle; bounds = collector s.bounds }

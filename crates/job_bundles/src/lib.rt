@@ -4,13 +4,45 @@
 
 ghost use Rattle.std.specs.Prelude.{◌≡◌, ◌<◌, ◌≤◌, length};
 ghost use Rattle.limits.specs.Limits.{max_bundles, max_members};
+ghost use Rattle.job.specs.Job.{bundle_of, member_of};
 ghost use Rattle.job.specs.Reads.{BundlesTold};
 
 use board::{Bundle, Bundles, Member, Members, NO_BUNDLE};
-use job::BundlesRead;
+use job::{BundlesRead, RawBundle, RawMember};
 use job_keys::TableKeys;
 use limits::{MAX_BUNDLES, MAX_MEMBERS};
 use refusal::Refusal;
+
+// ---- rows
+
+// A bundle's row, where its node and its port are known.
+#[tactic(auto, unfolding(job::specs::Job::bundle_of, job::specs::Keys::known_then))]
+fn bundle_row(b: RawBundle, tables: TableKeys) -> Option<Bundle>
+    ensures { result ≡ bundle_of tables.entry.nodes.now tables.entry.ports.now b }
+{
+    job_keys::find(tables.nodes, 0, (b.node, 0))?;
+    let port = job_keys::find(tables.ports, 0, (b.node, b.port))?;
+    Some(Bundle {
+        id: b.id,
+        port,
+        role: b.role,
+        width: b.width,
+        first: b.first,
+        count: b.count,
+    })
+}
+
+// A member's row, where its edge is known.
+#[tactic(auto, unfolding(job::specs::Job::member_of, job::specs::Keys::known_then))]
+fn member_row(m: RawMember, tables: TableKeys) -> Option<Member>
+    ensures { result ≡ member_of tables.entry.edges.now m }
+{
+    let edge = job_keys::find(tables.edges, 0, (m.edge, 0))?;
+    Some(Member {
+        edge,
+        tap_lane: m.tap_lane,
+    })
+}
 
 // ---- tables
 //
@@ -43,26 +75,15 @@ pub fn read_bundles<'a>(
         let role_key = job_records::number_of_role(b.role);
         for j in 0..b.count {
             let x = job_records::member_at(s, at + 19 + 6 * j, b.role)?;
-            let f = job_keys::find(tables.edges, 0, (x.edge, 0));
-            members_known = members_known & f.is_some();
-            member_rows[total] = Member {
-                edge: f.unwrap_or(0),
-                tap_lane: x.tap_lane,
-            };
+            let row = member_row(x, tables);
+            members_known = members_known & row.is_some();
+            member_rows[total] = row.unwrap_or(nobody);
             member_keys[total] = (x.edge, role_key);
             total += 1;
         }
-        let f = job_keys::find(tables.nodes, 0, (b.node, 0));
-        let g = job_keys::find(tables.ports, 0, (b.node, b.port));
-        known = known & (f.is_some() & g.is_some());
-        rows[i] = Bundle {
-            id: b.id,
-            port: g.unwrap_or(0),
-            role: b.role,
-            width: b.width,
-            first: b.first,
-            count: b.count,
-        };
+        let row = bundle_row(b, tables);
+        known = known & row.is_some();
+        rows[i] = row.unwrap_or(NO_BUNDLE);
         keys[i] = (b.id, 0);
         at += 19 + 6 * b.count;
     }

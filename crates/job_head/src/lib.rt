@@ -41,7 +41,8 @@ fn flags_of(n: u32) -> Result<Flags, Refusal>
 
 // ---- the head
 
-// Places are asked to be below job_room, and are numbers, as in crate wire.
+// Places are asked to be below job_room, and are numbers, and bytes, place and grid flag are no struct, as in
+// crate wire.
 
 pub fn options_at(s: &[u8], grid: bool, at: usize) -> Result<Options, Refusal>
     requires { at < job_room }

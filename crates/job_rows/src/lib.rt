@@ -6,19 +6,51 @@ ghost use Rattle.std.specs.Prelude.{◌≡◌, ◌+◌, ◌*◌, ◌<◌, ◌≤
 ghost use Rattle.limits.specs.Limits.{max_nodes, max_ports, max_edges, max_route_points, max_points, point_numbers};
 ghost use Rattle.wire.specs.Read.{many};
 ghost use Rattle.geometry.specs.Points.{points_from};
-ghost use Rattle.job.specs.Job.{point, push};
+ghost use Rattle.job.specs.Job.{point, push, port_of, edge_of};
 ghost use Rattle.job.specs.Reads.{ended_as, NodesTold, PortsTold, EdgesTold};
 
 use board::{Edge, PlacedNode, Port};
 use geometry::{Node, Point, Side};
-use job::{EdgesRead, NodesRead, PortsRead};
+use job::{EdgesRead, NodesRead, PortsRead, RawEdge, RawPort};
 use limits::{MAX_EDGES, MAX_NODES, MAX_PORTS};
 use refusal::Refusal;
+
+// ---- rows
+
+// A port's row, where its node is known.
+#[tactic(auto, unfolding(job::specs::Job::port_of, job::specs::Keys::known_then))]
+fn port_row(p: RawPort, nodes: &[(u64, u64)]) -> Option<Port>
+    ensures { result ≡ port_of nodes.now p }
+{
+    let node = job_keys::find(nodes, 0, (p.node, 0))?;
+    Some(Port {
+        node,
+        id: p.id,
+        side: p.side,
+        offset: p.offset,
+    })
+}
+
+// An edge's row, where both its nodes are known.
+#[tactic(auto, unfolding(job::specs::Job::edge_of, job::specs::Keys::known_then))]
+fn edge_row(e: RawEdge, nodes: &[(u64, u64)]) -> Option<Edge>
+    ensures { result ≡ edge_of nodes.now e }
+{
+    let source = job_keys::find(nodes, 0, (e.source, 0))?;
+    let target = job_keys::find(nodes, 0, (e.target, 0))?;
+    Some(Edge {
+        id: e.id,
+        source,
+        target,
+        first: e.first,
+        count: e.count,
+    })
+}
 
 // ---- tables
 //
 // The keys of a table's rows go to a lent slice, which has one place for each row. An id is looked up in
-// the keys of the tables before.
+// the keys of the tables before. Bytes, place and grid flag are no struct, as in crate wire.
 
 pub fn read_nodes(
     s: &[u8],
@@ -69,14 +101,9 @@ pub fn read_ports(
     let mut at = from;
     for i in 0..count {
         let p = job_records::port_at(s, grid, at)?;
-        let f = job_keys::find(nodes, 0, (p.node, 0));
-        known = known & f.is_some();
-        rows[i] = Port {
-            node: f.unwrap_or(0),
-            id: p.id,
-            side: p.side,
-            offset: p.offset,
-        };
+        let port = port_row(p, nodes);
+        known = known & port.is_some();
+        rows[i] = port.unwrap_or(none);
         keys[i] = (p.node, p.id);
         at += 17;
     }
@@ -131,16 +158,9 @@ pub fn read_edges(
     for i in 0..count {
         let e = job_records::edge_head_at(s, at, total)?;
         read_points(s, at + 22, e.count, total, points, grid)?;
-        let f = job_keys::find(nodes, 0, (e.source, 0));
-        let g = job_keys::find(nodes, 0, (e.target, 0));
-        known = known & (f.is_some() & g.is_some());
-        rows[i] = Edge {
-            id: e.id,
-            source: f.unwrap_or(0),
-            target: g.unwrap_or(0),
-            first: e.first,
-            count: e.count,
-        };
+        let edge = edge_row(e, nodes);
+        known = known & edge.is_some();
+        rows[i] = edge.unwrap_or(none);
         keys[i] = (e.id, 0);
         at += 22 + 16 * e.count;
         total += e.count;

@@ -6,22 +6,17 @@
 
 #![tactic(auto)]
 
-ghost use Rattle.std.specs.Prelude.{◌≡◌, ◌+◌, ◌*◌, ◌<◌, length, get_or, is_ok, IfErr};
-ghost use Rattle.limits.specs.Limits.{slot_points};
-ghost use Rattle.geometry.specs.Points.{points_from};
-ghost use Rattle.geometry.specs.Lent.{route_lent};
+ghost use Rattle.std.specs.Prelude.{◌≡◌, ◌+◌, ◌*◌, ◌<◌, length, is_ok, IfErr};
 ghost use Rattle.refusal.specs.declared.Refusal.TheVariants.{GeometryVisitsSpent};
 ghost use Rattle.drawing.specs.Build.{tap_of};
 ghost use Rattle.drawing.specs.Check.{own, clash};
 ghost use Rattle.checks.specs.Purse.{charged};
-ghost use Rattle.checks.specs.CheckRows.{box_at, edge_at};
 ghost use Rattle.checks.specs.Lent.{taps_lent, chosen_lent};
 
 use board::Edge;
-use checks::{BundleTaps, ChosenRoutes, PresentRoutes, Rules};
+use checks::{BundleTaps, ChosenRoutes, Rules};
 use drawing::GeometryVisits;
-use geometry::{Node, Point, RouteView, Segment};
-use limits::SLOT_POINTS;
+use geometry::{Point, Segment};
 use refusal::Refusal;
 
 // consume_geometry_visit: one visit is paid before each look, if one is left.
@@ -48,18 +43,6 @@ pub fn is_chosen(chosen: ChosenRoutes, e: usize) -> bool
     match chosen.mask {
         Some(mask) => mask[e],
         None => true,
-    }
-}
-
-// Route e in its slot.
-pub fn slot_of(present: PresentRoutes, e: usize) -> RouteView
-    requires { e < length present.counts.now }
-    ensures { route_lent result ≡ points_from present.entry.points.now (slot_points * e) (get_or present.entry.counts.now e 0) }
-{
-    RouteView {
-        points: present.points,
-        start: SLOT_POINTS * e,
-        count: present.counts[e],
     }
 }
 
@@ -95,33 +78,4 @@ pub fn is_own(e: Edge, j: usize) -> bool
     ensures { result ≡ own e j }
 {
     (j == e.source) | (j == e.target)
-}
-
-// Node i of boxes, which has four numbers a node: corner x, corner y, width, height.
-#[tactic(auto, unfolding(checks::specs::CheckRows::box_at))]
-pub fn box_at(boxes: &[f64], i: usize) -> Node
-    requires { 4 * i + 3 < length boxes.now }
-    ensures { result ≡ (box_at boxes.now i).body }
-{
-    let size = route_views::point_at(boxes, 2 * i + 1);
-    Node {
-        corner: route_views::point_at(boxes, 2 * i),
-        width: size.x,
-        height: size.y,
-    }
-}
-
-// Edge i of ends, which has two numbers an edge: the places of its source and of its target.
-#[tactic(auto, unfolding(checks::specs::CheckRows::edge_at))]
-pub fn edge_at(ends: &[usize], i: usize) -> Edge
-    requires { 2 * i + 1 < length ends.now }
-    ensures { result ≡ edge_at ends.now i }
-{
-    Edge {
-        id: 0,
-        source: ends[2 * i],
-        target: ends[2 * i + 1],
-        first: 0,
-        count: 0,
-    }
 }

@@ -106,21 +106,19 @@ fn rewrite_member(
         start: SLOT_POINTS * e,
         count: n,
     };
-    match rewrite_route(lead, depth, tap, given, &mut scratch[..]) {
-        None => Err(Refusal::TapUnreachable),
-        Some(m) => {
-            if m < 2 {
-                return Err(Refusal::TapUnreachable);
-            }
-            let made = RouteView {
-                points: &scratch[..],
-                start: 0,
-                count: m,
-            };
-            route_slots::store_route(made, &mut points[..], &mut counts[..], e);
-            Ok(())
-        }
+    let m = rewrite_route(lead, depth, tap, given, &mut scratch[..]).ok_or(
+        Refusal::TapUnreachable,
+    )?;
+    if m < 2 {
+        return Err(Refusal::TapUnreachable);
     }
+    let made = RouteView {
+        points: &scratch[..],
+        start: 0,
+        count: m,
+    };
+    route_slots::store_route(made, &mut points[..], &mut counts[..], e);
+    Ok(())
 }
 
 // Every member's route rewritten. Where one cannot be (10), what the slots hold is not said.

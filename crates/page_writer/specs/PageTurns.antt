@@ -1,7 +1,7 @@
 -- The turns of the loop that writes a page. Assumes nothing.
-use Rattle.std.specs.Prelude.{◌≡◌, ℕ, ◌+◌, ◌<◌, ◌≤◌, false, List, length, take, drop, pos, slice_index_or, Float}
+use Rattle.std.specs.Prelude.{◌≡◌, ℕ, ◌+◌, ◌<◌, ◌≤◌, false, List, length, take, drop, slice_index_or, Float}
 use Rattle.std.proofs.Common.{ap, ◌∙◌, arith, length-take-le}
-use Rattle.std.specs.Float.{fin}
+use Rattle.std.specs.Float.{nan}
 use Rattle.std.proofs.lemmas.List.Edits.{sets}
 use Rattle.limits.specs.Limits.{max_bundles, id_columns, page_room}
 use Rattle.binary64.specs.Order.{least, greatest}
@@ -25,9 +25,10 @@ entry_written w b o o' at x low high lo hi X L l H h e =
     e ∙ rw (X, l', h')
 
 -- ---- a turn of the loop over the bundles
-some_bundle : DrawnBundle
+-- what a read past a list's end gives
+abbrev pub some_bundle : DrawnBundle
 some_bundle =
-    let p : Point = record { x = fin false 0 (pos 0); y = fin false 0 (pos 0) } in
+    let p : Point = record { x = nan; y = nan } in
     let s : Segment = record { start = p; end = p } in
     record { id = 0; interior = false; collector = s; spine = s; first = 0; count = 0 }
 

@@ -50,8 +50,8 @@ pub fn put_page(out: &mut [u8], t: DrawnBundles) -> usize
     ensures place { result ≡ length (page_bytes id_columns (take t.count t.rows)) }
 {
     let mut at: usize = 0;
-    for i in 0..t.count {
-        at = put_entry(out, at, ID_COLUMNS, t.rows[i]);
+    for b in &t.rows[..t.count] {
+        at = put_entry(out, at, ID_COLUMNS, *b);
     }
     at
 }

@@ -6,12 +6,13 @@
 
 #![tactic(auto)]
 
-ghost use Rattle.std.specs.Prelude.{◌≡◌, ◌*◌, ◌≤◌, map, take, length};
+ghost use Rattle.std.specs.Prelude.{◌≡◌, ◌≤◌, map, take, length};
 ghost use Rattle.limits.specs.Limits.{max_bundles};
 ghost use Rattle.drawing.specs.Check.{walk, over_routes, contact_tests};
 ghost use Rattle.checks.specs.Purse.{told};
 ghost use Rattle.checks.specs.CheckRows.{inside_route, Tabled};
-ghost use Rattle.checks.specs.Lent.{routes_lent, chosen_lent, drawn_lent, RowsLent};
+ghost use Rattle.route.specs.Lent.{routes_lent};
+ghost use Rattle.checks.specs.Lent.{chosen_lent, drawn_lent, RowsLent};
 
 use board::{DrawnBundle, DrawnBundles};
 use checks::{BoardSlices, ChosenRoutes, MemberTaps, Rules};
@@ -41,20 +42,20 @@ pub fn verify_new_bundle_route_contacts(
 }
 
 // The chosen routes, in the order of the routes.
-#[tactic(auto, using(checks::proofs::TestSteps::over_skip, checks::proofs::TestSteps::over_on, checks::proofs::TestSteps::over_off, checks::proofs::TestSteps::over_end, checks::proofs::TestSteps::edge_tests))]
+#[tactic(auto, using(checks::proofs::TestSteps::over_skip, checks::proofs::TestSteps::over_on, checks::proofs::TestSteps::over_off, checks::proofs::TestSteps::over_end))]
 pub fn verify_one_bundle_route_node_interiors(
     board: BoardSlices,
     chosen: ChosenRoutes,
     visits: &mut GeometryVisits,
 ) -> Result<(), Refusal>
-    requires { 2 * length chosen.routes.counts.now ≤ length board.ends.now }
-    ensures { told result visits.new.0 ≡ walk 12 (over_routes (inside_route board.entry.boxes.now board.entry.ends.now) (chosen_lent chosen.entry) (routes_lent chosen.entry.routes) 0) visits.old.0 }
+    requires { length chosen.routes.counts.now ≤ length board.edges.now }
+    ensures { told result visits.new.0 ≡ walk 12 (over_routes (inside_route board.entry.nodes.now board.entry.edges.now) (chosen_lent chosen.entry) (routes_lent chosen.entry.routes) 0) visits.old.0 }
 {
+    // By index, the route's number: the mask, the slot and the edge go by it.
     for e in 0..chosen.routes.counts.len() {
         if looks::is_chosen(chosen, e) {
-            let edge = looks::edge_at(board.ends, e);
-            let route = looks::slot_of(chosen.routes, e);
-            route_interiors::route_inside(board.boxes, edge, route, visits)?;
+            let route = route_slots::slot_of(chosen.routes, e);
+            route_interiors::route_inside(board.nodes, board.edges[e], route, visits)?;
         }
     }
     Ok(())

@@ -1,5 +1,6 @@
 -- Two ways to search that say the same, while the counts of visits that they leave stay related: the plans of both say the same, and their counts are related.
 -- Assumes nothing.
+use Rattle.std.specs.declared.option.Option.TheVariants as option
 use Rattle.std.proofs.Math.Path.{◌≡◌, ap, subst}
 use Rattle.std.specs.Prelude.{refl, Bool, cond, ◌||◌, ℕ, length, replicate, Float, Option}
 use Rattle.std.proofs.Common.{sym, ◌∙◌}
@@ -20,8 +21,6 @@ use Rattle.search.specs.declared.Outcome.TheVariants as outcome
 use Rattle.search.specs.declared.Searched.{Searched}
 use Rattle.search.specs.Search.{answer}
 use Rattle.plan.specs.Depths.{◌⊕◌, ◌⊖◌, pitch_of, parting_pitch}
-use Rattle.search.specs.declared.CollectorBounds.{CollectorBounds}
-use Rattle.search.specs.declared.CollectorBounds.TheVariants.{Absent, Between}
 use Rattle.plan.specs.Bounds.{bounds_of, trunks}
 use Rattle.plan.proofs.Through as through
 use Rattle.plan.proofs.Through.{Kept}
@@ -68,9 +67,9 @@ module _ (look mate : Look) (twins : Twins look mate) (b : Board) (routes : List
   before {m} {n} h k = twins.before m n h k
 
   -- ---- one search
-  seek_in_alike : (u : Bundle) (r : CollectorBounds) (n w : ℕ) → R n w → Ok (seek_in look b routes u r n).left.0 → Alike R (seek_in look b routes u r n) (seek_in mate b routes u r w)
-  seek_in_alike u Absent n w h k = record { same = refl; counts = h }
-  seek_in_alike u (Between r) n w h k = twins.step u.role r (trunks b routes u) n w h k
+  seek_in_alike : (u : Bundle) (r : Option Bounds) (n w : ℕ) → R n w → Ok (seek_in look b routes u r n).left.0 → Alike R (seek_in look b routes u r n) (seek_in mate b routes u r w)
+  seek_in_alike u option.None n w h k = record { same = refl; counts = h }
+  seek_in_alike u (option.Some r) n w h k = twins.step u.role r (trunks b routes u) n w h k
 
   -- ---- the first pass
   pub first_pass_same : (us : List Bundle) (n w : ℕ) → R n w → Ok (first_pass look b routes us n).left → SamePass R (first_pass look b routes us n) (first_pass mate b routes us w)
@@ -202,12 +201,12 @@ module _ (look mate : Look) (twins : Twins look mate) (b : Board) (routes : List
       → Alike R (look_beside look b routes s x ys n) (look_beside mate b routes s x ys w)
   look_beside_alike s x ys n w h = go s.bounds
     where
-      at : Look → ℕ → CollectorBounds → Searched
+      at : Look → ℕ → Option Bounds → Searched
       at any v r = if_between r (answer outcome.Nothing v) (λ r. any s.bundle.role (cut_to s.bundle.role r (moved (pitch_of b s.bundle) s.bundle.role r x ys)) (trunks b routes s.bundle) v)
 
-      go : (r : CollectorBounds) → Ok (at look n r).left.0 → Alike R (at look n r) (at mate w r)
-      go Absent k = record { same = refl; counts = h }
-      go (Between r) k = twins.step s.bundle.role (cut_to s.bundle.role r (moved (pitch_of b s.bundle) s.bundle.role r x ys)) (trunks b routes s.bundle) n w h k
+      go : (r : Option Bounds) → Ok (at look n r).left.0 → Alike R (at look n r) (at mate w r)
+      go option.None k = record { same = refl; counts = h }
+      go (option.Some r) k = twins.step s.bundle.role (cut_to s.bundle.role r (moved (pitch_of b s.bundle) s.bundle.role r x ys)) (trunks b routes s.bundle) n w h k
 
   beside_alike : (s : Ranged) (x : Bound) (ys : List Float) (n w : ℕ) → R n w → Ok (beside look b routes s x ys n).left.0 → Alike R (beside look b routes s x ys n) (beside mate b routes s x ys w)
   beside_alike s None ys n w h = λ k. record { same = refl; counts = h }

@@ -1,9 +1,10 @@
 -- What holds of every x that a search finds, given what holds of its bounds, holds of every planned x; and there are as many planned x as bundles. Whatever was granted, and whether collectors of one role are separated or not.
 -- Assumes nothing.
+use Rattle.std.specs.declared.option.Option.TheVariants as option
 use Prim.Native.Nat.{ℕ, zero, suc, ◌<◌}
 use Rattle.std.proofs.Math.Path.{◌≡◌, refl, ap}
 use Rattle.std.proofs.Common.{sym, ◌∙◌, subst, true≢false, arith, leb-false}
-use Rattle.std.specs.Prelude.{Bool, ◌||◌, T, length, replicate, Float}
+use Rattle.std.specs.Prelude.{Bool, ◌||◌, T, length, replicate, Float, Option}
 use Rattle.std.proofs.Math.Bool.{true, false, not, cond}
 use mathlib.Core.List.{List, [], ◌∷◌, map}
 use Rattle.std.proofs.Math.Dec.{leb}
@@ -22,8 +23,6 @@ use Rattle.board.specs.declared.Bundle.{Bundle}
 use Rattle.board.specs.declared.Member.{Member}
 use Rattle.board.specs.Board.{Board, rail_depth}
 use Rattle.search.specs.declared.Bounds.{Bounds}
-use Rattle.search.specs.declared.CollectorBounds.{CollectorBounds}
-use Rattle.search.specs.declared.CollectorBounds.TheVariants.{Absent, Between}
 use Rattle.search.specs.declared.Outcome.{Outcome}
 use Rattle.search.specs.declared.Outcome.TheVariants as outcome
 use Rattle.search.specs.Search.{answer}
@@ -70,14 +69,14 @@ module _ (look : Look) (b : Board) (routes : List Route) (traits : Traits look b
       go None s f = tt
       go (At x) s f = f x s
 
-  abbrev FineBounds : CollectorBounds → Type 0
-  FineBounds Absent = Unit {0}
-  FineBounds (Between r) = OfBounds Q r
+  abbrev FineBounds : Option Bounds → Type 0
+  FineBounds option.None = Unit {0}
+  FineBounds (option.Some r) = OfBounds Q r
 
   crossed_fine : (low d high : Float) → Q low → Q d → Q high → FineBounds (unless_crossed low d high)
   crossed_fine low d high s t w = go (lt high low)
     where
-      go : (k : Bool) → FineBounds (cond k Absent (Between (record { minimum = low; desired = clamped d low high; maximum = high })))
+      go : (k : Bool) → FineBounds (cond k option.None (option.Some (record { minimum = low; desired = clamped d low high; maximum = high })))
       go true = tt
       go false = (s, of_clamped Q d low high t s w, w)
 
@@ -97,18 +96,18 @@ module _ (look : Look) (b : Board) (routes : List Route) (traits : Traits look b
   unfolding bounds_of
   bounds_fine u lower upper l h = go (leb u.width 1) (leb u.count 1) (reach_all b routes u.role None (members_in b u)) (reach_all_fine u.role None (members_in b u) tt)
     where
-      go : (s t : Bool) (r : Bound) → OfBound Q r → FineBounds (cond s Absent (cond t Absent (if_at r Absent (between b u lower upper u.role))))
+      go : (s t : Bool) (r : Bound) → OfBound Q r → FineBounds (cond s option.None (cond t option.None (if_at r option.None (between b u lower upper u.role))))
       go true t r k = tt
       go false true r k = tt
       go false false None k = tt
       go false false (At d) k = between_fine u lower upper u.role d l h k
 
   -- bounds that are present are those of a bundle with more than one member
-  bounds_count : (u : Bundle) (lower upper : Bound) (r : Bounds) → bounds_of b routes u lower upper ≡ Between r → 1 < u.count
+  bounds_count : (u : Bundle) (lower upper : Bound) (r : Bounds) → bounds_of b routes u lower upper ≡ option.Some r → 1 < u.count
   unfolding bounds_of
-  bounds_count u lower upper r e = go (leb u.width 1) (leb u.count 1) refl (if_at (reach_all b routes u.role None (members_in b u)) Absent (between b u lower upper u.role)) e
+  bounds_count u lower upper r e = go (leb u.width 1) (leb u.count 1) refl (if_at (reach_all b routes u.role None (members_in b u)) option.None (between b u lower upper u.role)) e
     where
-      go : (s t : Bool) → leb u.count 1 ≡ t → (c : CollectorBounds) → cond s Absent (cond t Absent c) ≡ Between r → 1 < u.count
+      go : (s t : Bool) → leb u.count 1 ≡ t → (c : Option Bounds) → cond s option.None (cond t option.None c) ≡ option.Some r → 1 < u.count
       go true t f c e = let z : ◌≡◌ {A = ℕ} 0 1 = cc in absurd (omega arith)
       go false true f c e = let z : ◌≡◌ {A = ℕ} 0 1 = cc in absurd (omega arith)
       go false false f c e = omega (arith, leb-false)
@@ -116,9 +115,9 @@ module _ (look : Look) (b : Board) (routes : List Route) (traits : Traits look b
   seek_fine : (u : Bundle) (lower upper : Bound) (v : ℕ) → Windowed b u → OfBound Q lower → OfBound Q upper → OfBound P (found_x (seek look b routes u lower upper v).outcome)
   seek_fine u lower upper v w l h = go (bounds_of b routes u lower upper) refl (bounds_fine u lower upper l h)
     where
-      go : (c : CollectorBounds) → bounds_of b routes u lower upper ≡ c → FineBounds c → OfBound P (found_x (seek_in look b routes u c v).outcome)
-      go Absent e f = tt
-      go (Between r) e f = traits.found u r v w (bounds_count u lower upper r e) f
+      go : (c : Option Bounds) → bounds_of b routes u lower upper ≡ c → FineBounds c → OfBound P (found_x (seek_in look b routes u c v).outcome)
+      go option.None e f = tt
+      go (option.Some r) e f = traits.found u r v w (bounds_count u lower upper r e) f
 
   -- ---- the first pass
   -- a bundle of the board, and its bounds, if present, those of a bundle with more than one member
@@ -131,14 +130,14 @@ module _ (look : Look) (b : Board) (routes : List Route) (traits : Traits look b
   ranged_fine : (u : Bundle) (v : ℕ) → Windowed b u → Fine (ranged u (bounds_of b routes u None None) (seek look b routes u None None v).outcome)
   ranged_fine u v w = go (bounds_of b routes u None None) refl (bounds_fine u None None tt tt)
     where
-      at : (r : Bounds) (o : Outcome) → 1 < u.count → OfBounds Q r → OfBound P (found_x o) → Fine (ranged u (Between r) o)
+      at : (r : Bounds) (o : Outcome) → 1 < u.count → OfBounds Q r → OfBound P (found_x o) → Fine (ranged u (option.Some r) o)
       at r (outcome.Found x) h f s = record { windowed = w; counted = λ e. h; bounded = (f.0, traits.weaker x s, f.2); placed = s }
       at r outcome.Nothing h f s = record { windowed = w; counted = λ e. h; bounded = tt; placed = tt }
       at r outcome.Spent h f s = record { windowed = w; counted = λ e. h; bounded = tt; placed = tt }
 
-      go : (c : CollectorBounds) → bounds_of b routes u None None ≡ c → FineBounds c → Fine (ranged u c (seek_in look b routes u c v).outcome)
-      go Absent e f = record { windowed = w; counted = λ z. absurd (true≢false (sym z)); bounded = tt; placed = tt }
-      go (Between r) e f =
+      go : (c : Option Bounds) → bounds_of b routes u None None ≡ c → FineBounds c → Fine (ranged u c (seek_in look b routes u c v).outcome)
+      go option.None e f = record { windowed = w; counted = λ z. absurd (true≢false (sym z)); bounded = tt; placed = tt }
+      go (option.Some r) e f =
           let h = bounds_count u None None r e in
           at r (look u.role r (trunks b routes u) v).outcome h f (traits.found u r v w h f)
 
@@ -237,9 +236,9 @@ module _ (look : Look) (b : Board) (routes : List Route) (traits : Traits look b
     number_fine : (i : ℕ) (f : Bounds → Float) → ((r : Bounds) → OfBounds Q r → Q (f r)) → Q (if_between (ranged_at ranges i).bounds zero64 f)
     number_fine i f g = go (ranged_at ranges i).bounds (fine_at i).bounded
       where
-        go : (c : CollectorBounds) → FineBounds c → Q (if_between c zero64 f)
-        go Absent s = traits.none
-        go (Between r) s = g r s
+        go : (c : Option Bounds) → FineBounds c → Q (if_between c zero64 f)
+        go option.None s = traits.none
+        go (option.Some r) s = g r s
 
     again_shape : (lower upper : Bound → Bound) → ((x : Bound) → OfBound Q x → OfBound Q (lower x)) → ((x : Bound) → OfBound Q x → OfBound Q (upper x)) → (is : List ℕ) (p : Plan) → Shape n p.xs
         → Shape n (again look b routes ranges lower upper is p).xs
@@ -334,10 +333,10 @@ module _ (look : Look) (b : Board) (routes : List Route) (traits : Traits look b
   beside_fine s None ys v o h e = tt
   beside_fine s (At x) ys v o h e = go (clear (pitch_of b s.bundle) x ys)
     where
-      at : (c : CollectorBounds) → (found? c ≡ true → 1 < s.bundle.count) → FineBounds c
+      at : (c : Option Bounds) → (found? c ≡ true → 1 < s.bundle.count) → FineBounds c
           → OfBound P (found_x (if_between c (answer outcome.Nothing v) (λ r. look s.bundle.role (cut_to s.bundle.role r (moved (pitch_of b s.bundle) s.bundle.role r x ys)) (trunks b routes s.bundle) v)).outcome)
-      at Absent f g = tt
-      at (Between r) f g =
+      at option.None f g = tt
+      at (option.Some r) f g =
           let d = moved (pitch_of b s.bundle) s.bundle.role r x ys in
           traits.found s.bundle (cut_to s.bundle.role r d) v o.windowed (f refl) (cut_fine s.bundle.role r d g (moved_fine (pitch_of b s.bundle) s.bundle.role r x ys traits.pitch_fits g (traits.weaker x h) e))
 

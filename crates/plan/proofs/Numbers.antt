@@ -30,14 +30,13 @@ use Rattle.board.specs.Board.{Board, rail_depth}
 use Rattle.plan.specs.declared.Used.{Used}
 use Rattle.plan.specs.declared.Bound.{Bound}
 use Rattle.plan.specs.declared.Bound.TheVariants as bounded
+use Rattle.search.specs.declared.Bounds.{Bounds}
 use Rattle.search.specs.Stretches.{stretches, members}
 use Rattle.sorting.specs.Lists.{Every}
 use Rattle.sorting.specs.Sorted.{every_get_d}
 use Rattle.search.specs.BestOrder.{UpTo, far, Fair}
 use Rattle.search.specs.Good.{Real, RealStretch}
 use Rattle.plan.specs.Depths.{◌⊕◌, ◌⊖◌, number, same_role, no_port, no_node, port_of, node_of, endpoint_of, members_in, parting_pitch, inward, lanes, boundary_depth, lane_count, offset_past, last_depth, further, used_by, used, offset_of, used_after, offsets_from, offsets_of, corridor_x, corridor_among, first_of, corridor_from, corridor_of}
-use Rattle.search.specs.declared.CollectorBounds.{CollectorBounds}
-use Rattle.search.specs.declared.CollectorBounds.TheVariants.{Absent, Between}
 use Rattle.plan.specs.Bounds.{if_at, clamped, raised, lowered, route_of, first_x, last_x, map_bound, reach, tighter, reach_all, unless_crossed, between, bounds_of, trunks}
 use Rattle.plan.proofs.SmallNumbers.{Small, SmallBound, Numbers, small_real, wider, add_small, sub_small, least_small, greatest_small, zero_small, number_small, every_take, every_drop, lane_count_small, raised_small, lowered_small}
 
@@ -214,9 +213,9 @@ module _ (b : Board) (routes : List Route) (good : Numbers b routes) where
       go bounded.None s f = tt
       go (bounded.At x) s f = f x s
 
-  abbrev pub FairRange : Role → CollectorBounds → Type 0
-  FairRange role Absent = Unit {0}
-  FairRange role (Between r) = Fair role r
+  abbrev pub FairRange : Role → Option Bounds → Type 0
+  FairRange role None = Unit {0}
+  FairRange role (Some r) = Fair role r
 
   clamped_real : (d low high : Float) → Real d → Real low → Real high → Real (clamped d low high)
   clamped_real d low high r s t = either (lt high (greatest d low)) high (greatest d low) Real t (either (lt d low) low d Real s r)
@@ -241,7 +240,7 @@ module _ (b : Board) (routes : List Route) (good : Numbers b routes) where
       meets Input h a = le_antisymm_finite (clamped d low high) high (clamped_real d low high r s t).0 t.0 (least_le_right (greatest d low) high g.0 t.0) a
       meets Output h a = le_antisymm_finite (clamped d low high) low (clamped_real d low high r s t).0 s.0 a (up h)
 
-      go : (p : Bool) → lt high low ≡ p → FairRange role (cond p Absent (Between (record { minimum = low; desired = clamped d low high; maximum = high })))
+      go : (p : Bool) → lt high low ≡ p → FairRange role (cond p None (Some (record { minimum = low; desired = clamped d low high; maximum = high })))
       go true e = tt
       go false e =
           let h : T (le low high) = not_lt→le high low t.0 s.0 (subst (λ (z : Bool). T (not z)) (sym e) tt) in
@@ -282,7 +281,7 @@ module _ (b : Board) (routes : List Route) (good : Numbers b routes) where
   unfolding bounds_of
   bounds_fair u lower upper sl su = go (leb u.width 1) (leb u.count 1) (reach_all b routes u.role bounded.None (members_in b u)) (reach_all_small u.role bounded.None (members_in b u) tt)
     where
-      go : (s t : Bool) (r : Bound) → SmallBound 1002 r → FairRange u.role (cond s Absent (cond t Absent (if_at r Absent (between b u lower upper u.role))))
+      go : (s t : Bool) (r : Bound) → SmallBound 1002 r → FairRange u.role (cond s None (cond t None (if_at r None (between b u lower upper u.role))))
       go true t r h = tt
       go false true r h = tt
       go false false bounded.None h = tt

@@ -20,7 +20,7 @@ use board::Bundle;
 use geometry::{Role, RouteView};
 use plan::columns::{Corridors, MemberPlaces};
 use plan::{Bound, Reached};
-use search::{Bounds, CollectorBounds, MemberRoutes};
+use search::{Bounds, MemberRoutes};
 
 // ---- interior_collector_bounds
 
@@ -50,10 +50,7 @@ fn tighten(role: Role, d: Bound, x: f64) -> f64
 {
     match d {
         Bound::None => x,
-        Bound::At(y) => match role {
-            Role::Input => binary64::min(y, x),
-            Role::Output => binary64::max(y, x),
-        },
+        Bound::At(y) => plan_numbers::outer(role, y, x),
     }
 }
 
@@ -100,11 +97,7 @@ pub fn reach_all(
     for i in 0..u.count {
         let k = u.first + i;
         let corridor = plan_corridors::corridor_of(across, corridors, places.edges[k]);
-        let route = RouteView {
-            points: routes.points,
-            start: routes.starts[k],
-            count: routes.counts[k],
-        };
+        let route = search_runs::member_route(routes, k);
         let end = end_x(role, route);
         let Bound::At(x) = member_reach(role, reserve, corridor, end) else {
             return Bound::None;
@@ -114,13 +107,13 @@ pub fn reach_all(
     d
 }
 
-fn unless_crossed(low: f64, desired: f64, high: f64) -> CollectorBounds
+fn unless_crossed(low: f64, desired: f64, high: f64) -> Option<Bounds>
     ensures { result ≡ unless_crossed low desired high }
 {
     if low > high {
-        return CollectorBounds::Absent;
+        return None;
     }
-    CollectorBounds::Between(Bounds {
+    Some(Bounds {
         minimum: low,
         desired: plan_numbers::clamp(desired, low, high),
         maximum: high,
@@ -136,7 +129,7 @@ fn span_of(
     least: Bound,
     most: Bound,
     d: f64,
-) -> CollectorBounds
+) -> Option<Bounds>
     ensures { result ≡ span_of role endpoint rail pitch least most d }
 {
     match role {
@@ -160,18 +153,18 @@ pub fn interior_collector_bounds(
     pitch: f64,
     lower: Bound,
     upper: Bound,
-) -> CollectorBounds
+) -> Option<Bounds>
     ensures { (b : Board) (given : List Route) (points : List Float) (starts counts : List ℕ) → Tells b given points starts counts rail pitch r → result ≡ bounds_of b given r.bundle lower upper }
 {
     let u = r.bundle;
     if u.width <= 1 {
-        return CollectorBounds::Absent;
+        return None;
     }
     if u.count <= 1 {
-        return CollectorBounds::Absent;
+        return None;
     }
     match r.reached {
-        Bound::None => CollectorBounds::Absent,
+        Bound::None => None,
         Bound::At(d) => span_of(u.role, r.endpoint, rail, pitch, lower, upper, d),
     }
 }

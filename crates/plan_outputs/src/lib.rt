@@ -47,11 +47,7 @@ pub fn input_shared_trunk_divergence_x(routes: MemberRoutes, pitch: f64, u: Bund
     let mut d = Bound::None;
     for i in 0..u.count {
         let k = u.first + i;
-        let route = RouteView {
-            points: routes.points,
-            start: routes.starts[k],
-            count: routes.counts[k],
-        };
+        let route = search_runs::member_route(routes, k);
         let Bound::At(y) = run_end(u.role, pitch, x, route) else {
             return Bound::None;
         };
@@ -93,8 +89,7 @@ pub fn required_output_collector_x(layout: Layout, which: &[usize], p: Planning)
     ensures { (b : Board) (given : List Route) (ranges : List Ranged) → LayoutTells b given layout.entry → SameBundles ranges layout.entry.reaches.now → result ≡ required b given ranges (map x_of (take (length layout.entry.reaches.now) p.rows)) None which.now }
 {
     let mut r = Bound::None;
-    for k in 0..which.len() {
-        let i = which[k];
+    for &i in which {
         let u = layout.reaches[i].bundle;
         let a = ask(layout.setting.routes, layout.setting.pitch, u, p.rows[i].x);
         r = further_of(r, a);

@@ -4,10 +4,10 @@
 
 ghost use Rattle.std.specs.Prelude.{◌≡◌, ◌+◌, ◌≤◌, ◌<◌, drop};
 ghost use Rattle.limits.specs.Limits.{max_bundles};
-ghost use Rattle.grid.specs.DraftingGrid.{on_plan_grid};
 ghost use Rattle.plan_bytes.specs.PlanBytes.{marked, entry, read_plan};
 ghost use Rattle.plan_reader.specs.Reading.{as_17, told_number, told_entry, told_plan, judged, EntriesTold};
 
+use grid::Grid;
 use limits::MAX_BUNDLES;
 use plan::{Bound, Planned, Planning};
 use refusal::Refusal;
@@ -40,19 +40,6 @@ fn entry_at(s: &[u8], at: usize) -> Result<Option<u64>, Refusal>
     }
 }
 
-// Whether x is a multiple of 1/128 with magnitude at most 2^20: raised by 1.5 * 2^45 it is rounded to
-// a 128th, so it comes back equal exactly if it was one.
-fn is_on_plan_grid(x: f64) -> bool
-    ensures { result ≡ on_plan_grid x }
-{
-    if (-1048576.0 <= x) & (x <= 1048576.0) {
-        let raised = x + 52776558133248.0;
-        let back = raised - 52776558133248.0;
-        return back == x;
-    }
-    false
-}
-
 // A pattern's number, where 18 lets it pass. It keeps its sign where it is minus zero; with bit 2 of the
 // flags set that does not pass.
 fn judged_number(b: u64, grid: bool) -> Option<f64>
@@ -67,7 +54,7 @@ fn judged_number(b: u64, grid: bool) -> Option<f64>
         return small.then_some(x);
     }
     let other = b != 0x8000000000000000;
-    (small & (other & is_on_plan_grid(x))).then_some(x)
+    (small & (other & grid::is_on(Grid::Plan, x))).then_some(x)
 }
 
 // The entries of some bundles, all with their marks and their bytes: whether every number passes, where

@@ -4,7 +4,7 @@ ghost use Rattle.std.specs.Prelude.{◌≤◌, ◌+◌, length, take};
 ghost use Rattle.limits.specs.Limits.{max_bundles};
 ghost use Rattle.plan.specs.Prepared.{Listing};
 
-use crate::fields::{Written, bound_at};
+use crate::fields::Written;
 use board::Bundle;
 use components::Places;
 use geometry::Role;
@@ -19,7 +19,7 @@ pub(crate) fn plan_at(record: &[u8], from: usize) -> Planning {
     let mut at = from;
     for row in &mut rows {
         *row = Planned {
-            x: bound_at(record, at),
+            x: Bound::from(records::option_at(record, at)),
         };
         at = records::plus(at, 9);
     }
@@ -57,8 +57,8 @@ fn inputs_of(reaches: &[Reached]) -> Places
 {
     let mut rows = [0; MAX_BUNDLES];
     let mut count = 0;
-    for i in 0..reaches.len() {
-        if plan_numbers::is_same_role(reaches[i].bundle.role, Role::Input) {
+    for (i, r) in reaches.iter().enumerate() {
+        if r.bundle.role == Role::Input {
             rows[count] = i;
             count += 1;
         }

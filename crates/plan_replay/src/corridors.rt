@@ -34,8 +34,7 @@ fn put_members(u: Bundle, members: &[Member], c: Corridors, out: &mut Written)
     requires by_index { (i : ℕ) → i < length members.now → (get_or members.now i no_member).edge < max_edges }
 {
     out.put_count(u.count);
-    for i in 0..u.count {
-        let m = members[u.first + i];
+    for m in &members[u.first..u.first + u.count] {
         let x = plan_corridors::corridor_of(u.role, c, m.edge);
         put_corridor(out, x);
     }

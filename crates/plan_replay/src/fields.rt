@@ -1,12 +1,12 @@
-// Fields of a result, and a bound of a record.
+// Fields of a result.
 
 use plan::Bound;
-use search::{CollectorBounds, TapVisits};
+use search::{Bounds, TapVisits};
 
 // The bytes of the longest result, and more.
 pub(crate) const OUT_ROOM: usize = 65536;
 
-// A result, as far as it is written.
+// A result, as far as it is written: an array and a size, since no heap is asked for, so no Vec.
 #[derive(Drop)]
 pub(crate) struct Written {
     pub(crate) bytes: [u8; OUT_ROOM],
@@ -46,22 +46,15 @@ impl Written {
         }
     }
 
-    pub(crate) fn put_between(&mut self, b: CollectorBounds) {
+    pub(crate) fn put_between(&mut self, b: Option<Bounds>) {
         match b {
-            CollectorBounds::Absent => self.put_mark(0),
-            CollectorBounds::Between(r) => {
+            None => self.put_mark(0),
+            Some(r) => {
                 self.put_mark(1);
                 self.put_number(r.minimum);
                 self.put_number(r.desired);
                 self.put_number(r.maximum);
             }
         }
-    }
-}
-
-pub(crate) fn bound_at(record: &[u8], at: usize) -> Bound {
-    match records::option_at(record, at) {
-        None => Bound::None,
-        Some(x) => Bound::At(x),
     }
 }

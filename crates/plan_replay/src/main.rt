@@ -13,7 +13,7 @@ ghost use Rattle.job_tables.specs.Came.{Came};
 
 use asked::{plan_at, put_asked};
 use corridors::{put_corridors, put_offsets};
-use fields::{OUT_ROOM, Written, bound_at};
+use fields::{OUT_ROOM, Written};
 use job::Job;
 use limits::{CANDIDATE_ROOM, JOB_ROOM, MAX_MEMBERS, POINT_NUMBERS, SEARCH_WORK};
 use operations::{Between, Operation, Record, Request, start_of};
@@ -36,8 +36,8 @@ mod searches;
 fn bounds_before(q: Request) -> Between {
     match q.record.operation {
         Operation::BoundsBetween | Operation::SearchesBetween => Between {
-            lower: bound_at(q.record.bytes, 1),
-            upper: bound_at(q.record.bytes, 10),
+            lower: Bound::from(records::option_at(q.record.bytes, 1)),
+            upper: Bound::from(records::option_at(q.record.bytes, 10)),
         },
         _ => Between {
             lower: Bound::None,
@@ -45,6 +45,9 @@ fn bounds_before(q: Request) -> Between {
         },
     }
 }
+
+// A request, the work and the output stay apart here and below: the request is copied and read, the others
+// are lent on to be written, and a struct of them would be taken apart at every call.
 
 // The calls about bundles and their members' routes: 33, 34, 37, and 33 without bounds.
 fn put_layout(q: Request, layout: Layout, work: &mut SearchWork, out: &mut Written) {

@@ -4,14 +4,13 @@ use crate::fields::Written;
 use crate::operations::Between;
 use plan::layout::Layout;
 use plan::search_work::SearchWork;
-use search::{CollectorBounds, Outcome, TapVisits};
+use search::{Bounds, Outcome, TapVisits};
 
 pub(crate) fn put_all_bounds(layout: Layout, between: Between, out: &mut Written) {
-    let n = layout.reaches.len();
-    out.put_count(n);
-    for i in 0..n {
+    out.put_count(layout.reaches.len());
+    for &r in layout.reaches {
         let b = plan_bounds::interior_collector_bounds(
-            layout.reaches[i],
+            r,
             layout.setting.rail,
             layout.setting.pitch,
             between.lower,
@@ -22,8 +21,8 @@ pub(crate) fn put_all_bounds(layout: Layout, between: Between, out: &mut Written
 }
 
 // What a search says, and the bounds where it found an x.
-fn put_search(out: &mut Written, b: CollectorBounds, o: Outcome) {
-    if !plan_numbers::is_found(b) {
+fn put_search(out: &mut Written, b: Option<Bounds>, o: Outcome) {
+    if b.is_none() {
         out.put_mark(3);
         return;
     }
@@ -41,11 +40,9 @@ pub(crate) fn put_searches(
     work: &mut SearchWork,
     out: &mut Written,
 ) {
-    let n = layout.reaches.len();
     let mut left = granted;
-    out.put_count(n);
-    for i in 0..n {
-        let r = layout.reaches[i];
+    out.put_count(layout.reaches.len());
+    for &r in layout.reaches {
         let b = plan_bounds::interior_collector_bounds(
             r,
             layout.setting.rail,

@@ -19,7 +19,7 @@ use limits::MAX_BUNDLES;
 use plan::layout::{Layout, Setting};
 use plan::search_work::SearchWork;
 use plan::{Bound, Planned, Planning, Range, Ranges, Ranging, Reached, Upper};
-use search::{Bounds, CollectorBounds, MemberRoutes, Outcome, Searched, Sought, TapVisits};
+use search::{Bounds, MemberRoutes, Outcome, Searched, Sought, TapVisits};
 
 // ---- interior_collector_bounds
 
@@ -27,7 +27,7 @@ use search::{Bounds, CollectorBounds, MemberRoutes, Outcome, Searched, Sought, T
 pub fn search_between(
     setting: Setting,
     u: Bundle,
-    bounds: CollectorBounds,
+    bounds: Option<Bounds>,
     granted: TapVisits,
     work: &mut SearchWork,
 ) -> Searched
@@ -35,11 +35,11 @@ pub fn search_between(
     ensures { (b : Board) (given : List Route) → setting.entry.pitch ≡ pitch_of b u → BundleTells b given setting.entry.routes u → result ≡ seek_in search_of b given u bounds granted.0 }
 {
     match bounds {
-        CollectorBounds::Absent => Searched {
+        None => Searched {
             outcome: Outcome::Nothing,
             left: granted,
         },
-        CollectorBounds::Between(s) => {
+        Some(s) => {
             let end = u.first + u.count;
             let routes = MemberRoutes {
                 points: setting.routes.points,
@@ -82,16 +82,13 @@ pub fn interior_collector_range_bounded(
 // ---- the first pass
 
 // The bounds with the x that the search found, if it did, as the desired one.
-pub fn narrow(b: CollectorBounds, o: Outcome) -> CollectorBounds
+pub fn narrow(b: Option<Bounds>, o: Outcome) -> Option<Bounds>
     ensures { result ≡ narrowed b o }
 {
     match o {
-        Outcome::Found(x) => match b {
-            CollectorBounds::Absent => CollectorBounds::Absent,
-            CollectorBounds::Between(s) => CollectorBounds::Between(Bounds { desired: x, ..s }),
-        },
-        Outcome::Nothing => CollectorBounds::Absent,
-        Outcome::Spent => CollectorBounds::Absent,
+        Outcome::Found(x) => b.map(|s| Bounds { desired: x, ..s }),
+        Outcome::Nothing => None,
+        Outcome::Spent => None,
     }
 }
 
@@ -131,11 +128,11 @@ pub fn first_pass(layout: Layout, granted: TapVisits, work: &mut SearchWork) -> 
 {
     let mut rows = [Range {
         bundle: NO_BUNDLE,
-        bounds: CollectorBounds::Absent,
+        bounds: None,
     }; MAX_BUNDLES];
     let mut left = granted;
-    for i in 0..layout.reaches.len() {
-        let s = interior_collector_range(layout.setting, layout.reaches[i], left, work);
+    for (i, r) in layout.reaches.iter().enumerate() {
+        let s = interior_collector_range(layout.setting, *r, left, work);
         rows[i] = s.range;
         left = s.left;
     }
@@ -175,8 +172,7 @@ pub fn search_again(
 {
     let mut rows = p.rows;
     let mut left = p.left;
-    for k in 0..which.len() {
-        let i = which[k];
+    for &i in which {
         let r = layout.reaches[i];
         let most = upper_at(layout.setting.pitch, upper, rows[i].x);
         let s = interior_collector_range_bounded(layout.setting, r, lower, most, left, work);

@@ -21,8 +21,6 @@ use Rattle.search.specs.Good.{Real, RealStretch, Holds, HoldsSome, HoldsAll, Goo
 use Rattle.sorting.specs.Lists.{Every, In}
 use Rattle.sorting.specs.Sorted.{every_at}
 use Rattle.search.specs.declared.Bounds.{Bounds}
-use Rattle.search.specs.declared.CollectorBounds.{CollectorBounds}
-use Rattle.search.specs.declared.CollectorBounds.TheVariants.{Absent, Between}
 use Rattle.board.specs.declared.Bundle.{Bundle}
 use Rattle.board.specs.declared.Member.{Member}
 use Rattle.board.specs.Board.{Board, no_bundle}
@@ -129,16 +127,16 @@ module _ (b : Board) (given : List Route) where
   no_better Input p x h = h
   no_better Output p x h = h
 
-  bounds_same : (r s : Bounds) → Between r ≡ Between s → r ≡ s
+  bounds_same : (r s : Bounds) → Some r ≡ Some s → r ≡ s
   bounds_same r s f = cc
 
   -- the bundle as it is built on the given routes stands at its best place
-  built_best : (good : Numbers b given) (u : Bundle) (present : List Route) (r : CollectorBounds) → bounds_of b given u bounded.None bounded.None ≡ r → (x : Bound) → Best u.role r (trunks b given u) x → BestPlace b given present u (build b u (planned_x x) given)
+  built_best : (good : Numbers b given) (u : Bundle) (present : List Route) (r : Option Bounds) → bounds_of b given u bounded.None bounded.None ≡ r → (x : Bound) → Best u.role r (trunks b given u) x → BestPlace b given present u (build b u (planned_x x) given)
   unfolding build
-  built_best good u present Absent e bounded.None h = at_rail (λ q a. let z : Absent ≡ Between a.bounds = sym e ∙ a.are_bounds in let w : ◌≡◌ {A = ℕ} 0 1 = cc in absurd (omega arith)) (record { start = refl; end = refl })
-  built_best good u present Absent e (bounded.At x) h = let w : ◌≡◌ {A = ℕ} 0 1 = cc in absurd (omega arith)
-  built_best good u present (Between r) e bounded.None h = at_rail (λ q a. let z : r ≡ a.bounds = bounds_same r a.bounds (sym e ∙ a.are_bounds) in h q (subst (λ (s : Bounds). Good s (trunks b given u) q) (sym z) a.good)) (record { start = refl; end = refl })
-  built_best good u present (Between r) e (bounded.At x) h =
+  built_best good u present None e bounded.None h = at_rail (λ q a. let z : None ≡ Some a.bounds = sym e ∙ a.are_bounds in let w : ◌≡◌ {A = ℕ} 0 1 = cc in absurd (omega arith)) (record { start = refl; end = refl })
+  built_best good u present None e (bounded.At x) h = let w : ◌≡◌ {A = ℕ} 0 1 = cc in absurd (omega arith)
+  built_best good u present (Some r) e bounded.None h = at_rail (λ q a. let z : r ≡ a.bounds = bounds_same r a.bounds (sym e ∙ a.are_bounds) in h q (subst (λ (s : Bounds). Good s (trunks b given u) q) (sym z) a.good)) (record { start = refl; end = refl })
+  built_best good u present (Some r) e (bounded.At x) h =
       let at = built_at_x good u x h.0 h.1.usable in
       at_best (value x) (record { bounds = r; are_bounds = e; good = h.1 })
       (λ p a. let z : r ≡ a.bounds = bounds_same r a.bounds (sym e ∙ a.are_bounds) in no_better u.role p x (h.2 p (subst (λ (s : Bounds). Good s (trunks b given u) p) (sym z) a.good)))

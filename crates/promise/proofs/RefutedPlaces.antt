@@ -1,6 +1,7 @@
 -- The last sentence of demand 3 has force: on a small board the best place is one x; the rail, another allowed x, and an x off the rail where none is allowed are refuted. Whatever routes are present.
 -- Assumes nothing.
-use Rattle.std.specs.Prelude.{◌≡◌, refl, true, List, [], ◌∷◌, ℕ, T, Float}
+use Rattle.std.specs.declared.option.Option.TheVariants as option
+use Rattle.std.specs.Prelude.{◌≡◌, refl, true, List, [], ◌∷◌, ℕ, T, Float, Option}
 use Rattle.std.proofs.Common.{sym, ap, ◌∙◌, subst, inl, inr, arith}
 use Rattle.std.specs.Float.Ieee.Scale.{finite}
 use Rattle.std.specs.Float.Ieee.{of_int, lt, le, eq, ne, add, sub, mul}
@@ -13,8 +14,6 @@ use Rattle.geometry.specs.Points.{Route, runs}
 use Rattle.board.specs.declared.Bundle.{Bundle}
 use Rattle.board.specs.Board.{Board, rail_depth}
 use Rattle.search.specs.declared.Bounds.{Bounds}
-use Rattle.search.specs.declared.CollectorBounds.{CollectorBounds}
-use Rattle.search.specs.declared.CollectorBounds.TheVariants.{Absent, Between}
 use Rattle.search.specs.Stretches.{stretches, members}
 use Rattle.plan.specs.declared.Bound.TheVariants.{None}
 use Rattle.plan.specs.Depths.{lane_count, offsets_from, corridor_among, corridor_from}
@@ -53,17 +52,17 @@ drawn_at x = record { collector = seg (at x 5) (at x 15); spine = seg (at 10 5) 
 
 -- ---- bounds and rail
 
-abbrev lowest : CollectorBounds → Float
+abbrev lowest : Option Bounds → Float
 lowest r = if_between r (num 0) (λ s. s.minimum)
 
 abbrev its : Bounds
 its = record { minimum = num 18; desired = num 100; maximum = num 100 }
 
-its_bounds : bounds_of board routes bundle None None ≡ Between its
+its_bounds : bounds_of board routes bundle None None ≡ option.Some its
 unfolding bounds_of reach_all last_x rail_depth of_int lt le eq ne add sub mul lane_count offsets_from corridor_among corridor_from
 its_bounds = refl
 
-no_bounds : bounds_of board routes narrow None None ≡ Absent
+no_bounds : bounds_of board routes narrow None None ≡ option.None
 unfolding bounds_of
 no_bounds = refl
 
@@ -130,7 +129,7 @@ unfolding of_int eq build
 off_rail_refuted present = (at_rail none_allowed (record { start = refl; end = refl }), broken)
   where
     none_allowed : (q : Fraction) → Allowed board routes narrow q → ⊥
-    none_allowed q a = let e : Absent ≡ Between a.bounds = sym no_bounds ∙ a.are_bounds in let z : ◌≡◌ {A = ℕ} 0 1 = cc in omega arith
+    none_allowed q a = let e : option.None ≡ option.Some a.bounds = sym no_bounds ∙ a.are_bounds in let z : ◌≡◌ {A = ℕ} 0 1 = cc in omega arith
 
     broken : BestPlace board routes present narrow (drawn_at 96) → ⊥
     broken (at_best q a is_best s) = none_allowed q a

@@ -78,18 +78,18 @@ below_whole n x h =
 
 -- what equals a bounded number is bounded
 eq_bounded : (n : ℕ) (a x : Float) → Bounded n a → T (eq a x) → Bounded n x
-eq_bounded n a nan h e = absurd (None a e)
+eq_bounded n a nan h e = absurd (none a e)
   where
-    None : (a : Float) → T (eq a nan) → ⊥
-    None nan e = unfold eq in e
-    None (inf s) e = unfold eq in e
-    None (fin s m k) e = unfold eq in e
-eq_bounded n a (inf t) h e = absurd (None a h.is_finite e)
+    none : (a : Float) → T (eq a nan) → ⊥
+    none nan e = unfold eq in e
+    none (inf s) e = unfold eq in e
+    none (fin s m k) e = unfold eq in e
+eq_bounded n a (inf t) h e = absurd (none a h.is_finite e)
   where
-    None : (a : Float) → T (finite a) → T (eq a (inf t)) → ⊥
-    None nan f e = f
-    None (inf s) f e = f
-    None (fin s m k) f e = unfold eq in e
+    none : (a : Float) → T (finite a) → T (eq a (inf t)) → ⊥
+    none nan f e = f
+    none (inf s) f e = f
+    none (fin s m k) f e = unfold eq in e
 eq_bounded n a (fin t m k) h e =
     let x = fin t m k in
     let s = eq→same a x h.is_finite tt e in

@@ -10,8 +10,6 @@ use Rattle.binary64.specs.Order.{least, greatest}
 use Rattle.geometry.specs.declared.Role.{Role}
 use Rattle.geometry.specs.declared.Role.TheVariants.{Input, Output}
 use Rattle.search.specs.declared.Bounds.{Bounds}
-use Rattle.search.specs.declared.Candidate.{Candidate}
-use Rattle.search.specs.declared.Candidate.TheVariants as candidacy
 use Rattle.search.specs.declared.Outcome.TheVariants as outcome
 use Rattle.search.specs.declared.Searched.{Searched}
 use Rattle.search.specs.Stretches.{all_runs}
@@ -29,9 +27,9 @@ module _ (Q : Float → Type 0) where
   OfStretch None = Unit {0}
   OfStretch (Some (low, high)) = Q low × Q high
 
-  abbrev OfCandidate : Candidate → Type 0
-  OfCandidate candidacy.Missing = Unit {0}
-  OfCandidate (candidacy.At x) = Q x
+  abbrev OfCandidate : Option Float → Type 0
+  OfCandidate None = Unit {0}
+  OfCandidate (Some x) = Q x
 
   nearest_of : (role : Role) (low high d : Float) → Q low → Q high → Q d → Q (nearest role low high d)
   nearest_of Input low high d l h s = either (lt d high) d high Q s h
@@ -41,15 +39,15 @@ module _ (Q : Float → Type 0) where
   candidate_of role r None b h = tt
   candidate_of role r (Some (low, high)) b h = go (lt (least high r.maximum) (greatest low r.minimum))
     where
-      go : (t : Bool) → OfCandidate (cond t candidacy.Missing (candidacy.At (nearest role (greatest low r.minimum) (least high r.maximum) r.desired)))
+      go : (t : Bool) → OfCandidate (cond t None (Some (nearest role (greatest low r.minimum) (least high r.maximum) r.desired)))
       go true = tt
       go false =
           nearest_of role (greatest low r.minimum) (least high r.maximum) r.desired (either (lt low r.minimum) r.minimum low Q b.0 h.0)
           (either (lt r.maximum high) r.maximum high Q b.2 h.1) b.1
 
-  onto_of : (xs : List Float) (c : Candidate) → Every Q xs → OfCandidate c → Every Q (onto xs c)
-  onto_of xs candidacy.Missing e s = e
-  onto_of xs (candidacy.At x) e s = every_last Q x xs e s
+  onto_of : (xs : List Float) (c : Option Float) → Every Q xs → OfCandidate c → Every Q (onto xs c)
+  onto_of xs None e s = e
+  onto_of xs (Some x) e s = every_last Q x xs e s
 
   gathered_of : (role : Role) (r : Bounds) (xs : List Float) (ss : List (Option (Float × Float))) → OfBounds Q r → Every Q xs → Every OfStretch ss → Every Q (candidates_onto role r xs ss)
   unfolding candidates_onto

@@ -11,9 +11,8 @@ ghost use Rattle.geometry.specs.Points.{runs};
 ghost use Rattle.geometry.specs.Lent.{route_lent};
 ghost use Rattle.drawing.specs.Check.{walk, inside_tests};
 ghost use Rattle.checks.specs.Purse.{told};
-ghost use Rattle.checks.specs.CheckRows.{nodes_in};
 
-use board::Edge;
+use board::{Edge, PlacedNode};
 use drawing::GeometryVisits;
 use geometry::RouteView;
 use refusal::Refusal;
@@ -22,24 +21,24 @@ use refusal::Refusal;
 
 // The runs of the route of edge e, each against every node but the edge's own.
 pub fn route_inside(
-    boxes: &[f64],
+    nodes: &[PlacedNode],
     e: Edge,
     route: RouteView,
     visits: &mut GeometryVisits,
 ) -> Result<(), Refusal>
-    ensures { told result visits.new.0 ≡ walk 12 (inside_tests (nodes_in boxes.now) e (runs (route_lent route.entry))) visits.old.0 }
+    ensures { told result visits.new.0 ≡ walk 12 (inside_tests nodes.now e (runs (route_lent route.entry))) visits.old.0 }
 {
     for i in 0..route.count.saturating_sub(1) {
         let run = route_views::view_run(route, i);
         if contact_test::is_slanted(run.start, run.end) {
             return Err(Refusal::RouteThroughNode);
         }
-        for j in 0..boxes.len() / 4 {
+        for (j, node) in nodes.iter().enumerate() {
             if looks::is_own(e, j) {
                 continue;
             }
             looks::charge(visits)?;
-            if shapes::run_passes_inside(run.start, run.end, looks::box_at(boxes, j)) {
+            if shapes::run_passes_inside(run.start, run.end, node.body) {
                 return Err(Refusal::RouteThroughNode);
             }
         }

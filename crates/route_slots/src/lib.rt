@@ -1,22 +1,36 @@
-// A route put into its slot.
+// A route in its slot, read and put there.
 //
 // Ported from cachanova/schemweave, commit c4a1a2c60a, crates/schemweave/src/boundary_bundles.rs
 // (Apache-2.0, see NOTICE); names are those of that module where it has one.
 
 #![tactic(auto)]
 
-ghost use Rattle.std.specs.Prelude.{◌≡◌, ◌+◌, ◌*◌, ◌<◌, ◌≤◌, length};
+ghost use Rattle.std.specs.Prelude.{◌≡◌, ◌+◌, ◌*◌, ◌<◌, ◌≤◌, length, get_or};
+ghost use Rattle.geometry.specs.Points.{points_from};
 ghost use Rattle.geometry.specs.Lent.{route_lent};
 ghost use Rattle.limits.specs.Limits.{slot_points, slot_numbers};
 ghost use Rattle.route.specs.Slots.{put_points, Stored};
 
 use geometry::RouteView;
 use limits::SLOT_POINTS;
+use route::PresentRoutes;
 
 // ---- present routes in slots: the route of edge e is in the 68 points from point 68 e on, and
 // counts has how many points it has
 
-// slots and counts stay two parameters: of a struct of two `&mut` each contract would have to say that
+// Route e in its slot.
+pub fn slot_of(present: PresentRoutes, e: usize) -> RouteView
+    requires { e < length present.counts.now }
+    ensures { route_lent result ≡ points_from present.entry.points.now (slot_points * e) (get_or present.entry.counts.now e 0) }
+{
+    RouteView {
+        points: present.points,
+        start: SLOT_POINTS * e,
+        count: present.counts[e],
+    }
+}
+
+// slots and counts that are written stay two parameters: of a struct of two `&mut` each contract would have to say that
 // its references stay the same.
 
 // The points of a route, written into another slice from point at on.

@@ -1,13 +1,12 @@
 // Points of a slice, and a route as a view over them.
 //
 // Ported from cachanova/schemweave, commit c4a1a2c60a, crates/schemweave/src/boundary_bundles.rs
-// (Apache-2.0, see NOTICE); names are those of that module where it has one. Every test compares
-// and rounds as the definition that its contract cites says: nothing here has a tolerance but
-// preserved_point_matches.
+// (Apache-2.0, see NOTICE); names are those of that module where it has one. Coordinates are read and
+// put as they are: none is compared or rounded here.
 
 #![tactic(auto)]
 
-ghost use Rattle.std.specs.Prelude.{◌≡◌, ◌+◌, ◌*◌, ◌-◌, ◌<◌, ◌≤◌, length};
+ghost use Rattle.std.specs.Prelude.{◌≡◌, ◌+◌, ◌*◌, ◌-◌, ◌<◌, ◌≤◌, IfSome, is_some, leb, length};
 ghost use Rattle.geometry.specs.Points.{point_at, run_at, put_point};
 
 use geometry::{Point, RouteView, Segment};
@@ -37,14 +36,47 @@ pub fn put_point(out: &mut [f64], i: usize, p: Point)
 
 // ---- a route as a view over points
 //
-// That a view's points lie in its slice is a field of it. route_point, route_run and route_last are for
-// callers that have the slice and the numbers apart.
+// A route as a caller lends it. It has the fields of a RouteView and is a type of its own, since it says
+// nothing yet: that its points are there is a field of a RouteView, which view_within makes of it.
+#[derive(Clone, Copy)]
+pub struct LentRoute<'a> {
+    pub points: &'a [f64],
+    pub start: usize,
+    pub count: usize,
+}
+
+// A route as it is lent.
+pub fn view<'a>(points: &'a [f64], start: usize, count: usize) -> LentRoute<'a>
+    ensures { (result.points ≡ points.entry) × (result.start ≡ start) × (result.count ≡ count) }
+{
+    LentRoute {
+        points,
+        start,
+        count,
+    }
+}
 
 // How many points the route has.
-pub fn view_count<'a>(v: RouteView<'a>) -> usize
+pub fn view_count<'a>(v: LentRoute<'a>) -> usize
     ensures { result ≡ v.entry.count }
 {
     v.count
+}
+
+// The same route, where its points are there. Numbers that would wrap are no route.
+pub fn view_within<'a>(v: LentRoute<'a>) -> Option<RouteView<'a>>
+    ensures there { is_some result ≡ leb (2 * (v.entry.start + v.entry.count)) (length v.entry.points.now) }
+    ensures same { IfSome result (λ r. (r.points ≡ v.entry.points) × (r.start ≡ v.entry.start) × (r.count ≡ v.entry.count)) }
+{
+    let n = v.points.len() / 2;
+    if v.start > n || v.count > n - v.start {
+        return None;
+    }
+    Some(RouteView {
+        points: v.points,
+        start: v.start,
+        count: v.count,
+    })
 }
 
 // Point i of the route.
@@ -74,7 +106,8 @@ pub fn view_last<'a>(v: RouteView<'a>) -> Point
     view_point(v, v.count - 1)
 }
 
-// The next three ask what a view has as its field, since they are given the slice and the numbers apart.
+// The next three are for callers that have the slice and the numbers apart, and so ask what a view has as
+// its field.
 
 // Point i of the route of count points from point start on.
 pub fn route_point(points: &[f64], start: usize, count: usize, i: usize) -> Point

@@ -17,7 +17,6 @@ use Rattle.geometry.specs.Stretch.{holds}
 use Rattle.sorting.specs.Sort.{sort_key, sorted}
 use Rattle.sorting.specs.Sorted.{every_in, every_map, in_left, in_last, every_last, every_append, in_sorted, every_sorted, sorted_ordered, every_distinct, distinct_ordered, in_distinct}
 use Rattle.sorting.specs.Lists.{In, Every}
-use Rattle.search.specs.declared.Candidate.TheVariants.{Missing, At}
 use Rattle.search.specs.declared.Outcome.{Outcome}
 use Rattle.search.specs.declared.Outcome.TheVariants.{Found, Nothing, Spent}
 use Rattle.search.specs.declared.Bounds.{Bounds}
@@ -92,7 +91,7 @@ module _ (role : Role) (b : Bounds) (fair : Fair role b) where
   onto_bounded xs None e r = e
   onto_bounded xs (Some (low, high)) e r = go (lt (cut_high high) (cut_low low)) refl
     where
-      go : (t : Bool) → lt (cut_high high) (cut_low low) ≡ t → Every Bounded (onto xs (cond t Missing (At (of (Some (low, high))))))
+      go : (t : Bool) → lt (cut_high high) (cut_low low) ≡ t → Every Bounded (onto xs (cond t None (Some (of (Some (low, high))))))
       go true h = e
       go false h =
           every_last Bounded (of (Some (low, high))) xs e
@@ -107,7 +106,7 @@ module _ (role : Role) (b : Bounds) (fair : Fair role b) where
   in_onto x xs None i = i
   in_onto x xs (Some (low, high)) i = go (lt (cut_high high) (cut_low low))
     where
-      go : (t : Bool) → In x (onto xs (cond t Missing (At (of (Some (low, high))))))
+      go : (t : Bool) → In x (onto xs (cond t None (Some (of (Some (low, high))))))
       go true = i
       go false = in_left x xs (of (Some (low, high)) ∷ []) i
 
@@ -144,7 +143,7 @@ module _ (role : Role) (b : Bounds) (fair : Fair role b) where
     onto_of xs None r h = absurd h
     onto_of xs (Some (low, high)) r h = go (lt (cut_high high) (cut_low low)) refl
       where
-        go : (t : Bool) → lt (cut_high high) (cut_low low) ≡ t → In (of (Some (low, high))) (onto xs (cond t Missing (At (of (Some (low, high))))))
+        go : (t : Bool) → lt (cut_high high) (cut_low low) ≡ t → In (of (Some (low, high))) (onto xs (cond t None (Some (of (Some (low, high))))))
         go true e =
             let p = cut_low_real low r.0 in
             let c = cut_high_real high r.1 in

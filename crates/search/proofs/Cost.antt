@@ -1,14 +1,12 @@
 -- What the search costs: with n runs in all members, at most n × (n + 2) visits.
 -- Assumes nothing.
-use Rattle.std.specs.Prelude.{◌≡◌, refl, Bool, true, false, cond, List, [], ◌∷◌, ◌++◌, ℕ, suc, ◌+◌, ◌-◌, ◌*◌, ◌≤◌, length, leb, Float, Option}
+use Rattle.std.specs.Prelude.{◌≡◌, refl, Bool, true, false, cond, List, [], ◌∷◌, ◌++◌, ℕ, suc, ◌+◌, ◌-◌, ◌*◌, ◌≤◌, length, leb, Float, Option, Some, None}
 use Rattle.std.proofs.Common.{◌∙◌, ap, arith, suc-mul, mul_comm, mul-add, mul-le-mul_right, length-append}
 use Rattle.geometry.specs.declared.Role.{Role}
 use Rattle.geometry.specs.Stretch.{holds}
 use Rattle.geometry.specs.declared.Segment.{Segment}
 use Rattle.sorting.specs.Sort.{sort_key}
 use Rattle.sorting.specs.Sorted.{tried_length}
-use Rattle.search.specs.declared.Candidate.{Candidate}
-use Rattle.search.specs.declared.Candidate.TheVariants.{Missing, At}
 use Rattle.search.specs.declared.Outcome.TheVariants.{Spent}
 use Rattle.search.specs.declared.Bounds.{Bounds}
 use Rattle.search.specs.Stretches.{all_runs, runs_in, stretches}
@@ -44,9 +42,9 @@ unfolding cost
 cost_bound ms [] = omega arith
 cost_bound ms (x ∷ xs) = omega (arith, tries_bound x ms, cost_bound ms xs, suc-mul (length xs) (runs_in ms))
 
-onto_length : (xs : List Float) (c : Candidate) → length (onto xs c) ≤ length xs + 1
-onto_length xs Missing = omega arith
-onto_length xs (At x) = omega (arith, length-append xs (x ∷ []))
+onto_length : (xs : List Float) (c : Option Float) → length (onto xs c) ≤ length xs + 1
+onto_length xs None = omega arith
+onto_length xs (Some x) = omega (arith, length-append xs (x ∷ []))
 
 candidates_length : (role : Role) (b : Bounds) (xs : List Float) (ss : List (Option (Float × Float))) → length (candidates_onto role b xs ss) ≤ length xs + length ss
 unfolding candidates_onto

@@ -1,6 +1,6 @@
 -- Closed cases of the public entries: the count of points, and a promotion whose second search is spent.
 -- Assumes nothing.
-use Rattle.std.specs.Prelude.{◌≡◌, refl, Bool, true, false, not, ◌&&◌, cond, List, [], ◌∷◌, ℕ, leb, replicate, length, Float, pos}
+use Rattle.std.specs.Prelude.{◌≡◌, refl, Bool, true, false, not, ◌&&◌, cond, List, [], ◌∷◌, ℕ, leb, replicate, length, Float, pos, Some}
 use Rattle.std.specs.Float.{binary64}
 use Rattle.std.specs.Float.Ieee.{of_int, to_bits, of_bits, is_nan, lt, le, eq, ne, neg, add, sub, mul}
 use Rattle.limits.specs.Limits.{max_bundle_members, max_points, max_tap_visits}
@@ -11,7 +11,6 @@ use Rattle.geometry.specs.declared.Role.TheVariants.{Input}
 use Rattle.geometry.specs.Points.{runs}
 use Rattle.sorting.specs.Sort.{sorted, distinct, insert, distinct_after, sort_key}
 use Rattle.search.specs.declared.Bounds.{Bounds}
-use Rattle.search.specs.declared.CollectorBounds.TheVariants.{Between}
 use Rattle.search.specs.Stretches.{stretches, members, routes, all_runs}
 use Rattle.search.specs.Search.{gathered_onto, tried_on, tried_on_all, tried}
 use Rattle.search_calls.specs.Entry.{places_fit, counts_fit, routes_fit, bounds_fit, search_room, search_number, Said, promoted}
@@ -51,7 +50,7 @@ at x y = record { x = num x; y = num y }
 
 -- two members (0,0)-(30,0) and (0,8)-(30,8) at pitch 4, Input, minimum 2, desired and maximum 18: each search pays 4
 abbrev pub says : ℕ → Said
-says v = promoted Input (num 4) (Between (record { minimum = num 2; desired = num 18; maximum = num 18 })) (members Input (num 4) ((at 0 0 ∷ at 30 0 ∷ []) ∷ (at 0 8 ∷ at 30 8 ∷ []) ∷ [])) v
+says v = promoted Input (num 4) (Some (record { minimum = num 2; desired = num 18; maximum = num 18 })) (members Input (num 4) ((at 0 0 ∷ at 30 0 ∷ []) ∷ (at 0 8 ∷ at 30 8 ∷ []) ∷ [])) v
 
 -- with 3 granted the first is spent
 pub first_is_spent : ((says 3).mark ≡ 2) × ((says 3).left ≡ 0) × (length (says 3).list ≡ 0)

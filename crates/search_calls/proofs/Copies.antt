@@ -1,6 +1,6 @@
 -- Routes copied into rows of their own, plus zeros for minus zeros: what a store adds, that the copies are the routes, and that a search of them is the search of the routes.
 -- Assumes nothing.
-use Rattle.std.specs.Prelude.{◌≡◌, Bool, true, false, not, ◌&&◌, cond, List, [], ◌∷◌, ◌++◌, ℕ, zero, suc, ◌+◌, ◌-◌, ◌*◌, ◌≤◌, ◌<◌, leb, eqb, length, take, drop, get_or, set, Float}
+use Rattle.std.specs.Prelude.{◌≡◌, Bool, true, false, not, ◌&&◌, cond, List, [], ◌∷◌, ◌++◌, ℕ, zero, suc, ◌+◌, ◌-◌, ◌*◌, ◌≤◌, ◌<◌, leb, eqb, length, take, drop, get_or, set, Float, Option}
 use Rattle.std.proofs.Math.Path.{refl}
 use Rattle.std.proofs.Common.{sym, ◌∙◌, ap, subst, true≢false, arith, add-zero, length-append, get_or-set_same, get_or-set_other, length-take-le, leb-true, le-leb, eqb-true}
 use Rattle.std.proofs.lemmas.List.{length-map}
@@ -16,7 +16,6 @@ use Rattle.geometry.specs.declared.Point.{Point}
 use Rattle.geometry.specs.Points.{point_at, points_from}
 use Rattle.search.specs.Stretches.{members, routes}
 use Rattle.search.specs.declared.Bounds.{Bounds}
-use Rattle.search.specs.declared.CollectorBounds.{CollectorBounds}
 use Rattle.search.specs.Search.{common_xs}
 use Rattle.search_calls.specs.declared.SearchAnswer.{SearchAnswer}
 use Rattle.search_calls.specs.Entry.{plus_zeros, places_fit, counts_fit, refusal, role_of, Said, said, refused, bounds_fit, collector_bounds_fit, search_room, search_number, search_says, promotion_room, promotion_number, promotion_says, promoted, Replied, Untouched}
@@ -217,7 +216,7 @@ module _ (xs candidates scratch : List Float) (r : SearchAnswer) (xs' candidates
       Replied (search_number xs candidates scratch p ss cs role pitch b granted) (search_says (search_number xs candidates scratch p ss cs role pitch b granted) p ss cs role pitch b granted) r xs xs'
       × Untouched (search_number xs candidates scratch p ss cs role pitch b granted) candidates candidates' scratch scratch'
 
-  abbrev pub PromotionSaid : List Float → List ℕ → List ℕ → ℕ → Float → CollectorBounds → ℕ → Type 0
+  abbrev pub PromotionSaid : List Float → List ℕ → List ℕ → ℕ → Float → Option Bounds → ℕ → Type 0
   PromotionSaid p ss cs role pitch b granted =
       Replied (promotion_number xs candidates scratch p ss cs role pitch b granted) (promotion_says (promotion_number xs candidates scratch p ss cs role pitch b granted) p ss cs role pitch b granted) r xs xs'
       × Untouched (promotion_number xs candidates scratch p ss cs role pitch b granted) candidates candidates' scratch scratch'
@@ -231,7 +230,7 @@ module _ (xs candidates scratch : List Float) (r : SearchAnswer) (xs' candidates
         (carried (search_number xs candidates scratch p ss cs' role pitch b granted) (search_number xs candidates scratch q ts cs' role pitch b granted) _ _ granted r xs xs' candidates candidates' scratch scratch' (same.number room fit)
         (λ z. ap (λ (rs : List (List Point)). said (common_xs (role_of role) b (members (role_of role) pitch rs) granted)) (same.searched room fit z)) (subst (λ (l : List ℕ). SearchSaid p ss l role pitch b granted) d said_of))
 
-    pub promotion_carried : (b b' : CollectorBounds) → b ≡ b' → PromotionSaid p ss cs role pitch b granted → PromotionSaid q ts cs' role' pitch' b' granted'
+    pub promotion_carried : (b b' : Option Bounds) → b ≡ b' → PromotionSaid p ss cs role pitch b granted → PromotionSaid q ts cs' role' pitch' b' granted'
     promotion_carried b b' f said_of =
         let room = promotion_room xs candidates scratch in
         let fit = collector_bounds_fit b in

@@ -1,10 +1,11 @@
 -- The steps of the refusals' definitions, by place in the lists; what an accepted call may count on; and what is written for a list.
 -- Assumes nothing.
-use Rattle.std.specs.Prelude.{◌≡◌, refl, Bool, true, false, not, ◌&&◌, ◌||◌, cond, List, [], ◌∷◌, ◌++◌, leb, ltb, eqb, get_or, take, drop, Float, Option}
+use Rattle.std.specs.Prelude.{◌≡◌, refl, Bool, true, false, not, ◌&&◌, ◌||◌, cond, List, [], ◌∷◌, ◌++◌, leb, ltb, eqb, get_or, take, drop, Float, Option, Some, None}
 use Rattle.std.proofs.Common.{sym, ◌∙◌, subst, true≢false, add-one, length-append, take-take, take_all, length-take-le, leb-true, ltb-true, ltb-false, ne_eqb}
+use Rattle.std.proofs.Math.Nat.{min-eq_left, min-eq_right}
 use Rattle.std.proofs.Math.Path.{ap}
 use Rattle.std.proofs.Math.Bool.{and-false}
-use Prim.Native.Nat.{ℕ, zero, suc, ◌+◌, ◌-◌, ◌*◌, ◌≤◌, ◌<◌}
+use Prim.Native.Nat.{ℕ, zero, suc, ◌+◌, ◌-◌, ◌*◌, ◌≤◌, ◌<◌, min}
 use native.Mathlib.Omega.{arith}
 use Rattle.std.proofs.Math.ListN.{length, drop_of_length-le}
 use Rattle.std.proofs.Math.Seq.{drop-cons}
@@ -16,7 +17,6 @@ use Rattle.geometry.specs.declared.Role.{Role}
 use Rattle.geometry.specs.Points.{point_at, points_from}
 use Rattle.search.specs.declared.TapVisits.{TapVisits}
 use Rattle.search.specs.declared.Bounds.{Bounds}
-use Rattle.search.specs.declared.CollectorBounds.TheVariants.{Absent, Between}
 use Rattle.search.specs.declared.Listed.{Listed}
 use Rattle.search.specs.declared.Listed.TheVariants as listed
 use Rattle.search.specs.declared.Promoted.{Promoted}
@@ -165,6 +165,14 @@ few_are n = go (ltb n most_kept) refl
     go true e = (omega arith, omega (arith, ltb-true))
     go false e = (omega (arith, ltb-false), omega arith)
 
+-- as the library says it
+pub least_kept : (n : ℕ) → min n most_kept ≡ few n
+least_kept n = go (ltb n most_kept) refl
+  where
+    go : (t : Bool) → ltb n most_kept ≡ t → min n most_kept ≡ cond t n most_kept
+    go true e = min-eq_left (omega (arith, ltb-true))
+    go false e = min-eq_right (omega (arith, ltb-false))
+
 front : (n : ℕ) (list : List Float) → n ≤ length list → take (few n) list ≡ take most_kept (take n list)
 front n list within = go (ltb n most_kept) refl
   where
@@ -240,13 +248,13 @@ module _ (m xs : List Float) (size : ℕ) (room : size ≤ length xs) (same : le
   slice_length = omega (arith, length-append m (drop size xs), same, size_is)
 
 -- ---- bounds that may be absent
-pub bounds_either : (present t : Bool) (b : Bounds) → t ≡ bounds_fit b → (not present || t) ≡ collector_bounds_fit (cond present (Between b) Absent)
+pub bounds_either : (present t : Bool) (b : Bounds) → t ≡ bounds_fit b → (not present || t) ≡ collector_bounds_fit (cond present (Some b) None)
 bounds_either true t b e = e
 bounds_either false t b e = refl
 
 module _ (role : Role) (pitch : Float) (present : Bool) (b : Bounds) (ms : List (List (Option (Float × Float)))) (granted : ℕ) where
-  pub absent_replied : (xs : List Float) → present ≡ false → Replied 0 (promoted role pitch (cond present (Between b) Absent) ms granted) (record { number = 0; mark = 3; left = granted; count = 0; x = zero64 }) xs xs
+  pub absent_replied : (xs : List Float) → present ≡ false → Replied 0 (promoted role pitch (cond present (Some b) None) ms granted) (record { number = 0; mark = 3; left = granted; count = 0; x = zero64 }) xs xs
   absent_replied xs e = rw e (record { answer = refl; written = refl })
 
-  pub present_says : present ≡ true → promotion_said (shortened (promotion_xs role pitch b ms granted)) ≡ promoted role pitch (cond present (Between b) Absent) ms granted
+  pub present_says : present ≡ true → promotion_said (shortened (promotion_xs role pitch b ms granted)) ≡ promoted role pitch (cond present (Some b) None) ms granted
   present_says e = rw e

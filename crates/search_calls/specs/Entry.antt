@@ -1,14 +1,12 @@
 -- The two public entries: which calls get a number of document 01, and what the others get. Definitions only.
 -- Assumes nothing.
-use Rattle.std.specs.Prelude.{◌≡◌, Bool, true, false, not, ◌&&◌, cond, List, [], ◌∷◌, ◌++◌, map, ℕ, ◌+◌, ◌-◌, ◌*◌, leb, eqb, length, drop, Float, Option}
+use Rattle.std.specs.Prelude.{◌≡◌, Bool, true, false, not, ◌&&◌, cond, List, [], ◌∷◌, ◌++◌, map, ℕ, ◌+◌, ◌-◌, ◌*◌, leb, eqb, length, drop, Float, Option, Some, None}
 use Rattle.limits.specs.Limits.{max_bundle_members, max_route_points, max_points, max_tap_visits, largest_list, search_scratch, promotion_scratch, most_kept}
 use Rattle.binary64.specs.Accepted.{plus_zero, is_coordinate, is_option, zero64}
 use Rattle.geometry.specs.declared.Point.{Point}
 use Rattle.geometry.specs.declared.Role.{Role}
 use Rattle.geometry.specs.declared.Role.TheVariants.{Input, Output}
 use Rattle.search.specs.declared.Bounds.{Bounds}
-use Rattle.search.specs.declared.CollectorBounds.{CollectorBounds}
-use Rattle.search.specs.declared.CollectorBounds.TheVariants.{Absent, Between}
 use Rattle.search.specs.declared.Outcome.TheVariants.{Spent}
 use Rattle.search_calls.specs.declared.SearchAnswer.{SearchAnswer}
 use Rattle.search.specs.Stretches.{members, routes}
@@ -46,9 +44,9 @@ abbrev pub bounds_fit : Bounds → Bool
 bounds_fit b = is_coordinate b.minimum && is_coordinate b.desired && is_coordinate b.maximum
 
 -- bounds that are absent are not looked at
-abbrev pub collector_bounds_fit : CollectorBounds → Bool
-collector_bounds_fit Absent = true
-collector_bounds_fit (Between b) = bounds_fit b
+abbrev pub collector_bounds_fit : Option Bounds → Bool
+collector_bounds_fit None = true
+collector_bounds_fit (Some b) = bounds_fit b
 
 -- document 01's number of a refusal, or 0: 2, then 4, then 5, then 6 for a role that is neither 0 nor 1, then 7. `room` says that every lent output and scratch is long enough.
 abbrev pub refusal : Bool → List Float → List ℕ → List ℕ → ℕ → Float → Bool → ℕ → ℕ
@@ -107,8 +105,8 @@ pub record Untouched (number : ℕ) (candidates candidates' scratch scratch' : L
 abbrev pub bounds : Float → Float → Float → Bounds
 bounds minimum desired maximum = record { minimum = minimum; desired = desired; maximum = maximum }
 
-abbrev pub collector_bounds : Bool → Float → Float → Float → CollectorBounds
-collector_bounds present minimum desired maximum = cond present (Between (bounds minimum desired maximum)) Absent
+abbrev pub collector_bounds : Bool → Float → Float → Float → Option Bounds
+collector_bounds present minimum desired maximum = cond present (Some (bounds minimum desired maximum)) None
 
 -- 2: the output has room for the largest list, 2,017 numbers (`Sizes`), and each scratch has 2,048
 abbrev pub search_room : List Float → List Float → List Float → Bool
@@ -125,13 +123,13 @@ search_says number points starts counts role pitch b granted =
 abbrev pub promotion_room : List Float → List Float → List Float → Bool
 promotion_room xs candidates scratch = leb most_kept (length xs) && leb promotion_scratch (length candidates) && leb promotion_scratch (length scratch)
 
-abbrev pub promotion_number : List Float → List Float → List Float → List Float → List ℕ → List ℕ → ℕ → Float → CollectorBounds → ℕ → ℕ
+abbrev pub promotion_number : List Float → List Float → List Float → List Float → List ℕ → List ℕ → ℕ → Float → Option Bounds → ℕ → ℕ
 promotion_number xs candidates scratch points starts counts role pitch b granted = refusal (promotion_room xs candidates scratch) points starts counts role pitch (collector_bounds_fit b) granted
 
-abbrev pub promoted : Role → Float → CollectorBounds → List (List (Option (Float × Float))) → ℕ → Said
-promoted role pitch Absent ms granted = absent granted
-promoted role pitch (Between b) ms granted = promotion_said (shortened (promotion_xs role pitch b ms granted))
+abbrev pub promoted : Role → Float → Option Bounds → List (List (Option (Float × Float))) → ℕ → Said
+promoted role pitch None ms granted = absent granted
+promoted role pitch (Some b) ms granted = promotion_said (shortened (promotion_xs role pitch b ms granted))
 
-abbrev pub promotion_says : ℕ → List Float → List ℕ → List ℕ → ℕ → Float → CollectorBounds → ℕ → Said
+abbrev pub promotion_says : ℕ → List Float → List ℕ → List ℕ → ℕ → Float → Option Bounds → ℕ → Said
 promotion_says number points starts counts role pitch b granted =
     cond (eqb number 0) (promoted (role_of role) pitch b (members (role_of role) pitch (routes points starts counts)) granted) (refused granted)

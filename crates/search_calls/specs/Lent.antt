@@ -1,8 +1,7 @@
 -- The calls of the public entries, over what a caller lends. Definitions of inner contracts.
 -- Assumes nothing.
-use Rattle.std.specs.Prelude.{Bool, List, ℕ, Float}
+use Rattle.std.specs.Prelude.{Bool, List, ℕ, Float, Option}
 use Rattle.search.specs.declared.Bounds.{Bounds}
-use Rattle.search.specs.declared.CollectorBounds.{CollectorBounds}
 use Rattle.search_calls.specs.declared.LentRoutes.{LentRoutes}
 use Rattle.search_calls.specs.declared.Call.{Call}
 use Rattle.search_calls.specs.Entry.{plus_zeros, places_fit, refusal, Said, search_number, search_says, promotion_number, promotion_says}
@@ -24,10 +23,10 @@ search_call xs candidates scratch c b = search_number xs candidates scratch c.ro
 abbrev pub search_call_says : ℕ → Call → Bounds → Said
 search_call_says number c b = search_says number c.routes.points.now c.routes.starts.now c.routes.counts.now c.role c.pitch b c.granted
 
-abbrev pub promotion_call : List Float → List Float → List Float → Call → CollectorBounds → ℕ
+abbrev pub promotion_call : List Float → List Float → List Float → Call → Option Bounds → ℕ
 promotion_call xs candidates scratch c b = promotion_number xs candidates scratch c.routes.points.now c.routes.starts.now c.routes.counts.now c.role c.pitch b c.granted
 
-abbrev pub promotion_call_says : ℕ → Call → CollectorBounds → Said
+abbrev pub promotion_call_says : ℕ → Call → Option Bounds → Said
 promotion_call_says number c b = promotion_says number c.routes.points.now c.routes.starts.now c.routes.counts.now c.role c.pitch b c.granted
 
 -- a call of the first routes is one of the second with plus zeros

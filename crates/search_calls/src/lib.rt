@@ -12,7 +12,8 @@ pub struct LentRoutes<'a> {
     pub counts: &'a [usize],
 }
 
-// What a caller asks, besides the bounds.
+// What a caller asks, besides the bounds. The role is a number, as a C caller lends it: the entries look at
+// it before it is a Role.
 #[derive(Clone, Copy)]
 pub struct Call<'a> {
     pub routes: LentRoutes<'a>,
@@ -23,8 +24,8 @@ pub struct Call<'a> {
 
 // What a public entry says, a struct for C: document 01's number of a refusal, or 0; the mark of the outcome (0
 // nothing common, 1 found or kept, 2 spent, 3 bounds absent, 4 the second search of a promotion
-// spent); the visits left; how many numbers stand at the front of the output, and the first of
-// them.
+// spent), which is a number for C; the visits left; how many numbers stand at the front of the output,
+// and the first of them.
 #[repr(C)]
 #[derive(Clone, Copy)]
 pub struct SearchAnswer {

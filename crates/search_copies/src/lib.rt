@@ -13,6 +13,7 @@ use search_calls::LentRoutes;
 
 // Whether the members' routes are within the points lent, and neither they nor their points are too
 // many.
+#[tactic(auto, using(std::proofs::lemmas::Grind::common_steps), unfolding(search_calls::specs::Copied::windows_fit))]
 pub fn windows_fit<'a>(lent: LentRoutes<'a>) -> bool
     ensures { result ≡ lent_windows_fit lent.entry }
 {
@@ -49,6 +50,7 @@ pub fn copy_routes<'a>(lent: LentRoutes<'a>, copy: &mut [f64], rows: &mut [usize
 
 // The routes with plus zeros for minus zeros, in copy and rows. Routes that do not fit are not copied:
 // a call of them is refused before a number is looked at.
+#[tactic(auto, using(search_calls::proofs::Copies::unfit_call))]
 pub fn with_plus_zeros<'a>(
     lent: LentRoutes<'a>,
     copy: &'a mut [f64],

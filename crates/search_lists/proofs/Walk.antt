@@ -1,6 +1,6 @@
 -- The steps of the search's definitions, by place in the lists: what each loop of `gather` and `try_candidates` takes.
 -- Assumes nothing.
-use Rattle.std.specs.Prelude.{Option}
+use Rattle.std.specs.Prelude.{Option, Some}
 use mathlib.Core.Path.{◌≡◌, refl, sym, ◌∙◌, ap}
 use mathlib.Core.Bool.{Bool}
 use mathlib.Core.List.{List, [], ◌∷◌, ◌++◌, map}
@@ -15,8 +15,6 @@ use Rattle.geometry.specs.Stretch.{stretch, holds}
 use Rattle.geometry.specs.Points.{runs, point_at, points_from}
 use Rattle.geometry.specs.View.{points_length}
 use Rattle.search.specs.declared.Bounds.{Bounds}
-use Rattle.search.specs.declared.Candidate.{Candidate}
-use Rattle.search.specs.declared.Candidate.TheVariants.{At}
 use Rattle.search.specs.Stretches.{stretches, members, routes, all_runs, runs_in}
 use Rattle.search.specs.Kept.{spanned, members_from}
 use Rattle.search.specs.Search.{Listing, listing, spent, candidate, onto, gathered_onto, Tried, held, lacked, unpaid, after, or_else, tried_on, tried_on_all, tried}
@@ -75,7 +73,7 @@ module _ (role : Role) (b : Bounds) (xs : List Float) where
     unfolding gathered_onto
     gather_spent e = rw e
 
-    pub gather_step : (c : Candidate) → 0 < v → candidate role b s ≡ c → gathered_onto role b xs (s ∷ ss) v ≡ gathered_onto role b (onto xs c) ss (v - 1)
+    pub gather_step : (c : Option Float) → 0 < v → candidate role b s ≡ c → gathered_onto role b xs (s ∷ ss) v ≡ gathered_onto role b (onto xs c) ss (v - 1)
     unfolding gathered_onto
     gather_step c h e = let p : v ≡ suc (v - 1) = omega arith in ap (gathered_onto role b xs (s ∷ ss)) p ∙ rw e
 
@@ -83,7 +81,7 @@ module _ (role : Role) (b : Bounds) (xs : List Float) where
   unfolding gathered_onto
   gather_end v = refl
 
-pub stored : (xs : List Float) (n : ℕ) (x : Float) → n < length xs → onto (take n xs) (At x) ≡ take (n + 1) (set xs n x)
+pub stored : (xs : List Float) (n : ℕ) (x : Float) → n < length xs → onto (take n xs) (Some x) ≡ take (n + 1) (set xs n x)
 stored xs n x h = rw (add-one, take-suc-set xs n x h)
 
 -- ---- the second pass

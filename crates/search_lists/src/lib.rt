@@ -12,8 +12,8 @@ ghost use Rattle.search.specs.Lent.{sought_lent};
 ghost use Rattle.search.specs.Search.{gathered, tried, Lists, InOrder};
 ghost use Rattle.search.specs.Kept.{members_from, Keeps};
 
-use geometry::{Role, RouteView};
-use search::{Candidate, Listed, Sought, TapVisits};
+use geometry::Role;
+use search::{Listed, Sought, TapVisits};
 
 // The first pass: the desired x and a candidate of each run that has one, one visit paid before
 // each run. Each run's stretch, or that it has none, is kept as a pair at the front of kept.
@@ -33,14 +33,8 @@ pub fn gather<'a>(
     let mut k = 0;
     let mut left = granted.0;
     for m in 0..sought.routes.starts.len() {
-        let start = sought.routes.starts[m];
-        let count = sought.routes.counts[m];
-        let route = RouteView {
-            points: sought.routes.points,
-            start,
-            count,
-        };
-        for i in 0..count.saturating_sub(1) {
+        let route = search_runs::member_route(sought.routes, m);
+        for i in 0..route.count.saturating_sub(1) {
             if left == 0 {
                 return Listed::Spent;
             }
@@ -49,7 +43,7 @@ pub fn gather<'a>(
             route_views::put_point(kept, k, search_runs::kept_of(s));
             k += 1;
             let c = search_runs::candidate_of(sought.role, sought.bounds, s);
-            if let Candidate::At(x) = c {
+            if let Some(x) = c {
                 xs[n] = x;
                 n += 1;
             }

@@ -19,7 +19,7 @@ use search_calls::{Call, LentRoutes};
 
 // ---- what the public entries refuse
 
-// Every member's points are within the points lent. Numbers that would wrap are out of them.
+// Every member's points are within the points lent.
 #[tactic(auto, using(search_calls::proofs::RefusalSteps::places_differ, search_calls::proofs::RefusalSteps::places_next, search_calls::proofs::RefusalSteps::places_end))]
 pub fn places_fit<'a>(lent: LentRoutes<'a>) -> bool
     ensures { result ≡ lent_places_fit lent.entry }
@@ -27,10 +27,9 @@ pub fn places_fit<'a>(lent: LentRoutes<'a>) -> bool
     if lent.starts.len() != lent.counts.len() {
         return false;
     }
-    let n = lent.points.len() / 2;
     for m in 0..lent.starts.len() {
-        let start = lent.starts[m];
-        if start > n || lent.counts[m] > n - start {
+        let route = route_views::view(lent.points, lent.starts[m], lent.counts[m]);
+        if route_views::view_within(route).is_none() {
             return false;
         }
     }
@@ -75,12 +74,7 @@ pub fn routes_fit<'a>(routes: MemberRoutes<'a>) -> bool
     ensures { result ≡ routes_fit (routes_lent routes.entry) }
 {
     for m in 0..routes.starts.len() {
-        let route = RouteView {
-            points: routes.points,
-            start: routes.starts[m],
-            count: routes.counts[m],
-        };
-        if !points_fit(route) {
+        if !points_fit(search_runs::member_route(routes, m)) {
             return false;
         }
     }

@@ -2,7 +2,7 @@
 
 #![tactic(auto)]
 
-ghost use Rattle.std.specs.Prelude.{◌≡◌, cond, ◌≤◌, ltb, length, take, List, Float};
+ghost use Rattle.std.specs.Prelude.{◌≡◌, ◌≤◌, length, take, List, Float};
 ghost use Rattle.limits.specs.Limits.{most_kept};
 ghost use Rattle.search.specs.Search.{Fits, told, mark, first};
 ghost use Rattle.search.specs.Promotion.{PromotionFits, promotion_told, shortened};
@@ -68,21 +68,15 @@ pub fn search_reply(g: Listed, list: &[f64], xs: &mut [f64]) -> SearchAnswer
     }
 }
 
-pub fn at_most(n: usize, most: usize) -> usize
-    ensures { result ≡ cond (ltb n most) n most }
-{
-    if n < most { n } else { most }
-}
-
 pub fn promotion_reply(p: Promoted, list: &[f64], xs: &mut [f64]) -> SearchAnswer
     requires { PromotionFits p (length list.now) × (most_kept ≤ length xs.old) }
     ensures { Replied 0 (promotion_said (shortened (promotion_told p list.now))) result xs.old xs.new }
 {
     match p {
         Promoted::Spent => reply(2, 0, 0, list, xs),
-        Promoted::SecondSpent(n) => reply(4, 0, at_most(n, MOST_KEPT), list, xs),
+        Promoted::SecondSpent(n) => reply(4, 0, n.min(MOST_KEPT), list, xs),
         Promoted::All(n, left) => {
-            let k = at_most(n, MOST_KEPT);
+            let k = n.min(MOST_KEPT);
             reply(mark_of(k), left.0, k, list, xs)
         }
     }

@@ -7,7 +7,7 @@
 
 #![tactic(auto)]
 
-ghost use Rattle.std.specs.Prelude.{◌≡◌, ◌+◌, ◌*◌, ◌<◌, length};
+ghost use Rattle.std.specs.Prelude.{◌≡◌, ◌+◌, ◌*◌, ◌<◌, get_or, length};
 ghost use Rattle.geometry.specs.Stretch.{stretch, holds};
 ghost use Rattle.geometry.specs.Points.{point_at};
 ghost use Rattle.search.specs.Promotion.{adjacent, between};
@@ -15,7 +15,19 @@ ghost use Rattle.search.specs.Search.{candidate, falls};
 ghost use Rattle.search.specs.Kept.{kept, spanned};
 
 use geometry::{Point, Role, RouteView};
-use search::{Bounds, Candidate};
+use search::{Bounds, MemberRoutes};
+
+// The route of member m.
+pub fn member_route<'a>(routes: MemberRoutes<'a>, m: usize) -> RouteView<'a>
+    requires { m < length routes.starts.now }
+    ensures { (result.points ≡ routes.entry.points) × (result.start ≡ get_or routes.entry.starts.now m 0) × (result.count ≡ get_or routes.entry.counts.now m 0) }
+{
+    RouteView {
+        points: routes.points,
+        start: routes.starts[m],
+        count: routes.counts[m],
+    }
+}
 
 // The stretch of run i of a route.
 pub fn run_stretch<'a>(route: RouteView<'a>, i: usize, role: Role, pitch: f64) -> Option<(f64, f64)>
@@ -46,22 +58,18 @@ pub fn kept_holds(pairs: &[f64], i: usize, x: f64) -> bool
     (x >= pairs[2 * i]) & (x <= pairs[2 * i + 1])
 }
 
-pub fn candidate_of(role: Role, b: Bounds, s: Option<(f64, f64)>) -> Candidate
+pub fn candidate_of(role: Role, b: Bounds, s: Option<(f64, f64)>) -> Option<f64>
     ensures { result ≡ candidate role b s }
 {
-    match s {
-        None => Candidate::Missing,
-        Some((segment_low, segment_high)) => {
-            let low = binary64::max(segment_low, b.minimum);
-            let high = binary64::min(segment_high, b.maximum);
-            if low > high {
-                return Candidate::Missing;
-            }
-            match role {
-                Role::Input => Candidate::At(binary64::min(high, b.desired)),
-                Role::Output => Candidate::At(binary64::max(low, b.desired)),
-            }
-        }
+    let (segment_low, segment_high) = s?;
+    let low = binary64::max(segment_low, b.minimum);
+    let high = binary64::min(segment_high, b.maximum);
+    if low > high {
+        return None;
+    }
+    match role {
+        Role::Input => Some(binary64::min(high, b.desired)),
+        Role::Output => Some(binary64::max(low, b.desired)),
     }
 }
 
@@ -77,7 +85,8 @@ pub fn is_falling(role: Role) -> bool
 
 // ---- promotion_collector_candidates
 
-// One pitch beside the desired x.
+// One pitch beside the desired x. No call of plan_numbers::inward, which would be with the role turned round
+// and would hide that an Input bundle goes left here.
 pub fn adjacent_lane(role: Role, pitch: f64, desired: f64) -> f64
     ensures { result ≡ adjacent role pitch desired }
 {

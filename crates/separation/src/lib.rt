@@ -14,7 +14,7 @@ ghost use Rattle.plan.specs.Depths.{pitch_of};
 ghost use Rattle.plan.specs.Plan.{clear, moved, cut_to, if_clear, lanes_of, add_lane, beside, separated};
 ghost use Rattle.plan.specs.Prepared.{Among, ranged_from, x_of, plan_in};
 ghost use Rattle.plan.specs.Lent.{BundleTells};
-ghost use Rattle.separation.specs.Taken.{taken, lanes_in, outer, outmost, cut_past, none_taken, RangesTell, RangesFit};
+ghost use Rattle.separation.specs.Taken.{taken, lanes_in, outmost, cut_past, none_taken, RangesTell, RangesFit};
 
 use board::Table;
 use geometry::Role;
@@ -22,7 +22,7 @@ use limits::MAX_BUNDLES;
 use plan::layout::Setting;
 use plan::search_work::SearchWork;
 use plan::{Bound, Planned, Planning, Range, Ranges};
-use search::{Bounds, CollectorBounds, Outcome, Searched, TapVisits};
+use search::{Bounds, Outcome, Searched, TapVisits};
 
 // The x taken so far by bundles of one role.
 pub type Taken = Table<f64, MAX_BUNDLES>;
@@ -39,23 +39,12 @@ pub fn collector_has_lane_separation(pitch: f64, x: f64, used: &[f64]) -> bool
     ensures { result ≡ clear pitch x used.now }
 {
     let least = pitch - 0.0000001;
-    for i in 0..used.len() {
-        if !(binary64::abs(used[i] - x) >= least) {
+    for &y in used {
+        if !(binary64::abs(y - x) >= least) {
             return false;
         }
     }
     true
-}
-
-// The smaller of two for inputs, the larger for outputs. No one function with `inner` of
-// component_extents: that would be called with the role turned round, which hides which of the two is meant.
-fn outer(role: Role, x: f64, y: f64) -> f64
-    ensures { result ≡ outer role x y }
-{
-    match role {
-        Role::Input => binary64::min(x, y),
-        Role::Output => binary64::max(x, y),
-    }
 }
 
 // The smallest of x and those taken for inputs, the largest for outputs.
@@ -63,21 +52,18 @@ fn outmost(role: Role, x: f64, used: &[f64]) -> f64
     ensures { result ≡ outmost role x used.now }
 {
     let mut most = x;
-    for i in 0..used.len() {
-        most = outer(role, most, used[i]);
+    for &y in used {
+        most = plan_numbers::outer(role, most, y);
     }
     most
 }
 
 // Past all that are taken, but within the bounds.
+#[tactic(auto, using(crate::proofs::TakenTurns::past_all))]
 fn moved(pitch: f64, role: Role, r: Bounds, x: f64, used: &[f64]) -> f64
     ensures { result ≡ moved pitch role r x used.now }
 {
-    let most = outmost(role, x, used);
-    let past = match role {
-        Role::Input => most - pitch,
-        Role::Output => most + pitch,
-    };
+    let past = search_runs::adjacent_lane(role, pitch, outmost(role, x, used));
     plan_numbers::clamp(past, r.minimum, r.maximum)
 }
 
@@ -99,16 +85,12 @@ fn cut_to(role: Role, r: Bounds, d: f64) -> Bounds
 }
 
 // The bounds of a bundle, cut to what lies past all that are taken.
-fn cut_beside(pitch: f64, role: Role, b: CollectorBounds, x: f64, used: &[f64]) -> CollectorBounds
+fn cut_beside(pitch: f64, role: Role, b: Option<Bounds>, x: f64, used: &[f64]) -> Option<Bounds>
     ensures { result ≡ cut_past pitch role b x used.now }
 {
-    match b {
-        CollectorBounds::Absent => CollectorBounds::Absent,
-        CollectorBounds::Between(r) => {
-            let d = moved(pitch, role, r, x, used);
-            CollectorBounds::Between(cut_to(role, r, d))
-        }
-    }
+    let r = b?;
+    let d = moved(pitch, role, r, x, used);
+    Some(cut_to(role, r, d))
 }
 
 // One bundle: a planned x stays if it is clear of those taken, and otherwise is sought anew.

@@ -2,8 +2,7 @@
 //
 // Ported from cachanova/schemweave, commit c4a1a2c60a, crates/schemweave/src/boundary_bundles.rs
 // (Apache-2.0, see NOTICE); names are those of that module where it has one. Every test compares
-// and rounds as the definition that its contract cites says: nothing here has a tolerance but
-// preserved_point_matches.
+// and rounds as the definition that its contract cites says, and none has a tolerance.
 
 #![tactic(auto)]
 

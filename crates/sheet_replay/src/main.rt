@@ -5,8 +5,7 @@
 #![tactic(auto)]
 
 ghost use Rattle.std.specs.Prelude.{◌≡◌, ◌*◌, ◌≤◌, length};
-ghost use Rattle.limits.specs.Limits.{max_nodes, max_edges, max_bundles, max_members, slot_numbers};
-ghost use Rattle.route.specs.Slots.{Held};
+ghost use Rattle.limits.specs.Limits.{max_nodes, max_edges, max_bundles, max_members};
 ghost use Rattle.answer.specs.SheetTables.{Windows};
 ghost use Rattle.job_tables.specs.Came.{Came};
 ghost use Rattle.draw_job.specs.JobTables.{MembersOn, OnSheet, Lent};
@@ -21,6 +20,7 @@ use limits::{
     POINT_NUMBERS, SLOT_NUMBERS, TAP_NUMBERS,
 };
 use plan::{Bound, Planned, Planning};
+use route::PresentRoutes;
 use search::TapVisits;
 use turns::TurnWork;
 
@@ -32,21 +32,13 @@ const OUT_ROOM: usize = 131072;
 
 // ---- the plan of a record
 //
-// plan_replay has both functions too: of the crates below both, those that know a plan read no records.
-
-fn bound_at(record: &[u8], at: usize) -> Bound {
-    match records::option_at(record, at) {
-        None => Bound::None,
-        Some(x) => Bound::At(x),
-    }
-}
-
+// plan_replay has the same: of the crates below both, those that know a plan read no records.
 fn plan_at(record: &[u8], from: usize, left: TapVisits) -> Planning {
     let mut rows = [Planned { x: Bound::None }; MAX_BUNDLES];
     let mut at = from;
     for row in &mut rows {
         *row = Planned {
-            x: bound_at(record, at),
+            x: Bound::from(records::option_at(record, at)),
         };
         at = records::plus(at, 9);
     }
@@ -65,14 +57,13 @@ fn put_verdict(out: &mut [u8; OUT_ROOM], number: u64, bundle: usize, left: Geome
     7
 }
 
-// A sheet, written as an answer is, by way of a page with room for every table. The routes are in
-// slots (crate route), and the taps stand one after the other.
+// A sheet, written as an answer is, by way of a page with room for every table. The taps stand one after the
+// other.
 #[derive(Clone, Copy)]
 struct WrittenSheet<'a> {
     nodes: Nodes,
     drawn: DrawnBundles,
-    points: &'a [f64],
-    counts: &'a [usize],
+    present: PresentRoutes<'a>,
     taps: &'a [f64],
 }
 
@@ -86,12 +77,12 @@ fn put_page(
     at: usize,
 ) -> usize
     requires count_le_max_nodes { (s.nodes.count ≤ max_nodes) × (j.edges.count ≤ max_edges) × (s.drawn.count ≤ max_bundles) × (j.members.count ≤ max_members) }
-    requires count_in_bounds { (j.edges.count ≤ length s.counts.now) × (slot_numbers * j.edges.count ≤ length s.points.now) × Held s.counts.now }
+    requires count_in_bounds { j.edges.count ≤ length s.present.counts.now }
     requires windows { Windows s.drawn.count s.drawn.rows j.members.count × (2 * j.members.count ≤ length s.taps.now) }
     requires members_on { MembersOn j.edges j.members }
 {
     let t = draw_job::tap_rows(j.edges, j.members, s.taps);
-    let n = answer::write_answer(page, f, s.nodes, j.edges, s.points, s.counts, s.drawn, t);
+    let n = answer::write_answer(page, f, s.nodes, j.edges, s.present, s.drawn, t);
     records::put(out, at, &page[..n]);
     records::plus(at, n)
 }
@@ -113,11 +104,11 @@ fn put_pages(
     requires { OnSheet j edges.now drawn points.old counts.now taps.old }
 {
     let start = put_verdict(out, 0, drawn.count, rest);
+    let present = PresentRoutes { points, counts };
     let before = WrittenSheet {
         nodes: j.nodes,
         drawn,
-        points,
-        counts,
+        present,
         taps,
     };
     let unsized_frame = Frame {
@@ -128,11 +119,11 @@ fn put_pages(
     };
     let next = put_page(page, unsized_frame, j, before, out, start);
     let l = normalize::normalize_layout(j.nodes, drawn, points, counts, taps, j.members.count);
+    let present = PresentRoutes { points, counts };
     let after = WrittenSheet {
         nodes: l.nodes,
         drawn: l.drawn,
-        points,
-        counts,
+        present,
         taps,
     };
     let frame = Frame {

@@ -2,16 +2,14 @@
 // made, in job order.
 //
 // Ported from cachanova/schemweave, commit c4a1a2c60a, crates/schemweave/src/boundary_bundles.rs
-// (Apache-2.0, see NOTICE). The present routes are in slots (crate route). The turns read nodes, edges
-// and ports from slices of numbers, filled before the first: boxes and ends (crate checks), and spots,
-// whose point i is where the port of bundle i stands. The slices that are written, edges, lanes, taps,
-// points and counts, are in no struct: with several fields of one lent struct lent on at a time, and told of
-// afterwards, the proofs did not close.
+// (Apache-2.0, see NOTICE). The present routes are in slots (crate route). The slices that are written,
+// edges, lanes, taps, points and counts, are in no struct: with several fields of one lent struct lent on
+// at a time, and told of afterwards, the proofs did not close.
 
 #![tactic(auto)]
 
 ghost use Rattle.std.specs.Prelude.{◌≡◌, ◌++◌, map, ◌+◌, ◌*◌, ◌<◌, ◌≤◌, length, take, IfOk};
-ghost use Rattle.limits.specs.Limits.{max_bundles, slot_numbers};
+ghost use Rattle.limits.specs.Limits.{slot_numbers};
 ghost use Rattle.route.specs.Slots.{routes_of, Held};
 ghost use Rattle.board.specs.Board.{Board};
 ghost use Rattle.plan.specs.BoardTables.{given_routes, RoutesIn};
@@ -20,17 +18,18 @@ ghost use Rattle.plan.specs.Prepared.{x_of};
 ghost use Rattle.drawing.specs.Sheet.{turn, turns_from, sheet_of, blank};
 ghost use Rattle.checks.specs.Purse.{told};
 ghost use Rattle.checks.specs.MemberSlices.{members_from, Row};
-ghost use Rattle.turns.specs.TurnTables.{turn_of, standing, ends_as, drawn_in, row_drawn, spot_of, Faced, Ready, Longer, Shows, Named, Lists, Room, Short, Rows, Full, members_all, GivenIn, Listed, Boxed, Ended, Spotted, Follow, Once};
+ghost use Rattle.turns.specs.TurnTables.{turn_of, standing, ends_as, drawn_in, row_drawn, Faced, Ready, Longer, Lists, Room, Short, Rows, Full, members_all, GivenIn, Listed, Follow, Once};
 
-use board::{Bundle, DrawnBundle, DrawnBundles, Edge, Member, PlacedNode, Port};
-use checks::{BoardSlices, BundleRows, MemberRows, MemberTaps, PresentRoutes, Rules};
+use board::{Bundle, DrawnBundle, DrawnBundles, Edge, Member};
+use checks::{BoardSlices, BundleRows, MemberRows, MemberTaps, Rules};
 use drawing::GeometryVisits;
 use geometry::{Point, RouteView, Segment};
-use limits::{MAX_BUNDLES, MAX_EDGES, MAX_NODES};
+use limits::MAX_BUNDLES;
 use member_rewriting::Lead;
 use plan::tables::BoardTables;
 use plan::{Bound, Offsets, Planned};
 use refusal::Refusal;
+use route::PresentRoutes;
 
 // What a turn works in, lent: a mask of the routes that it changes, and room for the numbers of one slot.
 #[derive(Drop)]
@@ -72,8 +71,8 @@ fn draw_bundle(
     work: &mut TurnWork,
     visits: &mut GeometryVisits,
 ) -> Result<DrawnBundle, Refusal>
-    requires { (2 * length counts.old ≤ length board.ends.now) × Ready t.bundle priors table.edges.now table.lanes.now taps.old points.old counts.old work.old.mask.now }
-    ensures told { (b : Board) → Faced b rules.options board.entry.boxes.now board.entry.ends.now t.bundle t.end (members_from table.entry.edges.now table.entry.lanes.now t.bundle.first t.bundle.count) → ends_as (told result visits.new.0) (routes_of points.new counts.new) (drawn_in table.entry.edges.now taps.new priors ++ row_drawn table.entry.edges.now taps.new result) ≡ turn b rules.permits_crossings (turn_of t.bundle t.planned t.offset) (standing (routes_of points.old counts.old) (drawn_in table.entry.edges.now taps.old priors) visits.old.0) }
+    requires { (length counts.old ≤ length board.edges.now) × Ready t.bundle priors table.edges.now table.lanes.now taps.old points.old counts.old work.old.mask.now }
+    ensures told { (b : Board) → Faced b rules.options board.entry.nodes.now board.entry.edges.now t.bundle t.end (members_from table.entry.edges.now table.entry.lanes.now t.bundle.first t.bundle.count) → ends_as (told result visits.new.0) (routes_of points.new counts.new) (drawn_in table.entry.edges.now taps.new priors ++ row_drawn table.entry.edges.now taps.new result) ≡ turn b rules.permits_crossings (turn_of t.bundle t.planned t.offset) (standing (routes_of points.old counts.old) (drawn_in table.entry.edges.now taps.old priors) visits.old.0) }
     ensures row { IfOk result (λ d. Row t.bundle d) }
     ensures hold { Held counts.new }
     ensures longer { Longer (told result visits.new.0) counts.old counts.new (members_from table.entry.edges.now table.entry.lanes.now t.bundle.first t.bundle.count) }
@@ -120,64 +119,19 @@ fn draw_bundle(
 
 // ---- what is filled before the first turn
 
-// The four numbers of each node: corner x, corner y, width, height.
-fn node_boxes(nodes: &[PlacedNode], boxes: &mut [f64])
-    requires { 4 * length nodes.now ≤ length boxes.old }
-    ensures { Boxed boxes.new nodes.now (length nodes.now) }
-{
-    for i in 0..nodes.len() {
-        let body = nodes[i].body;
-        let size = Point {
-            x: body.width,
-            y: body.height,
-        };
-        route_views::put_point(boxes, 2 * i, body.corner);
-        route_views::put_point(boxes, 2 * i + 1, size);
-    }
-}
-
-// Where a port stands.
-fn spot(boxes: &[f64], p: Port) -> Point
-    requires { 4 * p.node + 3 < length boxes.now }
-    ensures { result ≡ spot_of boxes.now p }
-{
-    shapes::port_point(looks::box_at(boxes, p.node), p.side, p.offset)
-}
-
-// Where each bundle's port stands.
-fn port_spots(boxes: &[f64], ports: &[Port], bundles: &[Bundle], spots: &mut [f64])
-    requires { Named boxes.now ports.now bundles.now × (2 * length bundles.now ≤ length spots.old) }
-    ensures { Spotted spots.new boxes.now ports.now bundles.now (length bundles.now) }
-{
-    for i in 0..bundles.len() {
-        let end = spot(boxes, ports[bundles[i].port]);
-        route_views::put_point(spots, i, end);
-    }
-}
-
-// The ends of each edge, and its given route in its slot.
-fn store_edges(
-    table: &[Edge],
-    given: &[f64],
-    ends: &mut [usize],
-    points: &mut [f64],
-    counts: &mut [usize],
-)
-    requires { GivenIn given.now table.now × (2 * length table.now ≤ length ends.old) × (length counts.old ≡ length table.now) × (slot_numbers * length counts.old ≤ length points.old) }
-    ensures ends { Ended ends.new table.now (length table.now) }
+// The given route of each edge in its slot.
+fn store_edges(table: &[Edge], given: &[f64], points: &mut [f64], counts: &mut [usize])
+    requires { GivenIn given.now table.now × (length counts.old ≡ length table.now) × (slot_numbers * length counts.old ≤ length points.old) }
     ensures routes { routes_of points.new counts.new ≡ given_routes given.now table.now }
     ensures short { Short counts.new }
 {
-    for i in 0..table.len() {
-        let e = table[i];
+    for (i, e) in table.iter().enumerate() {
         let route = RouteView {
             points: given,
             start: e.first,
             count: e.count,
         };
         route_slots::store_route(route, points, counts, i);
-        ends[2 * i] = e.source;
-        ends[2 * i + 1] = e.target;
     }
 }
 
@@ -186,8 +140,7 @@ fn member_rows(members: &[Member], edges: &mut [usize], lanes: &mut [u32])
     requires { (length edges.old ≡ length members.now) × (length lanes.old ≡ length members.now) }
     ensures { Listed edges.new lanes.new members.now (length members.now) }
 {
-    for i in 0..members.len() {
-        let m = members[i];
+    for (i, m) in members.iter().enumerate() {
         edges[i] = m.edge;
         lanes[i] = m.tap_lane;
     }
@@ -214,23 +167,19 @@ fn none_drawn() -> DrawnBundles
     }
 }
 
-// The bundles, the plan of each and the offset of its corridor, and where its port stands.
+// The turns to be made: the board, the plan of each bundle and the offset of its corridor.
 #[derive(Clone, Copy)]
 struct Turns<'a> {
-    bundles: &'a [Bundle],
+    board: BoardTables<'a>,
+    permits_crossings: bool,
     plan: &'a [Planned],
     offsets: &'a [f64],
-    spots: &'a [f64],
-    ghost bundles_few: { length bundles.now ≤ max_bundles },
-    ghost plan_long: { length bundles.now ≤ length plan.now },
-    ghost offsets_long: { length bundles.now ≤ length offsets.now },
-    ghost spots_long: { 2 * length bundles.now ≤ length spots.now },
+    ghost plan_long: { length board.bundles.now ≤ length plan.now },
+    ghost offsets_long: { length board.bundles.now ≤ length offsets.now },
 }
 
 // Every bundle in job order; after a refusal, those drawn before it.
 fn draw_bundles(
-    rules: Rules,
-    board: BoardSlices,
     turns: Turns,
     table: MemberRows,
     taps: &mut [f64],
@@ -239,24 +188,35 @@ fn draw_bundles(
     work: &mut TurnWork,
     visits: &mut GeometryVisits,
 ) -> Drawing
-    requires ends { 2 * length counts.old ≤ length board.ends.now }
-    requires lists { Lists turns.bundles.now table.edges.now table.lanes.now (length counts.old) }
+    requires edges { length counts.old ≤ length turns.board.edges.now }
+    requires members { turns.board.members.now ≡ members_all table.edges.now table.lanes.now }
+    requires lists { Lists turns.board.bundles.now table.edges.now table.lanes.now (length counts.old) }
     requires room { Room (length table.edges.now) taps.old points.old counts.old work.old.mask.now × Short counts.old }
-    ensures told { (b : Board) → Shows b rules.options board.entry.boxes.now board.entry.ends.now turns.entry.spots.now turns.entry.bundles.now (members_all table.entry.edges.now table.entry.lanes.now) → ends_as (told result.ended visits.new.0) (routes_of points.new counts.new) (drawn_in table.entry.edges.now taps.new result.drawn) ≡ sheet_of b rules.permits_crossings (turns_from turns.entry.bundles.now (map x_of (take (length turns.entry.bundles.now) turns.entry.plan.now)) (take (length turns.entry.bundles.now) turns.entry.offsets.now)) (blank (routes_of points.old counts.old) visits.old.0) }
-    ensures rows { Rows (take result.drawn.count turns.entry.bundles.now) (take result.drawn.count result.drawn.rows) }
-    ensures full { Full (told result.ended visits.new.0) result.drawn.count (length turns.entry.bundles.now) }
+    ensures told { ends_as (told result.ended visits.new.0) (routes_of points.new counts.new) (drawn_in table.entry.edges.now taps.new result.drawn) ≡ sheet_of (board_lent turns.entry.board) turns.entry.permits_crossings (turns_from turns.entry.board.bundles.now (map x_of (take (length turns.entry.board.bundles.now) turns.entry.plan.now)) (take (length turns.entry.board.bundles.now) turns.entry.offsets.now)) (blank (routes_of points.old counts.old) visits.old.0) }
+    ensures rows { Rows (take result.drawn.count turns.entry.board.bundles.now) (take result.drawn.count result.drawn.rows) }
+    ensures full { Full (told result.ended visits.new.0) result.drawn.count (length turns.entry.board.bundles.now) }
     ensures hold { Held counts.new }
 {
+    let board = turns.board;
+    let rules = Rules {
+        options: board.options,
+        permits_crossings: turns.permits_crossings,
+    };
+    let slices = BoardSlices {
+        nodes: board.nodes,
+        edges: board.edges,
+    };
     let mut drawn = none_drawn();
-    for i in 0..turns.bundles.len() {
+    for (i, bundle) in board.bundles.iter().enumerate() {
+        let port = board.ports[bundle.port];
         let t = BundleTurn {
-            bundle: turns.bundles[i],
-            end: route_views::point_at(turns.spots, i),
+            bundle: *bundle,
+            end: board::endpoint_of(board.nodes[port.node], port),
             planned: turns.plan[i].x,
             offset: turns.offsets[i],
         };
         match draw_bundle(
-            rules, board, t, drawn, table, taps, points, counts, work, visits,
+            rules, slices, t, drawn, table, taps, points, counts, work, visits,
         ) {
             Ok(row) => {
                 drawn.rows[i] = row;
@@ -304,29 +264,14 @@ pub fn draw_sheet(
     ensures full { Full (told result.ended visits.new.0) result.drawn.count (length board.entry.bundles.now) }
     ensures hold { Held counts.new }
 {
-    let mut boxes = [0.0; 4 * MAX_NODES];
-    let mut ends = [0; 2 * MAX_EDGES];
-    let mut spots = [0.0; 2 * MAX_BUNDLES];
     member_rows(board.members, edges, lanes);
-    store_edges(board.edges, given, &mut ends, points, counts);
-    node_boxes(board.nodes, &mut boxes);
-    port_spots(&boxes, board.ports, board.bundles, &mut spots);
-    let rules = Rules {
-        options: board.options,
-        permits_crossings,
-    };
-    let slices = BoardSlices {
-        boxes: &boxes[..4 * board.nodes.len()],
-        ends: &ends[..2 * board.edges.len()],
-    };
+    store_edges(board.edges, given, points, counts);
     let turns = Turns {
-        bundles: board.bundles,
+        board,
+        permits_crossings,
         plan: &plan,
         offsets: &offsets.rows,
-        spots: &spots,
     };
     let table = MemberRows { edges, lanes };
-    draw_bundles(
-        rules, slices, turns, table, taps, points, counts, work, visits,
-    )
+    draw_bundles(turns, table, taps, points, counts, work, visits)
 }

@@ -17,8 +17,9 @@ put_line-at-requires c =
     let a = c.args in
     let l = c.loop-i in
     let r = rows (goal.at.put_line-at-requires c).Start in
-    let h = c.requires.3 l.i in
-    let w = line_room a.t.rows a.slots.now a.counts.now a.t.count l.i some_edge (omega arith) c.requires.1 (omega arith) in
+    let h = a.present.slots.hold l.i in
+    let q = a.present.slots.slots in
+    let w = line_room a.t.rows a.present.points.now a.present.counts.now a.t.count l.i some_edge (omega arith) c.requires.1 (omega arith) in
     (omega arith, omega arith, omega arith)
 
 pub loop-i-preserved : goal.loop-i-preserved
@@ -28,9 +29,9 @@ loop-i-preserved c =
     let f = c.put_line-at in
     let r = rows (goal.at.loop-i-preserved c).Start in
     let e = f.ensures.place in
-    let w = line_room a.t.rows a.slots.now a.counts.now a.t.count l.i some_edge (omega arith) c.requires.1 (omega arith) in record {
+    let w = line_room a.t.rows a.present.points.now a.present.counts.now a.t.count l.i some_edge (omega arith) c.requires.1 (omega arith) in record {
       place = omega arith;
-      bytes = line_turn a.t.rows a.slots.now a.counts.now a.t.count l.i _ (omega arith) c.requires.1 l.out f.new.out l.at _ e (omega arith) f.ensures.bytes ∙ l.invariant.bytes;
+      bytes = line_turn a.t.rows a.present.points.now a.present.counts.now a.t.count l.i _ (omega arith) c.requires.1 l.out f.new.out l.at _ e (omega arith) f.ensures.bytes ∙ l.invariant.bytes;
     }
 
 pub returns : goal.returns
@@ -38,6 +39,6 @@ returns c =
     let a = c.args in
     let l = c.loop-i in
     let r = rows (goal.at.returns c).Start in
-    let z = lines_done a.t.rows a.slots.now a.counts.now a.t.count l.i (omega arith) (omega arith) in
+    let z = lines_done a.t.rows a.present.points.now a.present.counts.now a.t.count l.i (omega arith) (omega arith) in
     let y = ap length z in
     record { bytes = ap (λ x. sets l.out l.at x) (sym z) ∙ l.invariant.bytes; place = omega arith }

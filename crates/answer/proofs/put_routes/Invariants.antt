@@ -8,6 +8,6 @@ use Rattle.answer.proofs.put_routes.Given as goal
 
 abbrev pub invariant-loop-i : goal.invariant-loop-i
 invariant-loop-i l = record {
-  place : l.at + length (all_bytes line_bytes (lines_of (drop l.i (take l.t.count l.t.rows)) (routes_from l.slots l.i (drop l.i l.counts)))) ≡ l.from + length (all_bytes line_bytes (lines_of (take l.t.count l.t.rows) (routes_of l.slots l.counts)));
-  bytes : sets l.out l.at (all_bytes line_bytes (lines_of (drop l.i (take l.t.count l.t.rows)) (routes_from l.slots l.i (drop l.i l.counts)))) ≡ sets l.initial.out l.from (all_bytes line_bytes (lines_of (take l.t.count l.t.rows) (routes_of l.slots l.counts)));
+  place : l.at + length (all_bytes line_bytes (lines_of (drop l.i (take l.t.count l.t.rows)) (routes_from l.present.points.now l.i (drop l.i l.present.counts.now)))) ≡ l.from + length (all_bytes line_bytes (lines_of (take l.t.count l.t.rows) (routes_of l.present.points.now l.present.counts.now)));
+  bytes : sets l.out l.at (all_bytes line_bytes (lines_of (drop l.i (take l.t.count l.t.rows)) (routes_from l.present.points.now l.i (drop l.i l.present.counts.now)))) ≡ sets l.initial.out l.from (all_bytes line_bytes (lines_of (take l.t.count l.t.rows) (routes_of l.present.points.now l.present.counts.now)));
 }

@@ -30,7 +30,7 @@ put_head-requires c =
     let rn = node-rows (goal.at.put_head-requires c).Start in
     let re = edge-rows (goal.at.put_head-requires c).Start in
     let rb = bundle_rows (goal.at.put_head-requires c).Start in
-    let q = answer_size a.f a.nodes a.edges a.slots.now a.counts.now a.bundles a.taps (omega arith) (omega arith) (omega arith) p.counted in
+    let q = answer_size a.f a.nodes a.edges a.present.points.now a.present.counts.now a.bundles a.taps (omega arith) (omega arith) (omega arith) p.counted in
     let w = p.room_for_it in
     omega arith
 
@@ -41,7 +41,7 @@ put_records-after_nodes-requires c =
     let rn = node-rows (goal.at.put_records-after_nodes-requires c).Start in
     let re = edge-rows (goal.at.put_records-after_nodes-requires c).Start in
     let rb = bundle_rows (goal.at.put_records-after_nodes-requires c).Start in
-    let q = answer_size a.f a.nodes a.edges a.slots.now a.counts.now a.bundles a.taps (omega arith) (omega arith) (omega arith) p.counted in
+    let q = answer_size a.f a.nodes a.edges a.present.points.now a.present.counts.now a.bundles a.taps (omega arith) (omega arith) (omega arith) p.counted in
     let w = p.room_for_it in
     let k0 = c.put_head.auto.out in
     let z = length-take-le a.nodes.count a.nodes.rows (omega arith) in
@@ -54,12 +54,12 @@ put_routes-after_routes-requires c =
     let rn = node-rows (goal.at.put_routes-after_routes-requires c).Start in
     let re = edge-rows (goal.at.put_routes-after_routes-requires c).Start in
     let rb = bundle_rows (goal.at.put_routes-after_routes-requires c).Start in
-    let q = answer_size a.f a.nodes a.edges a.slots.now a.counts.now a.bundles a.taps (omega arith) (omega arith) (omega arith) p.counted in
+    let q = answer_size a.f a.nodes a.edges a.present.points.now a.present.counts.now a.bundles a.taps (omega arith) (omega arith) (omega arith) p.counted in
     let w = p.room_for_it in
     let k0 = c.put_head.auto.out in
     let k1 = c.put_records-after_nodes.auto.out in
     let e1 = c.put_records-after_nodes.ensures.place in
-    (p.edges, p.counted, p.stored, p.held, omega arith)
+    (p.edges, p.counted, omega arith)
 
 pub put_bundles-end-requires : goal.put_bundles-end-requires
 put_bundles-end-requires c =
@@ -68,7 +68,7 @@ put_bundles-end-requires c =
     let rn = node-rows (goal.at.put_bundles-end-requires c).Start in
     let re = edge-rows (goal.at.put_bundles-end-requires c).Start in
     let rb = bundle_rows (goal.at.put_bundles-end-requires c).Start in
-    let q = answer_size a.f a.nodes a.edges a.slots.now a.counts.now a.bundles a.taps (omega arith) (omega arith) (omega arith) p.counted in
+    let q = answer_size a.f a.nodes a.edges a.present.points.now a.present.counts.now a.bundles a.taps (omega arith) (omega arith) (omega arith) p.counted in
     let w = p.room_for_it in
     let k0 = c.put_head.auto.out in
     let k1 = c.put_records-after_nodes.auto.out in
@@ -85,7 +85,7 @@ put_id-requires c =
     let rn = node-rows (goal.at.put_id-requires c).Start in
     let re = edge-rows (goal.at.put_id-requires c).Start in
     let rb = bundle_rows (goal.at.put_id-requires c).Start in
-    let q = answer_size a.f a.nodes a.edges a.slots.now a.counts.now a.bundles a.taps (omega arith) (omega arith) (omega arith) p.counted in
+    let q = answer_size a.f a.nodes a.edges a.present.points.now a.present.counts.now a.bundles a.taps (omega arith) (omega arith) (omega arith) p.counted in
     let w = p.room_for_it in
     let k0 = c.put_head.auto.out in
     let k1 = c.put_records-after_nodes.auto.out in
@@ -100,15 +100,15 @@ returns c =
     let rn = node-rows (goal.at.returns c).Start in
     let re = edge-rows (goal.at.returns c).Start in
     let rb = bundle_rows (goal.at.returns c).Start in
-    let q = answer_size a.f a.nodes a.edges a.slots.now a.counts.now a.bundles a.taps (omega arith) (omega arith) (omega arith) p.counted in
+    let q = answer_size a.f a.nodes a.edges a.present.points.now a.present.counts.now a.bundles a.taps (omega arith) (omega arith) (omega arith) p.counted in
     let w = p.room_for_it in
     let z = length-take-le a.nodes.count a.nodes.rows (omega arith) in
     let e1 : c.put_records-after_nodes.result ≡ 36 + 20 * a.nodes.count = omega (arith, z, c.put_records-after_nodes.ensures.place) in
     let e2 = c.put_routes-after_routes.ensures.place in
     let e3 = c.put_bundles-end.ensures.place in
-    let ns = nodes_size a.f a.nodes a.edges a.slots.now a.counts.now a.bundles a.taps (omega arith) (omega arith) (omega arith) p.counted in
+    let ns = nodes_size a.f a.nodes a.edges a.present.points.now a.present.counts.now a.bundles a.taps (omega arith) (omega arith) (omega arith) p.counted in
     let h = head_length a.f.tap_visits a.f.geometry_visits a.f.width a.f.height a.nodes.count a.edges.count a.bundles.count in record {
-      bytes = rw (c.put_id.ensures, c.put_bundles-end.ensures.bytes, c.put_routes-after_routes.ensures.bytes, c.put_records-after_nodes.ensures.bytes, c.put_head.ensures, answer_is a.f a.nodes a.edges a.slots.now a.counts.now a.bundles a.taps (omega arith) (omega arith) (omega arith) p.counted)
-          (answer_joined a.out.now (heads a.f a.nodes a.edges a.slots.now a.counts.now a.bundles a.taps (omega arith) (omega arith) (omega arith) p.counted) (nodes_part a.f a.nodes a.edges a.slots.now a.counts.now a.bundles a.taps (omega arith) (omega arith) (omega arith) p.counted) (routes_part a.f a.nodes a.edges a.slots.now a.counts.now a.bundles a.taps (omega arith) (omega arith) (omega arith) p.counted) (bundles_part a.f a.nodes a.edges a.slots.now a.counts.now a.bundles a.taps (omega arith) (omega arith) (omega arith) p.counted) _ _ _ h (e1 ∙ ap (λ (z : ℕ). 36 + z) (sym ns)) e2 e3);
+      bytes = rw (c.put_id.ensures, c.put_bundles-end.ensures.bytes, c.put_routes-after_routes.ensures.bytes, c.put_records-after_nodes.ensures.bytes, c.put_head.ensures, answer_is a.f a.nodes a.edges a.present.points.now a.present.counts.now a.bundles a.taps (omega arith) (omega arith) (omega arith) p.counted)
+          (answer_joined a.out.now (heads a.f a.nodes a.edges a.present.points.now a.present.counts.now a.bundles a.taps (omega arith) (omega arith) (omega arith) p.counted) (nodes_part a.f a.nodes a.edges a.present.points.now a.present.counts.now a.bundles a.taps (omega arith) (omega arith) (omega arith) p.counted) (routes_part a.f a.nodes a.edges a.present.points.now a.present.counts.now a.bundles a.taps (omega arith) (omega arith) (omega arith) p.counted) (bundles_part a.f a.nodes a.edges a.present.points.now a.present.counts.now a.bundles a.taps (omega arith) (omega arith) (omega arith) p.counted) _ _ _ h (e1 ∙ ap (λ (z : ℕ). 36 + z) (sym ns)) e2 e3);
       place = omega arith;
     }

@@ -8,5 +8,5 @@ use Rattle.bundle_contacts.proofs.bus_on_route.Given as goal
 
 abbrev pub invariant-loop-i : goal.invariant-loop-i
 invariant-loop-i l =
-    walk 11 (tests_at l.rules.options l.rules.permits_crossings l.bus.segment (tap_of (taps_lent l.bus.taps) l.e) l.route.points.now l.route.start l.route.count l.i) l.visits.0
-    ≡ walk 11 (run_tests l.rules.options l.rules.permits_crossings l.bus.segment (tap_of (taps_lent l.bus.taps) l.e) (runs (points_from l.route.points.now l.route.start l.route.count))) l.initial.visits.0
+    walk 11 (tests_at l.rules.options l.rules.permits_crossings l.own.bus.segment (tap_of (taps_lent l.own.taps) l.e) l.route.points.now l.route.start l.route.count l.i) l.visits.0
+    ≡ walk 11 (run_tests l.rules.options l.rules.permits_crossings l.own.bus.segment (tap_of (taps_lent l.own.taps) l.e) (runs (points_from l.route.points.now l.route.start l.route.count))) l.initial.visits.0

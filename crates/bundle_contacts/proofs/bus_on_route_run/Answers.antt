@@ -16,15 +16,15 @@ returns-in_err-charge c =
 pub returns-then-is_apart : goal.returns-then-is_apart
 returns-then-is_apart c =
     let a = c.args in
-    let far = sym (ap (λ (t : Trunk). apart t a.rules.options.minimum_parallel_wire_spacing a.run.start a.run.end) c.args.bus.worked_out) ∙ sym c.is_apart.ensures ∙ c.if-is_apart.true in
-    walk_done 11 _ ∙ due_clean _ _ 11 _ [] c.in_ok-charge.ensures.paid (apart_clean a.rules.options a.rules.permits_crossings a.bus.segment _ a.run far)
+    let far = sym (ap (λ (t : Trunk). apart t a.rules.options.minimum_parallel_wire_spacing a.run.start a.run.end) c.args.own.bus.worked_out) ∙ sym c.is_apart.ensures ∙ c.if-is_apart.true in
+    walk_done 11 _ ∙ due_clean _ _ 11 _ [] c.in_ok-charge.ensures.paid (apart_clean a.rules.options a.rules.permits_crossings a.own.bus.segment _ a.run far)
 
 pub returns-then-clashes : goal.returns-then-clashes
 returns-then-clashes c =
     let a = c.args in
-    due_hit _ _ 11 _ [] c.in_ok-charge.ensures.paid (sym (ap (λ (tap : Option Point). clash a.rules.options a.rules.permits_crossings a.bus.segment tap a.run) c.tap_on_route.ensures) ∙ sym c.clashes.ensures ∙ c.if-clashes.true)
+    due_hit _ _ 11 _ [] c.in_ok-charge.ensures.paid (sym (ap (λ (tap : Option Point). clash a.rules.options a.rules.permits_crossings a.own.bus.segment tap a.run) c.tap_on_route.ensures) ∙ sym c.clashes.ensures ∙ c.if-clashes.true)
 
 pub returns : goal.returns
 returns c =
     let a = c.args in
-    walk_done 11 _ ∙ due_clean _ _ 11 _ [] c.in_ok-charge.ensures.paid (sym (ap (λ (tap : Option Point). clash a.rules.options a.rules.permits_crossings a.bus.segment tap a.run) c.tap_on_route.ensures) ∙ sym c.clashes.ensures ∙ c.if-clashes.false)
+    walk_done 11 _ ∙ due_clean _ _ 11 _ [] c.in_ok-charge.ensures.paid (sym (ap (λ (tap : Option Point). clash a.rules.options a.rules.permits_crossings a.own.bus.segment tap a.run) c.tap_on_route.ensures) ∙ sym c.clashes.ensures ∙ c.if-clashes.false)

@@ -1,6 +1,7 @@
 use Rattle.std.proofs.Common.{◌≡◌}
 use Rattle.drawing.specs.Check.{walk, over_routes, route_tests}
-use Rattle.checks.specs.Lent.{chosen_lent, routes_lent, taps_lent}
+use Rattle.route.specs.Lent.{routes_lent}
+use Rattle.checks.specs.Lent.{chosen_lent, taps_lent}
 use Rattle.checks.proofs.TestSteps.{rest_of}
 use Rattle.bundle_contacts.proofs.bus_on_routes.Given as goal
 

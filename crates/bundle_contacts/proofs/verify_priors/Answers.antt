@@ -2,7 +2,8 @@ use Rattle.std.proofs.Common.{arith, rules, ◌≡◌, ◌∙◌, length}
 use Rattle.std.proofs.lemmas.Result.{err_from_is_err_and}
 use Rattle.board.specs.Lengths.{length_mapped}
 use Rattle.limits.specs.Limits.{max_bundles}
-use Rattle.checks.specs.Lent.{chosen_lent, routes_lent}
+use Rattle.route.specs.Lent.{routes_lent}
+use Rattle.checks.specs.Lent.{chosen_lent}
 use Rattle.checks.proofs.TestSteps.{tabled_at, prior_on, prior_off, prior_end}
 use Rattle.bundle_contacts.proofs.verify_priors.Goals as goal
 use Rattle.bundle_contacts.proofs.verify_priors.Goals.{Start}

@@ -1,6 +1,7 @@
 use Rattle.std.proofs.Common.{◌≡◌, map, take}
 use Rattle.drawing.specs.Check.{walk, prior_tests}
-use Rattle.checks.specs.Lent.{chosen_lent, routes_lent, drawn_lent}
+use Rattle.route.specs.Lent.{routes_lent}
+use Rattle.checks.specs.Lent.{chosen_lent, drawn_lent}
 use Rattle.checks.proofs.TestSteps.{priors_at}
 use Rattle.bundle_contacts.proofs.verify_priors.Given as goal
 

@@ -10,14 +10,14 @@ loop-i-init c =
     let a = c.args in
     record { kept = untouched_start a.taps.now a.members.first; told = trunk_start a.role a.pitch a.x a.members.table.edges.now a.members.first a.members.count (routes_of a.present.points.now a.present.counts.now) a.taps.now }
 
-pub returns-in-None-clause-told : goal.returns-in-None-clause-told
-returns-in-None-clause-told c =
+pub returns-in_err-k-clause-told : goal.returns-in_err-k-clause-told
+returns-in_err-k-clause-told c =
     let a = c.args in
     let l = c.loop-i in
     let h = c.loop-i-test.true in
     let g = c.requires.known l.i h in
-    let m = ap (trunk_met a.role a.pitch a.x) (slot_is a.present.points.now a.present.counts.now _ g) ∙ sym c.trunk_tap.ensures ∙ c.in-None.is in
-    trunk_off a.role a.pitch a.x a.members.table.edges.now a.members.first a.members.count (routes_of a.present.points.now a.present.counts.now) l.taps l.i h m ∙ l.invariant.told
+    let m = ap (trunk_met a.role a.pitch a.x) (slot_is a.present.points.now a.present.counts.now _ g ∙ sym c.slot_of-route.ensures) ∙ sym c.in_err-k.ensures in
+    rw c.from_residual.ensures (trunk_off a.role a.pitch a.x a.members.table.edges.now a.members.first a.members.count (routes_of a.present.points.now a.present.counts.now) l.taps l.i h m ∙ l.invariant.told)
 
 pub loop-i-preserved : goal.loop-i-preserved
 loop-i-preserved c =
@@ -26,7 +26,7 @@ loop-i-preserved c =
     let h = c.loop-i-test.true in
     let g = c.requires.known l.i h in
     let p = c.requires.tapped in
-    let m = ap (trunk_met a.role a.pitch a.x) (slot_is a.present.points.now a.present.counts.now _ g) ∙ sym c.trunk_tap.ensures ∙ c.in-Some.is in
+    let m = ap (trunk_met a.role a.pitch a.x) (slot_is a.present.points.now a.present.counts.now _ g ∙ sym c.slot_of-route.ensures) ∙ sym c.in_ok-k.ensures in
     record {
       kept = rw c.put_point.ensures (untouched_next a.taps.now l.taps a.members.first l.i _ l.invariant.kept);
       told = rw c.put_point.ensures (trunk_on a.role a.pitch a.x a.members.table.edges.now a.members.first a.members.count (routes_of a.present.points.now a.present.counts.now) l.taps l.i _ _ h (omega arith) m ∙ l.invariant.told);

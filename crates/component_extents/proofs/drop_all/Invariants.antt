@@ -7,8 +7,8 @@ use Rattle.plan.specs.Plan.{drop_all}
 use Rattle.plan.specs.Prepared.{Listing, x_of}
 use Rattle.component_extents.proofs.drop_all.Given as goal
 
-abbrev pub invariant-loop-k : goal.invariant-loop-k
-invariant-loop-k l = record {
+abbrev pub invariant-loop-i : goal.invariant-loop-i
+invariant-loop-i l = record {
   rows_length : length l.rows ≡ max_bundles;
-  xs_are : (m : ℕ) → Listing l.which m → drop_all (drop l.k l.which) (map x_of (take m l.rows)) ≡ drop_all l.which (map x_of (take m l.initial.rows));
+  xs_are : (m : ℕ) → Listing l.which m → drop_all (drop l.i-index l.which) (map x_of (take m l.rows)) ≡ drop_all l.which (map x_of (take m l.initial.rows));
 }

@@ -8,9 +8,9 @@ use Rattle.plan.specs.Prepared.{Listing}
 use Rattle.components.specs.Settled.{ranges_in}
 use Rattle.component_extents.proofs.of_role.Given as goal
 
-abbrev pub invariant-loop-k : goal.invariant-loop-k
-invariant-loop-k l = record {
-  few : l.count ≤ l.k;
+abbrev pub invariant-loop-i : goal.invariant-loop-i
+invariant-loop-i l = record {
+  few : l.count ≤ l.i-index;
   rows_length : length l.rows ≡ max_bundles;
-  rows_are : (m : ℕ) → Listing l.order m → take l.count l.rows ++ of_role l.role (ranges_in m l.t) (drop l.k l.order) ≡ of_role l.role (ranges_in m l.t) l.order;
+  rows_are : (m : ℕ) → Listing l.order m → take l.count l.rows ++ of_role l.role (ranges_in m l.t) (drop l.i-index l.order) ≡ of_role l.role (ranges_in m l.t) l.order;
 }

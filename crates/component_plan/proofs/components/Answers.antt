@@ -18,7 +18,7 @@ use Rattle.components.specs.Settled.{ranges_in}
 use Rattle.components.proofs.Turns as turns
 use Rattle.component_plan.proofs.Joins as laws
 use Rattle.component_plan.proofs.components.Goals as goal
-use Rattle.component_plan.proofs.components.Goals.{Start, then-not-seen-i+then-is_found+in_ok-p, else-not-seen-i, else-not-seen-i-via-then-not-seen-i+else-is_found, else-not-seen-i-via-else-not-seen-i}
+use Rattle.component_plan.proofs.components.Goals.{Start, then-not-seen-i+then-is_some+in_ok-p, else-not-seen-i, else-not-seen-i-via-then-not-seen-i+else-is_some, else-not-seen-i-via-else-not-seen-i}
 use Rattle.std.proofs.lemmas.Result.{err_from_is_err_and}
 
 long : (s : Start) → length (ranges_in (length s.args.layout.reaches.now) s.args.ranges) ≡ length s.args.layout.reaches.now
@@ -64,8 +64,8 @@ returns-in_err-p c =
     let w = c.component-w in
     let r = err_from_is_err_and c.from_residual.result c.from_residual.ensures.1 in
     rw (r.1, r.2) (λ b given k e.
-    laws.turn_refused b given (ranges_in n a.ranges) n l.seen l.i _ _ (plan_in n l.p) (next (goal.at.returns-in_err-p c).Start l.i h) h m c.if-not-seen-i.true c.is_found.result (found-read (goal.at.returns-in_err-p c).Start l.i c.is_found.result h c.is_found.ensures)
-    (component_from n w.result) _ c.if-is_found.true
+    laws.turn_refused b given (ranges_in n a.ranges) n l.seen l.i _ _ (plan_in n l.p) (next (goal.at.returns-in_err-p c).Start l.i h) h m c.if-not-seen-i.true c.is_some.result (found-read (goal.at.returns-in_err-p c).Start l.i c.is_some.result h c.is_some.ensures)
+    (component_from n w.result) _ c.if-is_some.true
     (laws.component_is a.adjacent.now n b given (ranges_in n a.ranges) l.i l.seen (component_from n w.result) (long (goal.at.returns-in_err-p c).Start) h e w.ensures.1)
     (c.in_err-p.ensures b given k)
     _ refl
@@ -81,13 +81,13 @@ loop-i-preserved c =
     let m : l.i < length l.seen = omega (arith, h, l.invariant.seen_length, c.args.layout.among.bundles_few) in
     let s = (goal.at.loop-i-preserved c).Start in
     elim c.if-not-seen-i.branch [
-      | then-not-seen-i+then-is_found+in_ok-p v ↦
+      | then-not-seen-i+then-is_some+in_ok-p v ↦
           let w = v.component-w in
           rw (v.seen-is, v.p-is) (record {
             seen_length = search (rules, rows.length_mapped);
             plan_is = λ b given k e.
-                laws.turn_going b given (ranges_in n a.ranges) n l.seen l.i _ _ (plan_in n l.p) (next s l.i h) h m v.if-not-seen-i.true v.is_found.result (found-read s l.i v.is_found.result h v.is_found.ensures)
-                (component_from n w.result) _ v.if-is_found.true
+                laws.turn_going b given (ranges_in n a.ranges) n l.seen l.i _ _ (plan_in n l.p) (next s l.i h) h m v.if-not-seen-i.true v.is_some.result (found-read s l.i v.is_some.result h v.is_some.ensures)
+                (component_from n w.result) _ v.if-is_some.true
                 (laws.component_is a.adjacent.now n b given (ranges_in n a.ranges) l.i l.seen (component_from n w.result) (long s) h e w.ensures.1)
                 (v.in_ok-p.ensures b given k)
                 _ refl
@@ -97,8 +97,8 @@ loop-i-preserved c =
         seen_length = l.invariant.seen_length;
         plan_is = λ b given k e.
             (elim v.else-not-seen-i.branch [
-              | else-not-seen-i-via-then-not-seen-i+else-is_found u ↦
-                  laws.turn_absent b given (ranges_in n a.ranges) n l.seen l.i _ _ (plan_in n l.p) (next s l.i h) h m u.if-not-seen-i.true u.is_found.result (found-read s l.i u.is_found.result h u.is_found.ensures) u.if-is_found.false
+              | else-not-seen-i-via-then-not-seen-i+else-is_some u ↦
+                  laws.turn_absent b given (ranges_in n a.ranges) n l.seen l.i _ _ (plan_in n l.p) (next s l.i h) h m u.if-not-seen-i.true u.is_some.result (found-read s l.i u.is_some.result h u.is_some.ensures) u.if-is_some.false
               | else-not-seen-i-via-else-not-seen-i u ↦
                   laws.turn_seen b given (ranges_in n a.ranges) n l.seen l.i _ _ (plan_in n l.p) (next s l.i h) h m u.if-not-seen-i.false
             ])

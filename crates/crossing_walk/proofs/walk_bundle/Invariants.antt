@@ -8,5 +8,5 @@ use Rattle.crossing_walk.proofs.walk_bundle.Given as goal
 abbrev pub invariant-loop-e : goal.invariant-loop-e
 invariant-loop-e l = record {
   same : SameSlices l.initial.kept l.kept;
-  rows : SoFar l.initial.kept.places.now l.initial.kept.names.now l.initial.kept.count l.kept.places.now l.kept.names.now l.kept.count (routes_at l.fn.row l.routes.ids.now l.routes.points.now l.routes.counts.now l.e) (bundle_rows l.fn.row l.routes.ids.now (routes_of l.routes.points.now l.routes.counts.now) 0);
+  rows : SoFar l.initial.kept.places.now l.initial.kept.names.now l.initial.kept.count l.kept.places.now l.kept.names.now l.kept.count (routes_at l.fn.row l.routes.ids.now l.routes.present.points.now l.routes.present.counts.now l.e) (bundle_rows l.fn.row l.routes.ids.now (routes_of l.routes.present.points.now l.routes.present.counts.now) 0);
 }

@@ -18,7 +18,7 @@ loop-i-preserved c =
     let a = c.args in
     let l = c.loop-i in
     let r = rows (goal.at.loop-i-preserved c).Start in
-    record { same = search rules; rows = further _ _ _ _ _ _ _ _ _ _ _ _ _ l.invariant.rows c.walk_bundle.ensures.rows (bundles_step a.drawn.rows a.drawn.count a.routes.ids.now (routes_of a.routes.points.now a.routes.counts.now) l.i _ (omega arith) (omega arith)) }
+    record { same = search rules; rows = further _ _ _ _ _ _ _ _ _ _ _ _ _ l.invariant.rows c.walk_bundle.ensures.rows (bundles_step a.drawn.rows a.drawn.count a.routes.ids.now (routes_of a.routes.present.points.now a.routes.present.counts.now) l.i _ (omega arith) (omega arith)) }
 
 pub returns-clause-rows : goal.returns-clause-rows
-returns-clause-rows c = let a = c.args in let l = c.loop-i in let r = rows (goal.at.returns-clause-rows c).Start in at_last _ _ _ _ _ _ _ _ l.invariant.rows (bundles_end a.drawn.rows a.drawn.count a.routes.ids.now (routes_of a.routes.points.now a.routes.counts.now) l.i (omega arith) (omega arith))
+returns-clause-rows c = let a = c.args in let l = c.loop-i in let r = rows (goal.at.returns-clause-rows c).Start in at_last _ _ _ _ _ _ _ _ l.invariant.rows (bundles_end a.drawn.rows a.drawn.count a.routes.ids.now (routes_of a.routes.present.points.now a.routes.present.counts.now) l.i (omega arith) (omega arith))

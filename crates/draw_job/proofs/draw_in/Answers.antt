@@ -177,7 +177,7 @@ draw_sheet-d-requires c =
 pub list_crossings-requires : goal.list_crossings-requires
 list_crossings-requires c =
     let on = on_sheet (goal.at.list_crossings-requires c).In-Ok-ended in
-    record { count_le_max_edges = (on.fits.edges, omega (arith, on.all_drawn, on.fits.bundles), wanted_room c.args.wants.crossings _ _ c.if-wants-2.true c.requires.came.3); counts_len = (on.counted, on.slots, on.hold) }
+    record { count_le_max_edges = (on.fits.edges, omega (arith, on.all_drawn, on.fits.bundles), wanted_room c.args.wants.crossings _ _ c.if-wants-2.true c.requires.came.3); counts_len = on.counted }
 
 pub returns-in-Err-list_crossings : goal.returns-in-Err-list_crossings
 returns-in-Err-list_crossings c =
@@ -233,8 +233,6 @@ write_answer-requires c =
       nodes = omega (arith, on.fits.nodes, n.ensures.nodes);
       edges = on.fits.edges;
       counted = omega (arith, on.counted);
-      stored = omega (arith, on.counted, on.slots, n.auto.points);
-      held = on.hold;
       bundles = omega (arith, on.all_drawn, on.fits.bundles, n.ensures.drawn);
       taps = omega (arith, t.ensures.count_is, on.fits.members);
       windows = subst (Windows n.result.drawn.count n.result.drawn.rows) (sym t.ensures.count_is) (windows_kept a.j.members.count (drawn_by e) n.result.drawn n.ensures.rows n.ensures.drawn (windows e));

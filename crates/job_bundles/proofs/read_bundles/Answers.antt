@@ -1,5 +1,5 @@
 -- `job_bundles::read_bundles` meets its contract. Assumes nothing.
-use Rattle.std.proofs.Common.{◌≡◌, ℕ, ◌+◌, ◌*◌, [], ◌∷◌, ◌++◌, length, take, take_all, drop, refl, sym, ap, subst, ◌∙◌, arith, length-set, unwrap_or}
+use Rattle.std.proofs.Common.{◌≡◌, ℕ, ◌+◌, ◌*◌, [], ◌∷◌, ◌++◌, length, take, take_all, drop, refl, sym, ap, subst, ◌∙◌, arith, length-set}
 use Rattle.std.proofs.lemmas.Result.{err_from_is_err_and}
 use Rattle.geometry.specs.Port.{role_number}
 use Rattle.geometry.specs.declared.Role.{Role}
@@ -10,7 +10,7 @@ use Rattle.job.specs.LoopSteps.{one_more, begun, done, pushed, push_stopped, bun
 use Rattle.job.specs.Heads.{member_role}
 use Rattle.job.specs.Reads.{known_as}
 use Rattle.job.proofs.Windows.{bundle_window}
-use Rattle.job.proofs.Lookups.{looked_up, bundle_row, member_row, none_yet, one_more_read}
+use Rattle.job.proofs.Lookups.{looked_up, none_yet, one_more_read}
 use Rattle.job_bundles.proofs.read_bundles.Goals as goal
 
 member-keys : (edge : ℕ) (r role : Role) (n : ℕ) → r ≡ role → n ≡ role_number role → ◌≡◌ {A = Key} (edge, n) (edge, role_number r)
@@ -72,8 +72,7 @@ loop-j-preserved c =
       one_more_read member_key _ _ _ y.total (take y.total y.member_keys) _ y.members_known _ (take y.total y.member_rows) _ w _ _
           (one_more y.member_keys y.total _ (omega arith)
           ∙ ap (λ (k : Key). take y.total y.member_keys ++ (k ∷ [])) (member-keys _ _ _ _ (member_role _ (drop place s) _ (drop (place + 6) s) one) c.number_of_role-role_key.ensures))
-          (member_row a.tables.edges.now c.in_ok-x.x c.is_some-members_known.result c.unwrap_or.result
-          (rw (c.is_some-members_known.ensures, c.unwrap_or.ensures) (looked_up c.find-f.result 0 c.find-f.ensures)))
+          (looked_up _ _ _ _ c.is_some-members_known.ensures c.unwrap_or.ensures c.member_row-row.ensures)
           (one_more y.member_rows y.total _ (omega arith))
           (record { earlier = w.left.earlier; rest = rw z (pushed (member _) _ y.j w.raw (drop place s) _ _ (drop (place + 6) s) c.loop-j-test.true one refl ∙ w.left.rest) }),
     )
@@ -98,9 +97,7 @@ loop-i-preserved c =
         left = rw z
             (one_more_read bundle_key _ _ _ l.i (take l.i l.keys) _ l.known _ (take l.i l.rows) _ o.left _ _
             (one_more l.keys l.i _ (omega arith))
-            (bundle_row a.tables.nodes.now a.tables.ports.now b c.is_some.result c.is_some-in-loop-i.result (unwrap_or c.find-f-in-loop-i.result 0) c.unwrap_or-in-loop-i.result
-            (rw c.is_some.ensures (looked_up c.find-f-in-loop-i.result 0 c.find-f-in-loop-i.ensures))
-            (rw (c.is_some-in-loop-i.ensures, c.unwrap_or-in-loop-i.ensures) (looked_up c.find-g.result 0 c.find-g.ensures)))
+            (looked_up _ _ _ _ c.is_some-known.ensures c.unwrap_or-in-loop-i.ensures c.bundle_row-row.ensures)
             (one_more l.rows l.i _ (omega arith))
             (bundle_turn o.left.raw (length a.keys.now) l.i l.total l.at (l.at + 19 + 6 * y.j) o.raw w.raw s b (omega arith) o.size (sym c.in_ok-b.ensures)
             (sym w.left.rest ∙ done (push (member _)) _ y.j w.raw (drop (l.at + 19 + 6 * y.j) s) c.loop-j-test.false) ∙ o.left.left));

@@ -10,7 +10,7 @@ use Rattle.job.specs.Job.{edge_key, edge_of, next_edge}
 use Rattle.job.specs.LoopSteps.{one_more, begun, done, edge_turn, edge_head_refused, edge_points_refused}
 use Rattle.job.specs.Reads.{known_as}
 use Rattle.job.proofs.Windows.{edge_window}
-use Rattle.job.proofs.Lookups.{looked_up, edge_row, none_yet, one_more_read}
+use Rattle.job.proofs.Lookups.{looked_up, none_yet, one_more_read}
 use Rattle.job_rows.proofs.read_edges.Goals as goal
 
 pub loop-i-init : goal.loop-i-init
@@ -53,9 +53,7 @@ loop-i-preserved c =
       omega arith,
       one_more_read edge_key _ _ _ l.i (take l.i l.keys) _ l.known _ (take l.i l.rows) _ r _ _
           (one_more l.keys l.i _ (omega arith))
-          (edge_row a.nodes.now c.in_ok-e.e c.is_some.result c.is_some-in-loop-i.result c.unwrap_or.result c.unwrap_or-in-loop-i.result
-          (rw (c.is_some.ensures, c.unwrap_or.ensures) (looked_up c.find-f.result 0 c.find-f.ensures))
-          (rw (c.is_some-in-loop-i.ensures, c.unwrap_or-in-loop-i.ensures) (looked_up c.find-g.result 0 c.find-g.ensures)))
+          (looked_up _ _ _ _ c.is_some-known.ensures c.unwrap_or.ensures c.edge_row-edge.ensures)
           (one_more l.rows l.i _ (omega arith))
           (edge_turn a.grid r.raw (length a.keys.now) l.i l.total l.at (points_from l.points 0 l.total) _ s _ (omega arith) (points_length l.points 0 l.total) head
           (sym c.in_ok-read_points.ensures) ∙ r.left),

@@ -6,7 +6,7 @@ use Rattle.job.specs.Keys.{each}
 use Rattle.job.specs.Job.{push, port, port_key, port_of}
 use Rattle.job.specs.LoopSteps.{one_more, pushed, push_stopped, begun, done}
 use Rattle.job.specs.Reads.{known_as}
-use Rattle.job.proofs.Lookups.{looked_up, port_row, none_yet, one_more_read}
+use Rattle.job.proofs.Lookups.{looked_up, none_yet, one_more_read}
 use Rattle.job_rows.proofs.read_ports.Goals as goal
 
 pub loop-i-init : goal.loop-i-init
@@ -25,13 +25,12 @@ loop-i-preserved c =
     let a = c.args in
     let l = c.loop-i in
     let s = a.s.now in
-    let r = l.invariant.2 in
-    let f = c.find-f in (
+    let r = l.invariant.2 in (
       simp length-set l.invariant.0,
       omega arith,
       one_more_read port_key _ _ _ l.i (take l.i l.keys) _ l.known _ (take l.i l.rows) _ r _ _
           (one_more l.keys l.i _ (omega arith))
-          (port_row a.nodes.now _ _ _ (rw (c.is_some-known.ensures, c.unwrap_or.ensures) (looked_up f.result 0 f.ensures)))
+          (looked_up _ _ _ _ c.is_some-known.ensures c.unwrap_or.ensures c.port_row-port.ensures)
           (one_more l.rows l.i _ (omega arith))
           (pushed (port a.grid) (length a.keys.now) l.i r.raw (drop l.at s) _ _ (drop (l.at + 17) s) (omega arith) (sym c.in_ok-p.ensures) refl ∙ r.left),
     )

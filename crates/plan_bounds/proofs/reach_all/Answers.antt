@@ -36,11 +36,13 @@ returns-in_default c =
     let u = a.u in
     let h = c.loop-i-test.true in
     let m = c.member_reach in
+    let v = c.member_route-route.ensures in
+    let e = rw (v.0, v.1, v.2) at c.end_x-end.ensures in
     λ b given lanes r w k q o.
     laws.reach_none b given a.role l.d (member b a.places.edges.now lanes u l.i w k h) _ _ (part b a.places.edges.now lanes u l.i w k h) m.result
     (m.ensures ∙ laws.reach_is b given a.role (member b a.places.edges.now lanes u l.i w k h) a.reserve _ c.end_x-end.result r
     (c.corridor_of-corridor.ensures b o ∙ ap (λ (z : Role). corridor_of b z (get_or a.places.edges.now (u.first + l.i) 0)) c.other-across.ensures ∙ ap (corridor_of b (other a.role)) (edge_is b a.places.edges.now lanes u l.i w k h))
-    (c.end_x-end.ensures ∙ ap (end_x a.role) (q.routes_are (u.first + l.i) (there b a.places.edges.now lanes u l.i w k h))))
+    (e ∙ ap (end_x a.role) (q.routes_are (u.first + l.i) (there b a.places.edges.now lanes u l.i w k h))))
     c.in_default.is
     ∙ l.invariant b given lanes r w k q o
 
@@ -51,11 +53,13 @@ loop-i-preserved c =
     let u = a.u in
     let h = c.loop-i-test.true in
     let m = c.member_reach in
+    let v = c.member_route-route.ensures in
+    let e = rw (v.0, v.1, v.2) at c.end_x-end.ensures in
     λ b given lanes r w k q o.
     laws.reach_some b given a.role l.d (member b a.places.edges.now lanes u l.i w k h) _ _ (part b a.places.edges.now lanes u l.i w k h) m.result
     (m.ensures ∙ laws.reach_is b given a.role (member b a.places.edges.now lanes u l.i w k h) a.reserve _ c.end_x-end.result r
     (c.corridor_of-corridor.ensures b o ∙ ap (λ (z : Role). corridor_of b z (get_or a.places.edges.now (u.first + l.i) 0)) c.other-across.ensures ∙ ap (corridor_of b (other a.role)) (edge_is b a.places.edges.now lanes u l.i w k h))
-    (c.end_x-end.ensures ∙ ap (end_x a.role) (q.routes_are (u.first + l.i) (there b a.places.edges.now lanes u l.i w k h))))
+    (e ∙ ap (end_x a.role) (q.routes_are (u.first + l.i) (there b a.places.edges.now lanes u l.i w k h))))
     c.in-At.x c.tighten.result c.in-At.is c.tighten.ensures
     ∙ l.invariant b given lanes r w k q o
 

@@ -7,7 +7,9 @@ pub returns-in_default : goal.returns-in_default
 returns-in_default c =
     let a = c.args in
     let l = c.loop-i in
-    laws.over_none a.u.role a.pitch a.x l.d _ _ _ (laws.route_at a.routes.points.now a.routes.starts.now a.routes.counts.now a.routes.windows.paired a.u.first a.u.count c.requires l.i c.loop-i-test.true) c.run_end.result c.run_end.ensures c.in_default.is
+    let m = c.member_route-route.ensures in
+    let e = rw (m.0, m.1, m.2) at c.run_end.ensures in
+    laws.over_none a.u.role a.pitch a.x l.d _ _ _ (laws.route_at a.routes.points.now a.routes.starts.now a.routes.counts.now a.routes.windows.paired a.u.first a.u.count c.requires l.i c.loop-i-test.true) c.run_end.result e c.in_default.is
     ∙ l.invariant
 
 pub loop-i-preserved : goal.loop-i-preserved
@@ -15,7 +17,9 @@ loop-i-preserved c =
     let a = c.args in
     let l = c.loop-i in
     let t = c.loop-i-test.true in
-    laws.over_some a.u.role a.pitch a.x l.d _ _ _ (laws.route_at a.routes.points.now a.routes.starts.now a.routes.counts.now a.routes.windows.paired a.u.first a.u.count c.requires l.i t) c.run_end.result c.run_end.ensures
+    let m = c.member_route-route.ensures in
+    let e = rw (m.0, m.1, m.2) at c.run_end.ensures in
+    laws.over_some a.u.role a.pitch a.x l.d _ _ _ (laws.route_at a.routes.points.now a.routes.starts.now a.routes.counts.now a.routes.windows.paired a.u.first a.u.count c.requires l.i t) c.run_end.result e
     c.in-At.y c.furthest-d.result c.in-At.is c.furthest-d.ensures
     ∙ l.invariant
 

@@ -8,7 +8,7 @@ use Rattle.plan.specs.Prepared.{SameBundles, x_of}
 use Rattle.plan.specs.Lent.{LayoutTells}
 use Rattle.plan_outputs.proofs.required_output_collector_x.Given as goal
 
-abbrev pub invariant-loop-k : goal.invariant-loop-k
-invariant-loop-k l =
+abbrev pub invariant-loop-i : goal.invariant-loop-i
+invariant-loop-i l =
     (b : Board) (given : List Route) (ranges : List Ranged) → LayoutTells b given l.layout → SameBundles ranges l.layout.reaches.now
-    → required b given ranges (map x_of (take (length l.layout.reaches.now) l.p.rows)) l.r (drop l.k l.which) ≡ required b given ranges (map x_of (take (length l.layout.reaches.now) l.p.rows)) l.initial.r l.which
+    → required b given ranges (map x_of (take (length l.layout.reaches.now) l.p.rows)) l.r (drop l.i-index l.which) ≡ required b given ranges (map x_of (take (length l.layout.reaches.now) l.p.rows)) l.initial.r l.which

@@ -19,4 +19,4 @@ pub returns : goal.returns
 unfolding lib.Ieee.of_bits lib.Ieee.neg
 returns c =
     c.then_some-2.ensures
-    ∙ laws.given c.args.grid c.args.b _ (laws.passes_on_grid c.args.grid c.args.b (ap not c.if-not-grid.false) (search rules) c.if-b-gt9218868437227405312.false _ c.is_on_plan_grid.ensures)
+    ∙ laws.given c.args.grid c.args.b _ (laws.passes_on_grid c.args.grid c.args.b (ap not c.if-not-grid.false) (search rules) c.if-b-gt9218868437227405312.false _ c.is_on.ensures)

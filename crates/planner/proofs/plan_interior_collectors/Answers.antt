@@ -1,14 +1,11 @@
 -- `planner::plan_interior_collectors` meets its contract. Assumes nothing.
-use mathlib.Core.Path.{refl, sym, ◌∙◌, ap}
+use mathlib.Core.Path.{sym, ◌∙◌, ap}
 use Prim.Native.Nat.{ℕ}
 use Rattle.components.specs.Settled.{step_in}
 use Rattle.plan.specs.Lent.{board_lent}
 use Rattle.plan.specs.BoardTables.{given_routes}
 use Rattle.planner.proofs.MemberTurns as laws
 use Rattle.planner.proofs.plan_interior_collectors.Goals as goal
-
-pub member_rows-requires-clause-clear : goal.member_rows-requires-clause-clear
-member_rows-requires-clause-clear c = (laws.clear, laws.clear, refl, refl)
 
 pub returns : goal.returns
 returns c =

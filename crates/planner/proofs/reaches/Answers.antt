@@ -1,9 +1,9 @@
 -- `planner::reaches` meets its contract. Assumes nothing.
-use mathlib.Core.Path.{◌≡◌, refl, sym, ◌∙◌, ap, subst}
+use mathlib.Core.Path.{◌≡◌, sym, ◌∙◌, ap, subst}
 use mathlib.Core.List.{List}
 use Prim.Native.Nat.{ℕ, ◌≤◌, ◌<◌}
 use native.Mathlib.Omega.{arith}
-use lib.ListN.{length, get_or, length-set}
+use lib.ListN.{length, get_or}
 use lib.Seq.{get_or-take}
 use lib.Ieee.{nan}
 use Rattle.geometry.specs.Points.{Route}
@@ -17,6 +17,7 @@ use Rattle.plan.specs.Lent.{RoutesTell, CorridorsTell}
 use Rattle.plan.proofs.TableReads as rows
 use Rattle.planner.proofs.MemberTurns as laws
 use Rattle.planner.proofs.reaches.Goals as goal
+use Rattle.std.proofs.Common.{rules}
 
 pub loop-i-preserved : goal.loop-i-preserved
 loop-i-preserved c =
@@ -27,8 +28,8 @@ loop-i-preserved c =
     let u : Bundle = get_or a.bundles.now l.i no_bundle in
     let v : Reached = record { bundle = u; endpoint = get_or a.ends.rows l.i nan; reached = f.result } in
     let low : l.i < length l.rows = omega (arith, h, c.requires.all_below.bundles_few, l.invariant.rows_length) in record {
-      rows_length = length-set l.rows l.i v ∙ l.invariant.rows_length;
-      bundle_is = rows.filled (λ j x. x.bundle ≡ get_or a.bundles.now j no_bundle) l.rows l.i v no_reached low refl l.invariant.bundle_is;
+      rows_length = search rules;
+      bundle_is = search rules;
       told = rows.filled
           (λ j x. (b : Board) (given : List Route) (lanes : List ℕ) → Ended b a.o a.bundles.now a.ends.rows → Rowed b a.places.edges.now lanes → RoutesTell b given a.routes
           → CorridorsTell b a.corridors → Tells b given a.routes.points.now a.routes.starts.now a.routes.counts.now (rail_depth a.o) (sheet_pitch a.o) x)

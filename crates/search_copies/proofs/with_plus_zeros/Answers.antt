@@ -3,7 +3,7 @@ use mathlib.Core.Path.{sym, ◌∙◌, ap, subst}
 use mathlib.Core.List.{List}
 use Prim.Native.Nat.{ℕ, ◌≤◌}
 use native.Mathlib.Omega.{arith}
-use borrow.Author.Tests.{not-true, not-false}
+use borrow.Author.Tests.{not-false}
 use lib.ListN.{length}
 use lib.Seq.{length-take-le}
 use Rattle.std.proofs.Common.{not}
@@ -12,12 +12,6 @@ use Rattle.search_calls.specs.Entry.{plus_zeros}
 use Rattle.search_calls.proofs.Copies as laws
 use Rattle.search_copies.proofs.with_plus_zeros.Goals as goal
 use Rattle.search_copies.proofs.with_plus_zeros.Goals.{After-copy_routes, Else-not-windows_fit}
-
-pub returns-then-not-windows_fit-clause-plain : goal.returns-then-not-windows_fit-clause-plain
-returns-then-not-windows_fit-clause-plain c =
-    let l = c.args.lent in
-    let unfit = sym c.windows_fit.ensures ∙ not-true c.windows_fit.result (ap not c.if-not-windows_fit.true) in
-    λ role pitch granted. laws.unfit_call l.points.now l.starts.now l.counts.now role pitch granted unfit
 
 fit : (e : Else-not-windows_fit) → let l = e.args.lent in Fitting l.points.now l.starts.now l.counts.now
 fit e =

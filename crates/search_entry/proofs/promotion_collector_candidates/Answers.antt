@@ -1,17 +1,22 @@
 -- `search_entry::promotion_collector_candidates` meets its contract: what is said of the call with plus zeros is said of the call. Assumes nothing.
-use Rattle.std.proofs.Common.{◌≡◌}
+use Rattle.std.specs.Prelude.{Bool, true, false, cond, Some, None}
+use Rattle.std.specs.Bool.{then_some}
+use Rattle.std.proofs.Common.{◌≡◌, refl}
+use Rattle.search.specs.declared.Bounds.{Bounds}
 use Rattle.binary64.specs.Accepted.{plus_zero}
 use Rattle.search_calls.specs.Entry.{plus_zeros, collector_bounds}
 use Rattle.search_calls.proofs.Copies as laws
 use Rattle.search_entry.proofs.promotion_collector_candidates.Goals as goal
-use Rattle.search_entry.proofs.promotion_collector_candidates.Goals.{After-promotion_checked, then-present, else-present}
+use Rattle.search_entry.proofs.promotion_collector_candidates.Goals.{After-promotion_checked}
+
+-- what a bool lets pass, as the definition of the bounds has it
+either : (p : Bool) (b : Bounds) → then_some p b ≡ cond p (Some b) None
+either true b = refl
+either false b = refl
 
 given : (e : After-promotion_checked) → let a = e.args in
-    e.if-present.given ≡ collector_bounds a.present (plus_zero a.minimum) (plus_zero a.desired) (plus_zero a.maximum)
-given e = elim e.if-present.branch [
-  | then-present w ↦ rw (w.given-is, w.if-present.true, w.plain_bounds.ensures)
-  | else-present w ↦ rw (w.given-is, w.if-present.false)
-]
+    e.then_some-given.result ≡ collector_bounds a.present (plus_zero a.minimum) (plus_zero a.desired) (plus_zero a.maximum)
+given e = rw (e.then_some-given.ensures, e.plain_bounds.ensures) (either _ _)
 
 both : (e : After-promotion_checked) → let a = e.args in
     laws.PromotionSaid a.xs.now a.candidates.now a.scratch.now e.promotion_checked.result e.promotion_checked.new.xs e.promotion_checked.new.candidates e.promotion_checked.new.scratch

@@ -1,14 +1,12 @@
 -- `search_lists::gather` meets its contract. Each loop's invariant says that the first pass from the loop's start is the one from here on, with the candidates found so far at the front of the slice. Assumes nothing.
 -- the runs of the members from m on
-use Rattle.std.specs.Prelude.{Option}
+use Rattle.std.specs.Prelude.{Option, Some, None}
 use mathlib.Core.Path.{◌≡◌, refl, sym, ◌∙◌, ap}
 use mathlib.Core.List.{List, [], ◌∷◌, ◌++◌, map}
 use Prim.Native.Nat.{ℕ, ◌+◌, ◌-◌, ◌*◌, ◌≤◌, ◌<◌}
 use native.Mathlib.Omega.{arith}
 use lib.ListN.{length, get_or, take, length-set}
 use lib.Ieee.{Float}
-use Rattle.search.specs.declared.Candidate.{Candidate}
-use Rattle.search.specs.declared.Candidate.TheVariants.{Missing, At}
 use Rattle.search.specs.Stretches.{all_runs}
 use Rattle.search.specs.Lent.{members_lent}
 use Rattle.geometry.specs.Points.{points_from}
@@ -19,7 +17,7 @@ use Rattle.search_lists.proofs.Walk as walk
 use Rattle.search_lists.proofs.Walk.{R, run}
 use Rattle.search_lists.proofs.gather.Invariants.{from_member}
 use Rattle.search_lists.proofs.gather.Goals as goal
-use Rattle.search_lists.proofs.gather.Goals.{After-candidate_of-c, At-loop-i, At-loop-m, In-loop-i, in-At, in_default}
+use Rattle.search_lists.proofs.gather.Goals.{After-candidate_of-c, At-loop-i, At-loop-m, In-loop-i, in-Some, in_default}
 
 abbrev from : At-loop-m → ℕ → List (Option (Float × Float))
 from s m =
@@ -89,8 +87,14 @@ room c = omega (arith, rw (next-run c) at c.loop-i.invariant.room)
 pair-room : (c : In-loop-i) → 2 * (c.loop-i.k + 1 + length (behind (goal.at.In-loop-i c).At-loop-i (c.loop-i.i + 1))) ≤ length c.loop-i.kept
 pair-room c = omega (arith, rw (next-run c) at c.loop-i.invariant.pair_room)
 
+-- a run's stretch, by the member's start
+stretch_is : (e : After-candidate_of-c)
+    → let a = e.args in
+    e.run_stretch-s.result ≡ run a.sought.routes.points.now a.sought.role a.sought.pitch (get_or a.sought.routes.starts.now e.loop-m.m 0 + e.loop-i.i)
+stretch_is e = let v = e.member_route-route.ensures in rw (v.0, v.1) at e.run_stretch-s.ensures
+
 -- a run's candidate is taken or missing
-stepped : (e : After-candidate_of-c) (o : Candidate) → e.candidate_of-c.result ≡ o
+stepped : (e : After-candidate_of-c) (o : Option Float) → e.candidate_of-c.result ≡ o
     → let a = e.args in
     let r = (goal.at.After-candidate_of-c e).At-loop-i in
     gathered_onto a.sought.role a.sought.bounds (take e.loop-i.n e.loop-i.xs) (behind r e.loop-i.i) e.loop-i.left
@@ -99,7 +103,7 @@ stepped e o g =
     let a = e.args in
     let s = run a.sought.routes.points.now a.sought.role a.sought.pitch (get_or a.sought.routes.starts.now e.loop-m.m 0 + e.loop-i.i) in
     let v : 0 < e.loop-i.left = omega arith in
-    let k : candidate a.sought.role a.sought.bounds s ≡ o = ap (candidate a.sought.role a.sought.bounds) (sym e.run_stretch-s.ensures) ∙ sym e.candidate_of-c.ensures ∙ g in
+    let k : candidate a.sought.role a.sought.bounds s ≡ o = ap (candidate a.sought.role a.sought.bounds) (sym (stretch_is e)) ∙ sym e.candidate_of-c.ensures ∙ g in
     rw (next-run (goal.at.After-candidate_of-c e).In-loop-i) (walk.gather_step a.sought.role a.sought.bounds (take e.loop-i.n e.loop-i.xs) s (behind (goal.at.After-candidate_of-c e).At-loop-i (e.loop-i.i + 1)) e.loop-i.left o v k)
 
 -- a run's pair is kept
@@ -111,7 +115,7 @@ kept_more e =
     let s = run a.sought.routes.points.now a.sought.role a.sought.pitch (get_or a.sought.routes.starts.now e.loop-m.m 0 + e.loop-i.i) in
     let h : 2 * (e.loop-i.k + 1) ≤ length e.loop-i.kept = omega (arith, pair-room (goal.at.After-candidate_of-c e).In-loop-i) in
     rw (next-run (goal.at.After-candidate_of-c e).In-loop-i) (laws.kept_step e.loop-i.kept e.put_point.new.out e.loop-i.k e.kept_of.result s (behind (goal.at.After-candidate_of-c e).At-loop-i (e.loop-i.i + 1))
-    h (e.kept_of.ensures ∙ ap kept e.run_stretch-s.ensures) e.put_point.ensures)
+    h (e.kept_of.ensures ∙ ap kept (stretch_is e)) e.put_point.ensures)
 
 pub loop-m-init : goal.loop-m-init
 unfolding points_from
@@ -169,16 +173,16 @@ loop-i-preserved c =
     let pair-room' = pair-room (goal.at.loop-i-preserved c).In-loop-i in
     let keeps' = c.loop-i.invariant.keeps ∙ kept_more e in
     elim c.match-c.branch [
-      | in-At w ↦
+      | in-Some w ↦
           let h : c.loop-i.n < length c.loop-i.xs = omega arith in record {
             room = omega arith;
-            passed = c.loop-i.invariant.passed ∙ stepped e (At w.in-At.x) w.in-At.is ∙ rw (w.xs-is, w.n-is, walk.stored c.loop-i.xs c.loop-i.n w.in-At.x h);
+            passed = c.loop-i.invariant.passed ∙ stepped e (Some w.in-Some.x) w.in-Some.is ∙ rw (w.xs-is, w.n-is, walk.stored c.loop-i.xs c.loop-i.n w.in-Some.x h);
             pair_room = omega (arith, pair-room', c.put_point.auto.out);
             keeps = keeps';
           }
       | in_default w ↦ record {
         room = omega arith;
-        passed = c.loop-i.invariant.passed ∙ stepped e Missing w.in_default.is ∙ rw (w.xs-is, w.n-is);
+        passed = c.loop-i.invariant.passed ∙ stepped e None w.in_default.is ∙ rw (w.xs-is, w.n-is);
         pair_room = omega (arith, pair-room', c.put_point.auto.out);
         keeps = keeps';
       }

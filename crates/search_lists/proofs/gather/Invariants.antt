@@ -2,7 +2,7 @@ use Rattle.std.specs.Prelude.{Option}
 use mathlib.Core.Path.{◌≡◌}
 use mathlib.Core.List.{List, ◌++◌, map}
 use Prim.Native.Nat.{ℕ, ◌+◌, ◌-◌, ◌*◌, ◌≤◌}
-use lib.ListN.{length, take, drop}
+use lib.ListN.{length, get_or, take, drop}
 use lib.Ieee.{Float}
 use Rattle.geometry.specs.declared.Role.{Role}
 use Rattle.search.specs.Stretches.{members, routes, all_runs}
@@ -18,8 +18,10 @@ from_member points role pitch starts counts m = all_runs (members role pitch (ro
 abbrev pub invariant-loop-i : goal.invariant-loop-i
 invariant-loop-i l =
     let tail = from_member l.sought.routes.points.now l.sought.role l.sought.pitch l.sought.routes.starts.now l.sought.routes.counts.now (l.m + 1) in
-    let all = R l.sought.routes.points.now l.sought.role l.sought.pitch l.start l.count ++ tail in
-    let rest = R l.sought.routes.points.now l.sought.role l.sought.pitch (l.start + l.i) (l.count - l.i) ++ tail in record {
+    let start = get_or l.sought.routes.starts.now l.m 0 in
+    let count = get_or l.sought.routes.counts.now l.m 0 in
+    let all = R l.sought.routes.points.now l.sought.role l.sought.pitch start count ++ tail in
+    let rest = R l.sought.routes.points.now l.sought.role l.sought.pitch (start + l.i) (count - l.i) ++ tail in record {
       room : l.n + length rest ≤ length l.xs;
       passed : gathered_onto l.sought.role l.sought.bounds (take l.initial.n l.initial.xs) all l.initial.left ≡ gathered_onto l.sought.role l.sought.bounds (take l.n l.xs) rest l.left;
       pair_room : 2 * (l.k + length rest) ≤ length l.kept;

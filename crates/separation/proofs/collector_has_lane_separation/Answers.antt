@@ -13,20 +13,20 @@ pub returns-then-not-abs-least : goal.returns-then-not-abs-least
 unfolding of_bits
 returns-then-not-abs-least c =
     let a = c.args in
-    let l = c.loop-i in
-    let t = c.loop-i-test.true in
-    laws.clear_no a.pitch a.x (get_or a.used.now l.i nan) _ _ (rows.rest_cons a.used.now l.i nan t) (rw c.abs.ensures at (not-true (le (sub binary64 a.pitch tolerance) c.abs.result) (ap not c.if-not-abs-least.true))) ∙ l.invariant
+    let l = c.loop-y in
+    let t = c.loop-y-test.true in
+    laws.clear_no a.pitch a.x (get_or a.used.now l.y-index nan) _ _ (rows.rest_cons a.used.now l.y-index nan t) (rw c.abs.ensures at (not-true (le (sub binary64 a.pitch tolerance) c.abs.result) (ap not c.if-not-abs-least.true))) ∙ l.invariant
 
-pub loop-i-preserved : goal.loop-i-preserved
+pub loop-y-preserved : goal.loop-y-preserved
 unfolding of_bits
-loop-i-preserved c =
+loop-y-preserved c =
     let a = c.args in
-    let l = c.loop-i in
-    let t = c.loop-i-test.true in
-    laws.clear_on a.pitch a.x (get_or a.used.now l.i nan) _ _ (rows.rest_cons a.used.now l.i nan t) (rw c.abs.ensures at (not-false (le (sub binary64 a.pitch tolerance) c.abs.result) (ap not c.if-not-abs-least.false))) ∙ l.invariant
+    let l = c.loop-y in
+    let t = c.loop-y-test.true in
+    laws.clear_on a.pitch a.x (get_or a.used.now l.y-index nan) _ _ (rows.rest_cons a.used.now l.y-index nan t) (rw c.abs.ensures at (not-false (le (sub binary64 a.pitch tolerance) c.abs.result) (ap not c.if-not-abs-least.false))) ∙ l.invariant
 
 pub returns : goal.returns
 returns c =
     let a = c.args in
-    let l = c.loop-i in
-    laws.clear_end a.pitch a.x _ (rows.rest_none a.used.now l.i c.loop-i-test.false) ∙ l.invariant
+    let l = c.loop-y in
+    laws.clear_end a.pitch a.x _ (rows.rest_none a.used.now l.y-index c.loop-y-test.false) ∙ l.invariant

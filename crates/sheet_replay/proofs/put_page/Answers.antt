@@ -14,11 +14,11 @@ page_long s = search (rules, length_mapped)
 
 -- how many bytes are written
 module _ (s : Start) (t : DrawnTaps) (taps : t.count ≡ s.args.j.members.count) where
-  few : length (answer_bytes (sheet_of s.args.f s.args.s.nodes s.args.j.edges s.args.s.points.now s.args.s.counts.now s.args.s.drawn t)) ≤ any_answer_room
+  few : length (answer_bytes (sheet_of s.args.f s.args.s.nodes s.args.j.edges s.args.s.present.points.now s.args.s.present.counts.now s.args.s.drawn t)) ≤ any_answer_room
   few =
       let a = s.args in
       let counts = s.requires.count_le_max_nodes in
-      at_most a.f a.s.nodes a.j.edges a.s.points.now a.s.counts.now a.s.drawn t counts.0 counts.1 s.requires.count_in_bounds.2 counts.2 (omega (arith, taps, counts.3))
+      at_most a.f a.s.nodes a.j.edges a.s.present.points.now a.s.present.counts.now a.s.drawn t counts.0 counts.1 a.s.present.slots.hold counts.2 (omega (arith, taps, counts.3))
 
 pub write_answer-n-requires : goal.write_answer-n-requires
 write_answer-n-requires c =
@@ -28,9 +28,7 @@ write_answer-n-requires c =
     record {
       nodes = c.requires.count_le_max_nodes.0;
       edges = c.requires.count_le_max_nodes.1;
-      counted = c.requires.count_in_bounds.0;
-      stored = c.requires.count_in_bounds.1;
-      held = c.requires.count_in_bounds.2;
+      counted = c.requires.count_in_bounds;
       bundles = c.requires.count_le_max_nodes.2;
       taps = omega (arith, t.ensures.count_is, c.requires.count_le_max_nodes.3);
       windows = subst (Windows a.s.drawn.count a.s.drawn.rows) (sym t.ensures.count_is) c.requires.windows.0;

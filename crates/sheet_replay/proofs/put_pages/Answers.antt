@@ -22,7 +22,7 @@ put_page-next-requires c =
     let a = c.args in
     let on = c.requires in
     let w = answers.windows a.j a.edges.now a.drawn a.points.now a.counts.now a.taps.now c.requires (sizes (goal.at.put_page-next-requires c).Start) in
-    record { count_le_max_nodes = (on.fits.nodes, on.fits.edges, omega (arith, on.all_drawn, on.fits.bundles), on.fits.members); count_in_bounds = (omega (arith, on.counted), omega (arith, on.counted, on.slots), on.hold); windows = (w, on.places); members_on = on.members_on }
+    record { count_le_max_nodes = (on.fits.nodes, on.fits.edges, omega (arith, on.all_drawn, on.fits.bundles), on.fits.members); count_in_bounds = omega (arith, on.counted); windows = (w, on.places); members_on = on.members_on }
 
 pub normalize_layout-l-requires : goal.normalize_layout-l-requires
 normalize_layout-l-requires c =
@@ -36,4 +36,4 @@ put_page-requires c =
     let on = c.requires in
     let n = c.normalize_layout-l in
     let w = windows_kept a.j.members.count a.drawn n.result.drawn n.ensures.rows n.ensures.drawn (answers.windows a.j a.edges.now a.drawn a.points.now a.counts.now a.taps.now c.requires (sizes (goal.at.put_page-requires c).Start)) in
-    record { count_le_max_nodes = (omega (arith, on.fits.nodes, n.ensures.nodes), on.fits.edges, omega (arith, on.all_drawn, on.fits.bundles, n.ensures.drawn), on.fits.members); count_in_bounds = (omega (arith, on.counted), omega (arith, on.counted, on.slots, n.auto.points), on.hold); windows = (w, omega (arith, on.places, n.auto.taps)); members_on = on.members_on }
+    record { count_le_max_nodes = (omega (arith, on.fits.nodes, n.ensures.nodes), on.fits.edges, omega (arith, on.all_drawn, on.fits.bundles, n.ensures.drawn), on.fits.members); count_in_bounds = omega (arith, on.counted); windows = (w, omega (arith, on.places, n.auto.taps)); members_on = on.members_on }

@@ -1,12 +1,11 @@
 -- `stage::stage` meets its contract. Assumes nothing.
-use mathlib.Core.Path.{◌≡◌, sym, ◌∙◌, ap}
+use mathlib.Core.Path.{sym, ◌∙◌, ap}
 use lib.ListN.{length}
 use lib.Seq.{sets}
 use Rattle.grid_promise.proofs.Theorem.{grid_in}
 use Rattle.plan_stage.proofs.InTurn.{stage_in_turn}
 use Rattle.outputs.proofs.Front.{nothing_wanted}
 use Rattle.stage.proofs.Laws as laws
-use borrow.Author.Rules.{rules}
 use Rattle.stage.proofs.stage.Goals as goal
 
 pub returns : goal.returns

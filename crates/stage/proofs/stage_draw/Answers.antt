@@ -1,11 +1,10 @@
 -- `stage::stage_draw` meets its contract. Assumes nothing.
-use mathlib.Core.Path.{◌≡◌, ◌∙◌, ap}
+use mathlib.Core.Path.{◌∙◌, ap}
 use lib.ListN.{length}
 use lib.Seq.{sets}
 use Rattle.plan_stage.proofs.EveryPlan.{promised_in_from}
 use Rattle.outputs.proofs.Front.{plan_given}
 use Rattle.stage.proofs.Laws as laws
-use borrow.Author.Rules.{rules}
 use Rattle.stage.proofs.stage_draw.Goals as goal
 
 pub returns : goal.returns

@@ -2,7 +2,6 @@
 use native.Mathlib.Omega.{arith}
 use Rattle.job_planning.proofs.PlanPhases as phases
 use Rattle.job_planning.specs.PlanThere.{plan_there}
-use borrow.Author.Rules.{rules}
 use Rattle.stage.proofs.stage_plan.Goals as goal
 
 pub returns-then-plan-lt-PLAN_ROOM : goal.returns-then-plan-lt-PLAN_ROOM

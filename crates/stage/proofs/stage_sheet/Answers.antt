@@ -1,7 +1,6 @@
 -- `stage::stage_sheet` meets its contract. Assumes nothing.
-use mathlib.Core.Path.{◌≡◌, refl, sym, ◌∙◌, ap}
+use mathlib.Core.Path.{refl, sym, ◌∙◌}
 use native.Mathlib.Omega.{arith}
-use lib.ListN.{length}
 use Rattle.outputs.proofs.Front.{rooms}
 use Rattle.stage.proofs.Laws as laws
 use borrow.Author.Rules.{rules}

@@ -12,7 +12,7 @@ returns-in_err-rewrite_member_routes-clause-told c b s =
     let e = rw c.pitch_of_bundle.ensures at f.told in
     let p = err_from_is_err_and c.from_residual.result c.from_residual.ensures.1 in
     rw (p.1, p.2, f.refusal)
-    (turn_off b a.rules.permits_crossings a.rules.options a.board.boxes.now a.board.ends.now a.t.bundle a.t.end a.t.planned a.t.offset a.table.edges.now a.table.lanes.now g.result _ (routes_of a.points.now a.counts.now) s g.ensures.row (g.ensures.drawn b s.seen) _ _ _ _ a.visits.now e)
+    (turn_off b a.rules.permits_crossings a.rules.options a.board.nodes.now a.board.edges.now a.t.bundle a.t.end a.t.planned a.t.offset a.table.edges.now a.table.lanes.now g.result _ (routes_of a.points.now a.counts.now) s g.ensures.row (g.ensures.drawn b s.seen) _ _ _ _ a.visits.now e)
 
 pub returns-in_err-rewrite_member_routes-clause-longer : goal.returns-in_err-rewrite_member_routes-clause-longer
 returns-in_err-rewrite_member_routes-clause-longer c =
@@ -49,7 +49,7 @@ returns-in_err-verify_bundle-clause-told c b s =
     let p = err_from_is_err_and c.from_residual-in_err-verify_bundle.result c.from_residual-in_err-verify_bundle.ensures.1 in
     rw (p.1, p.2)
     (ends_refused _ _ _ _ _ _
-    ∙ turn_on b a.rules.permits_crossings a.rules.options a.board.boxes.now a.board.ends.now a.t.bundle a.t.end a.t.planned a.t.offset a.table.edges.now a.table.lanes.now g.result _ (routes_of a.points.now a.counts.now) s g.ensures.row (g.ensures.drawn b s.seen) a.taps.now (take a.priors.count a.priors.rows) a.visits.now.0 _ _ g.ensures.kept c.requires.1.earlier _ e c.in_err-verify_bundle.ensures)
+    ∙ turn_on b a.rules.permits_crossings a.rules.options a.board.nodes.now a.board.edges.now a.t.bundle a.t.end a.t.planned a.t.offset a.table.edges.now a.table.lanes.now g.result _ (routes_of a.points.now a.counts.now) s g.ensures.row (g.ensures.drawn b s.seen) a.taps.now (take a.priors.count a.priors.rows) a.visits.now.0 _ _ g.ensures.kept c.requires.1.earlier _ e c.in_err-verify_bundle.ensures)
 
 pub returns-in_err-verify_bundle-clause-longer : goal.returns-in_err-verify_bundle-clause-longer
 returns-in_err-verify_bundle-clause-longer c =
@@ -62,7 +62,7 @@ returns-clause-told c b s =
     let f = c.in_ok-rewrite_member_routes.ensures in
     let g = c.build_geometry-d in
     let e = rw c.pitch_of_bundle.ensures at f.told in
-    turn_on b a.rules.permits_crossings a.rules.options a.board.boxes.now a.board.ends.now a.t.bundle a.t.end a.t.planned a.t.offset a.table.edges.now a.table.lanes.now g.result _ (routes_of a.points.now a.counts.now) s g.ensures.row (g.ensures.drawn b s.seen) a.taps.now (take a.priors.count a.priors.rows) a.visits.now.0 _ _ g.ensures.kept c.requires.1.earlier _ e c.in_ok-verify_bundle.ensures
+    turn_on b a.rules.permits_crossings a.rules.options a.board.nodes.now a.board.edges.now a.t.bundle a.t.end a.t.planned a.t.offset a.table.edges.now a.table.lanes.now g.result _ (routes_of a.points.now a.counts.now) s g.ensures.row (g.ensures.drawn b s.seen) a.taps.now (take a.priors.count a.priors.rows) a.visits.now.0 _ _ g.ensures.kept c.requires.1.earlier _ e c.in_ok-verify_bundle.ensures
 
 pub returns-clause-longer : goal.returns-clause-longer
 returns-clause-longer c =

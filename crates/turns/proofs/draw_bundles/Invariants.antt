@@ -1,21 +1,20 @@
 use Rattle.std.proofs.Common.{◌≡◌, ◌≤◌, [], drop, length, map, take}
 use Rattle.limits.specs.Limits.{max_bundles}
 use Rattle.route.specs.Slots.{routes_of}
-use Rattle.board.specs.Board.{Board}
+use Rattle.plan.specs.Lent.{board_lent}
 use Rattle.drawing.specs.Sheet.{sheet_of}
 use Rattle.checks.specs.CheckRows.{drawn_of}
-use Rattle.turns.specs.TurnTables.{standing, Shows, Rows, members_all}
+use Rattle.turns.specs.TurnTables.{standing, Rows}
 use Rattle.turns.proofs.Resting.{Rest, turns_at}
 use Rattle.turns.proofs.draw_bundles.Given as goal
 
 abbrev pub invariant-loop-i : goal.invariant-loop-i
 invariant-loop-i l = record {
   drawn_to : l.drawn.count ≡ l.i;
-  rest : Rest (drop l.i l.turns.bundles.now) (take l.drawn.count l.drawn.rows) l.table.edges.now l.table.lanes.now l.counts;
-  rows : Rows (take l.drawn.count l.turns.bundles.now) (take l.drawn.count l.drawn.rows);
-  told : (b : Board) → Shows b l.rules.options l.board.boxes.now l.board.ends.now l.turns.spots.now l.turns.bundles.now (members_all l.table.edges.now l.table.lanes.now)
-      → sheet_of b l.rules.permits_crossings (turns_at l.turns.bundles.now l.turns.plan.now l.turns.offsets.now l.i) (standing (routes_of l.points l.counts) (map (drawn_of l.table.edges.now l.taps) (take l.drawn.count l.drawn.rows)) l.visits.0)
-      ≡ sheet_of b l.rules.permits_crossings (turns_at l.turns.bundles.now l.turns.plan.now l.turns.offsets.now 0) (standing (routes_of l.initial.points l.initial.counts) [] l.initial.visits.0);
+  rest : Rest (drop l.i l.turns.board.bundles.now) (take l.drawn.count l.drawn.rows) l.table.edges.now l.table.lanes.now l.counts;
+  rows : Rows (take l.drawn.count l.turns.board.bundles.now) (take l.drawn.count l.drawn.rows);
+  told : sheet_of (board_lent l.turns.board) l.turns.permits_crossings (turns_at l.turns.board.bundles.now l.turns.plan.now l.turns.offsets.now l.i) (standing (routes_of l.points l.counts) (map (drawn_of l.table.edges.now l.taps) (take l.drawn.count l.drawn.rows)) l.visits.0)
+      ≡ sheet_of (board_lent l.turns.board) l.turns.permits_crossings (turns_at l.turns.board.bundles.now l.turns.plan.now l.turns.offsets.now 0) (standing (routes_of l.initial.points l.initial.counts) [] l.initial.visits.0);
   masked : length l.initial.counts ≤ length l.work.mask.now;
   long : length l.drawn.rows ≡ max_bundles;
 }

@@ -1,11 +1,11 @@
-use Rattle.std.proofs.Common.{arith, refl, ◌<◌, length}
+use Rattle.std.proofs.Common.{arith, ◌<◌, length}
 use Rattle.plan.specs.BoardTables.{no_edge}
-use Rattle.turns.proofs.Filling.{fill_start, fill_next, fill_short, ended_next}
+use Rattle.turns.proofs.Filling.{fill_start, fill_next, fill_short}
 use Rattle.turns.proofs.store_edges.Goals as goal
 use Rattle.turns.proofs.store_edges.Goals.{Start}
 
 pub loop-i-init : goal.loop-i-init
-loop-i-init c = ((λ k. omega arith), fill_start _, λ k h. absurd (omega arith))
+loop-i-init c = ((λ k. omega arith), fill_start _)
 
 pub loop-i-preserved : goal.loop-i-preserved
 loop-i-preserved c =
@@ -17,5 +17,4 @@ loop-i-preserved c =
     let here : l.i < length l.counts = omega arith in (
       fill_short a.given.now a.table.now l.i no_edge l.points _ l.counts _ f.ensures (g.short l.i h) here l.invariant.0,
       fill_next a.given.now a.table.now l.i no_edge l.points _ l.counts _ f.ensures (g.short l.i h) here l.invariant.0 h (omega arith) l.invariant.1,
-      ended_next l.ends a.table.now l.i _ refl (omega arith) l.invariant.2,
     )
