@@ -1,12 +1,14 @@
 //! Finds the static library of the proved stage: in the folder that STAGE_LIB names; else in
 //! target/staticlib of the repository. Where it is not there, the build fails at once and says how to
-//! make it; with STAGE_PROVE=1 it has `rt lib` make it, in the folder of the crate stage_c, which has
-//! the entries for C; that proves every crate below it.
+//! make it; with STAGE_PROVE=1 it has `rt lib` make it, of the crate stage_c, which has the entries for
+//! C; that proves every crate below it. It does so on a copy of the crates in OUT_DIR, and writes nowhere
+//! else.
 
 #![forbid(unsafe_code)]
 
 use std::env;
 use std::fs;
+use std::io;
 use std::path::{Path, PathBuf};
 use std::process::Command;
 
@@ -23,8 +25,6 @@ fn main() {
         Some(folder) => named(folder),
         None => repository_s(),
     };
-    // A library that is made anew is linked anew.
-    println!("cargo:rerun-if-changed={}", folder.join(LIBRARY).display());
     println!("cargo:rustc-link-search=native={}", folder.display());
     println!("cargo:rustc-link-lib=static=stage");
 }
@@ -54,6 +54,12 @@ fn named(folder: PathBuf) -> PathBuf {
             folder.display()
         ));
     }
+    watched(folder)
+}
+
+/// A library that is made anew is linked anew.
+fn watched(folder: PathBuf) -> PathBuf {
+    println!("cargo:rerun-if-changed={}", folder.join(LIBRARY).display());
     folder
 }
 
@@ -71,21 +77,74 @@ fn repository_s() -> PathBuf {
                  (from nothing it proves every crate below it) and copy {MADE} from there to {LIBRARY} in \
                  {}, or run `./run` in {}, which does both; or set STAGE_LIB \
                  to the absolute path of a folder that has {LIBRARY} in it; or set STAGE_PROVE=1, \
-                 and this build runs `rt lib` itself.",
+                 and this build runs `rt lib` itself, on a copy, for as long as that takes, in silence.",
                 folder.display(),
                 root.join(CRATE).display(),
                 folder.display(),
                 root.display()
             ));
         }
-        make(&root.join(CRATE), &folder);
+        return make(root);
+    }
+    watched(folder)
+}
+
+/// Gives the folder that the library is in.
+fn make(root: &Path) -> PathBuf {
+    let folder = PathBuf::from(env::var_os("OUT_DIR").expect("cargo sets it"));
+    let copy = folder.join("proof");
+    for name in ["crates", "crates.txt"] {
+        println!("cargo:rerun-if-changed={}", root.join(name).display());
+        if let Err(error) = update(&root.join(name), &copy.join(name)) {
+            fail(&format!(
+                "{} cannot be copied to {}: {error}",
+                root.join(name).display(),
+                copy.display()
+            ));
+        }
+    }
+    let place = copy.join(CRATE);
+    prove(&place);
+    if let Err(error) = fs::copy(place.join(MADE), folder.join(LIBRARY)) {
+        fail(&format!(
+            "`rt lib` ended well, but {} cannot be copied: {error}",
+            place.join(MADE).display()
+        ));
     }
     folder
 }
 
-fn make(place: &Path, folder: &Path) {
-    let made = Command::new("rt").arg("lib").current_dir(place).status();
-    match made {
+/// Makes a file or folder as another one is, and leaves what is as it should be: `rt` then proves again only
+/// what changed. What it made itself is in folders `out`; edits that must fail are not looked at here.
+fn update(from: &Path, to: &Path) -> io::Result<()> {
+    if from.is_file() {
+        let due = fs::read(from)?;
+        return match fs::read(to) {
+            Ok(there) if there == due => Ok(()),
+            _ => fs::write(to, due),
+        };
+    }
+    fs::create_dir_all(to)?;
+    for entry in fs::read_dir(to)? {
+        let (name, path) = entry.map(|entry| (entry.file_name(), entry.path()))?;
+        if name != "out" && !from.join(&name).exists() {
+            match path.is_dir() {
+                true => fs::remove_dir_all(path)?,
+                false => fs::remove_file(path)?,
+            }
+        }
+    }
+    for entry in fs::read_dir(from)? {
+        let name = entry?.file_name();
+        if name != "out" && name != "must-fail" {
+            update(&from.join(&name), &to.join(&name))?;
+        }
+    }
+    Ok(())
+}
+
+fn prove(place: &Path) {
+    match Command::new("rt").arg("lib").current_dir(place).status() {
         Ok(status) if status.success() => {}
         Ok(status) => fail(&format!(
             "`rt lib` failed ({status}): run it in {} and read what it says",
@@ -96,15 +155,6 @@ fn make(place: &Path, folder: &Path) {
              cannot be run: rt: {error}.\nEither install the toolchain, so that `rt` is found in \
              PATH, or set STAGE_LIB to the absolute path of a folder that has {LIBRARY} in it."
         )),
-    }
-    let copied =
-        fs::create_dir_all(folder).and_then(|()| fs::copy(place.join(MADE), folder.join(LIBRARY)));
-    if let Err(error) = copied {
-        fail(&format!(
-            "`rt lib` ended well, but {} cannot be copied to {}: {error}",
-            place.join(MADE).display(),
-            folder.join(LIBRARY).display()
-        ));
     }
 }
 

@@ -24,8 +24,10 @@ use leading::{shared_trunk, to_rail, to_trunk};
 #[derive(Clone, Debug, PartialEq)]
 #[non_exhaustive]
 pub struct Attempt {
-    /// The bundles that were drawn, in the board's order; the last one is the one that was refused.
-    pub bundles: Vec<DrawnBundle>,
+    /// The bundles drawn before the one that was refused, in the board's order.
+    pub earlier: Vec<DrawnBundle>,
+    /// The bundle that was refused, as it was to be drawn.
+    pub refused: DrawnBundle,
     /// The routes, one for each edge of the board: those of members led to their bundles, where they
     /// can be.
     pub routes: Vec<Route>,
@@ -35,22 +37,42 @@ pub struct Attempt {
     pub at: Option<Segment>,
 }
 
-impl Attempt {
-    /// The bundle that was refused.
-    ///
-    /// # Panics
-    ///
-    /// Never: an attempt ends with it.
-    pub fn refused(&self) -> &DrawnBundle {
-        self.bundles
-            .last()
-            .expect("an attempt ends with the refused one")
-    }
-}
-
 impl Board {
     /// What was tried where the drawing is refused: with [`Refusal::TapUnreachable`],
     /// [`Refusal::ForbiddenContact`] or [`Refusal::RouteThroughNode`]. None of all other boards.
+    ///
+    /// ```
+    /// use bundle_stage::*;
+    ///
+    /// // A bundle of one wire from node 1 to node 2, and a wire across its spine.
+    /// let at = |x, y| Point { x, y };
+    /// let node = |id: u32, x| Node { id: id.into(), x, y: 0.0, width: 40.0, height: 40.0 };
+    /// let port = |node: u32, side| Port { node: node.into(), id: 1.into(), side, offset: 20.0 };
+    /// let end = |node: u32| Endpoint { node: node.into(), port: 1.into() };
+    /// let wire = |id: u32, points| Edge { id: id.into(), source: end(1), target: end(2), points };
+    /// let board = Board {
+    ///     options: Options { port_stub: 10.0, route_lane_gap: 10.0, ..Options::default() },
+    ///     nodes: vec![node(1, 0.0), node(2, 200.0)],
+    ///     ports: vec![port(1, Side::East), port(2, Side::West)],
+    ///     edges: vec![
+    ///         wire(5, vec![at(40.0, 20.0), at(200.0, 20.0)]),
+    ///         wire(6, vec![at(50.0, 0.0), at(50.0, 90.0)]),
+    ///     ],
+    ///     bundles: vec![Bundle {
+    ///         id: 7.into(),
+    ///         endpoint: end(1),
+    ///         role: Role::Input,
+    ///         width: 1,
+    ///         members: vec![Member { edge: 5.into(), lane: 0 }],
+    ///     }],
+    ///     ..Board::default()
+    /// };
+    /// assert_eq!(board.draw(), Err(Refusal::ForbiddenContact));
+    /// let attempt = board.attempt().expect("refused by the drawing");
+    /// assert_eq!(attempt.refused.id, Id::from(7));
+    /// assert!(attempt.earlier.is_empty());
+    /// assert_eq!(attempt.at.map(|at| at.start), Some(at(50.0, 20.0)));
+    /// ```
     pub fn attempt(&self) -> Option<Attempt> {
         let refusal = self.draw().err()?;
         let by_drawing = [
@@ -61,15 +83,17 @@ impl Board {
         if !by_drawing.contains(&refusal) {
             return None;
         }
-        let turn = refused_turn(self)?;
-        let (bundles, routes) = self.unchecked(&self.plan().ok()?, turn + 1);
-        let mut attempt = Attempt {
-            bundles,
+        let plan = self.plan().ok()?;
+        let turn = refused_turn(self, &plan)?;
+        let (mut bundles, routes) = self.unchecked(&plan, turn + 1);
+        let at = met(self, &plan, refusal, &bundles, &routes);
+        let refused = bundles.pop()?;
+        Some(Attempt {
+            earlier: bundles,
+            refused,
             routes,
-            at: None,
-        };
-        attempt.at = met(self, refusal, &attempt);
-        Some(attempt)
+            at,
+        })
     }
 
     /// The first bundles and all routes before the last shift, drawn without the checks. A route that

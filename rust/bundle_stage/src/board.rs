@@ -318,6 +318,18 @@ impl Board {
     /// # Errors
     ///
     /// What there are too many of.
+    ///
+    /// ```
+    /// use bundle_stage::*;
+    ///
+    /// let job = Board::default().to_bytes()?;
+    /// assert_eq!(job[..6], [0, 0, 0, 58, 1, 0], "58 bytes follow: version 1, no flags, ..");
+    /// let node = Node { id: 7.into(), x: 0.0, y: 0.0, width: 1.0, height: 1.0 };
+    /// let long = Board { nodes: vec![node; 65_536], ..Board::default() };
+    /// let error = long.to_bytes().expect_err("a count has 16 bits");
+    /// assert_eq!(error.to_string(), "65536 nodes are too many to write down: at most 65535");
+    /// # Ok::<(), TooMany>(())
+    /// ```
     pub fn to_bytes(&self) -> Result<Vec<u8>, TooMany> {
         let mut to = Writer::new();
         VERSION.put(&mut to)?;
@@ -342,6 +354,16 @@ impl Board {
     /// # Errors
     ///
     /// The first byte that does not fit, and what was expected there.
+    ///
+    /// ```
+    /// use bundle_stage::*;
+    ///
+    /// let mut job = Board::default().to_bytes().expect("small");
+    /// assert_eq!(Board::from_bytes(&job), Ok(Board::default()));
+    /// job[5] = 8;
+    /// let error = Board::from_bytes(&job).expect_err("three flags");
+    /// assert_eq!(error.to_string(), "byte 5: expected the flags (0 to 7), found 8");
+    /// ```
     pub fn from_bytes(bytes: &[u8]) -> Result<Board, Malformed> {
         let mut from = Reader::new(bytes);
         from.length()?;
@@ -364,28 +386,6 @@ impl Board {
         };
         from.end()?;
         Ok(board)
-    }
-
-    /// The first node with this id.
-    pub fn node(&self, id: Id) -> Option<&Node> {
-        self.nodes.iter().find(|node| node.id == id)
-    }
-
-    /// The first port with this node and id.
-    pub fn port(&self, at: Endpoint) -> Option<&Port> {
-        self.ports
-            .iter()
-            .find(|port| (port.node, port.id) == (at.node, at.port))
-    }
-
-    /// The first edge with this id.
-    pub fn edge(&self, id: Id) -> Option<&Edge> {
-        self.edges.iter().find(|edge| edge.id == id)
-    }
-
-    /// The first bundle with this id.
-    pub fn bundle(&self, id: Id) -> Option<&Bundle> {
-        self.bundles.iter().find(|bundle| bundle.id == id)
     }
 }
 

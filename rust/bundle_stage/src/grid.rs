@@ -4,7 +4,7 @@ use crate::board::{Board, Edge, Node, Options};
 use crate::place::{Item, Place, place};
 
 const UNIT: f64 = 1.0 / 64.0;
-const LIMIT: f64 = 1_048_576.0;
+pub(crate) const LIMIT: f64 = 1_048_576.0;
 
 /// A number of a board that is off the drafting grid.
 #[derive(Clone, Debug, PartialEq)]
@@ -53,6 +53,22 @@ impl OffGrid {
 impl Board {
     /// The numbers that are off the drafting grid, in the job's order: what the stage refuses with
     /// [`Refusal::OffGrid`](crate::Refusal::OffGrid) where the board is said to be on it.
+    ///
+    /// ```
+    /// use bundle_stage::*;
+    ///
+    /// let board = Board {
+    ///     flags: Flags { on_grid: true, ..Flags::default() },
+    ///     nodes: vec![Node { id: 3.into(), x: 0.1, y: 0.0, width: 4.0, height: 0.5 }],
+    ///     ..Board::default()
+    /// };
+    /// let [off] = &board.off_grid()[..] else {
+    ///     panic!("one number");
+    /// };
+    /// assert_eq!((off.what().as_str(), off.value), ("the x of node 3", 0.1));
+    /// assert_eq!(off.nearest(), Some([0.09375, 0.109375]));
+    /// assert_eq!(board.draw(), Err(Refusal::OffGrid));
+    /// ```
     pub fn off_grid(&self) -> Vec<OffGrid> {
         let mut off = Vec::new();
         let mut look = |item: Item, numbers: Vec<(String, f64)>| {
@@ -82,7 +98,7 @@ pub(crate) fn is_on_grid(value: f64) -> bool {
 }
 
 /// The shortest decimals that read back to the same number.
-fn decimals(value: f64) -> String {
+pub(crate) fn decimals(value: f64) -> String {
     let word = format!("{value:?}");
     word.strip_suffix(".0").unwrap_or(&word).to_string()
 }

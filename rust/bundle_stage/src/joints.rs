@@ -19,6 +19,7 @@ pub struct FalseJoint {
 
 /// What meets.
 #[derive(Clone, Copy, Debug, Eq, PartialEq)]
+#[non_exhaustive]
 pub enum Meeting {
     /// A run of a route and a segment of a bundle, elsewhere than at the route's tap on that bundle,
     /// inside the run, or in more than one point.
@@ -171,7 +172,7 @@ fn with_bundles(earlier: &DrawnBundle, later: &[DrawnBundle]) -> Vec<FalseJoint>
     found
 }
 
-pub(crate) fn parts(bundle: &DrawnBundle) -> [Segment; 2] {
+fn parts(bundle: &DrawnBundle) -> [Segment; 2] {
     [bundle.collector, bundle.spine]
 }
 
@@ -216,7 +217,7 @@ pub(crate) fn same_place(a: Point, b: Point) -> bool {
 /// piece of no length is level.
 #[derive(Clone, Copy, Debug)]
 pub(crate) struct Line {
-    level: bool,
+    pub(crate) level: bool,
     fixed: f64,
     low: f64,
     high: f64,
@@ -263,7 +264,7 @@ impl Line {
     }
 
     /// All points that both have.
-    fn shared(&self, other: &Line) -> Option<Segment> {
+    pub(crate) fn shared(&self, other: &Line) -> Option<Segment> {
         if self.level == other.level {
             let same = self.fixed == other.fixed;
             let (low, high) = (self.low.max(other.low), self.high.min(other.high));

@@ -78,6 +78,7 @@ mod id;
 mod joints;
 pub mod limits;
 mod locate;
+mod lookup;
 mod outputs;
 mod place;
 mod plan;
@@ -95,7 +96,7 @@ pub use board::{
 pub use grid::OffGrid;
 pub use id::Id;
 pub use joints::{FalseJoint, Meeting};
-pub use locate::{Forecast, locate};
+pub use locate::{Forecast, locate, locate_planned};
 pub use outputs::{
     Buffers, CROSSING_SIZE, CROSSINGS_SIZE, Crossing, Drawn, PAGE_LINE_SIZE, PAGE_SIZE, Wanted,
     Written,

@@ -19,8 +19,16 @@ pub const CROSSING_SIZE: usize = 24;
 /// Where an answer has its count of bundles, in two bytes.
 const BUNDLES_AT: usize = 34;
 
-/// What is given beside the job, and what is wanted beside the answer.
+/// What is given beside the job, and what is wanted beside the answer: by default nothing.
+///
+/// ```
+/// use bundle_stage::Wanted;
+///
+/// let wanted = Wanted::default().with_page().with_crossings();
+/// assert!(wanted.page && wanted.crossings && wanted.plan.is_none());
+/// ```
 #[derive(Clone, Copy, Debug, Default, Eq, PartialEq)]
+#[non_exhaustive]
 pub struct Wanted<'a> {
     /// The bytes of a plan to draw from; without one the stage plans itself.
     pub plan: Option<&'a [u8]>,
@@ -30,6 +38,25 @@ pub struct Wanted<'a> {
     /// The list of crossings. A sheet with more than 1,024 is refused with
     /// [`Refusal::TooManyCrossings`], if with nothing else but for the page.
     pub crossings: bool,
+}
+
+impl<'a> Wanted<'a> {
+    /// The same, drawn from the bytes of this plan.
+    pub fn with_plan(self, plan: &'a [u8]) -> Wanted<'a> {
+        let plan = Some(plan);
+        Wanted { plan, ..self }
+    }
+
+    /// The same, and the bundle page.
+    pub fn with_page(self) -> Wanted<'a> {
+        Wanted { page: true, ..self }
+    }
+
+    /// The same, and the list of crossings.
+    pub fn with_crossings(self) -> Wanted<'a> {
+        let crossings = true;
+        Wanted { crossings, ..self }
+    }
 }
 
 /// Where a bundle and a route cross without a joint.
@@ -70,7 +97,7 @@ impl Crossing {
 /// use bundle_stage::*;
 ///
 /// let mut buffers = Box::new(Buffers::default());
-/// let wanted = Wanted { page: true, ..Wanted::default() };
+/// let wanted = Wanted::default().with_page();
 /// let job = Board::default().to_bytes()?;
 /// assert_eq!(buffers.write(&job, &wanted).answer, [0, 0, 0, 2, 1, 16]);
 /// let grid = Board { flags: Flags { on_grid: true, ..Flags::default() }, ..Board::default() };
@@ -97,6 +124,7 @@ impl Default for Buffers {
 
 /// What the stage wrote for a job.
 #[derive(Clone, Copy, Debug, Eq, PartialEq)]
+#[non_exhaustive]
 pub struct Written<'a> {
     /// The answer, or the notice of a refusal.
     pub answer: &'a [u8],
@@ -139,6 +167,7 @@ impl Buffers {
 
 /// A sheet with what else is wanted.
 #[derive(Clone, Debug, PartialEq)]
+#[non_exhaustive]
 pub struct Drawn {
     /// The sheet.
     pub sheet: Sheet,
@@ -174,7 +203,7 @@ impl Board {
     ///     bundles: vec![Bundle { id: 7.into(), endpoint: port, role: Role::Input, width: 0, members: vec![] }],
     ///     ..Board::default()
     /// };
-    /// let drawn = board.draw_with(&Wanted { page: true, ..Wanted::default() })?;
+    /// let drawn = board.draw_with(&Wanted::default().with_page())?;
     /// let due = "         7 I           40.0000000           20.5000000           20.5000000\n";
     /// assert_eq!(drawn.page.as_deref(), Some(due));
     /// # Ok::<(), Refusal>(())

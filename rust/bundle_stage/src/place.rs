@@ -61,6 +61,7 @@ impl fmt::Display for Item {
 
 /// A piece of the words about a place.
 #[derive(Clone, Debug, Eq, PartialEq)]
+#[non_exhaustive]
 pub enum Part {
     /// Words.
     Text(String),
@@ -88,6 +89,7 @@ impl From<Item> for Part {
 
 /// What is wrong, and with which records: a clause whose records stand apart from its words.
 #[derive(Clone, Debug, Eq, PartialEq)]
+#[non_exhaustive]
 pub struct Place {
     /// The clause, from left to right.
     pub parts: Vec<Part>,
@@ -135,10 +137,10 @@ impl fmt::Display for Place {
 /// A refusal with what it is about: [`Board::draw_detailed`](crate::Board::draw_detailed) and
 /// [`locate`](crate::locate) give it.
 ///
-/// The number is the stage's, which is proved. The places are found by this crate: fields and ids by
-/// reading the job again; what a drawing failed at by drawing the job again, cut to its first bundles,
-/// and with records that touch nothing, whose visits are counted. A place is told only where this
-/// reading gives the stage's own number.
+/// The number is the stage's, which is proved. The places are found by this crate: fields, ids and what of a
+/// plan does not fit by reading these again; what a drawing failed at by drawing the job again, cut to its
+/// first bundles, and making the tests of its checks once more. A place is told only where this gives the
+/// stage's own number.
 #[derive(Clone, Debug, Eq, PartialEq)]
 #[non_exhaustive]
 pub struct Refused {

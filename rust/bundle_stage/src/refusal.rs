@@ -69,8 +69,8 @@ pub enum Cause {
 }
 
 impl Refusal {
-    /// All of them, by number.
-    pub const ALL: [Refusal; 19] = [
+    /// All of them, by number. There will be more where the stage gets more.
+    pub const ALL: &[Refusal] = &[
         Refusal::LengthMismatch,
         Refusal::BufferTooShort,
         Refusal::UnknownVersion,

@@ -136,6 +136,20 @@ impl Answer {
     /// # Errors
     ///
     /// The first byte that does not fit, and what was expected there.
+    ///
+    /// ```
+    /// use bundle_stage::*;
+    ///
+    /// let job = Board::default().to_bytes().expect("small");
+    /// let bytes = answer(&job);
+    /// let Answer::Drawn(sheet) = Answer::from_bytes(&bytes)? else {
+    ///     panic!("a board without bundles is drawn");
+    /// };
+    /// assert!(sheet.bundles.is_empty());
+    /// let notice = Answer::from_bytes(&[0, 0, 0, 2, 1, 3])?;
+    /// assert_eq!(notice, Answer::Refused(Refusal::UnknownVersion));
+    /// # Ok::<(), Malformed>(())
+    /// ```
     pub fn from_bytes(bytes: &[u8]) -> Result<Answer, Malformed> {
         let mut from = Reader::new(bytes);
         from.length()?;
@@ -157,6 +171,14 @@ impl Answer {
     /// # Errors
     ///
     /// What there are too many of.
+    ///
+    /// ```
+    /// use bundle_stage::*;
+    ///
+    /// let notice = Answer::Refused(Refusal::LengthMismatch);
+    /// assert_eq!(notice.to_bytes()?, answer(b"no job"));
+    /// # Ok::<(), TooMany>(())
+    /// ```
     pub fn to_bytes(&self) -> Result<Vec<u8>, TooMany> {
         let mut to = Writer::new();
         VERSION.put(&mut to)?;

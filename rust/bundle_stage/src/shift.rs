@@ -19,6 +19,7 @@ pub struct LastShift {
 
 /// What is known of the last shift along one axis.
 #[derive(Clone, Copy, Debug, Eq, PartialEq)]
+#[non_exhaustive]
 pub enum Shift {
     /// Nothing was subtracted: the least coordinate is 0.
     Nothing,
@@ -51,6 +52,21 @@ impl LastShift {
 impl Sheet {
     /// Whether the last shift rounded, as far as it can be told. `board` is the one that the sheet is
     /// the answer to.
+    ///
+    /// ```
+    /// use bundle_stage::*;
+    ///
+    /// let node = |id: u32, x| Node { id: id.into(), x, y: 0.0, width: 0.0, height: 0.0 };
+    /// let board = |x| Board { nodes: vec![node(1, -0.1), node(2, x)], ..Board::default() };
+    /// // All is moved by 0.1 to the right: 0.2 to 0.2 + 0.1, which is no number of the format.
+    /// let shift = board(0.2).draw()?.last_shift(&board(0.2));
+    /// assert_eq!((shift.x, shift.y), (Shift::Rounded, Shift::Nothing));
+    /// assert!(!shift.is_exact());
+    /// // What is at no negative place is not moved.
+    /// let still = Board { nodes: vec![node(2, 0.2)], ..Board::default() };
+    /// assert!(still.draw()?.last_shift(&still).is_exact());
+    /// # Ok::<(), Refusal>(())
+    /// ```
     pub fn last_shift(&self, board: &Board) -> LastShift {
         let grid = board.off_grid().is_empty();
         let along = |axis| match self.subtracted(board, axis) {

@@ -5,6 +5,7 @@ use std::fmt;
 
 /// Bytes that are no job, or no answer: where, and what was expected there.
 #[derive(Clone, Debug, Eq, PartialEq)]
+#[non_exhaustive]
 pub struct Malformed {
     /// The place of the first byte that does not fit, from 0.
     pub at: usize,
@@ -16,6 +17,7 @@ pub struct Malformed {
 
 /// What is wrong with a field.
 #[derive(Clone, Copy, Debug, Eq, PartialEq)]
+#[non_exhaustive]
 pub enum Fault {
     /// The bytes end before it, or inside it.
     Ends,
@@ -41,6 +43,7 @@ impl Error for Malformed {}
 
 /// A table, a route or a list of members is longer than the job's format can say.
 #[derive(Clone, Copy, Debug, Eq, PartialEq)]
+#[non_exhaustive]
 pub struct TooMany {
     /// What there are too many of.
     pub what: &'static str,

@@ -168,9 +168,9 @@ fn answers_come_back() {
         }],
         bundles: Vec::new(),
     };
-    let refusals = Refusal::ALL.map(Answer::Refused);
+    let refusals = Refusal::ALL.iter().map(|refusal| Answer::Refused(*refusal));
     let drawn = [Answer::Drawn(sheet), Answer::Drawn(empty)];
-    for answer in refusals.into_iter().chain(drawn) {
+    for answer in refusals.chain(drawn) {
         let bytes = answer.to_bytes().expect("small");
         let back = Answer::from_bytes(&bytes).expect("whole");
         assert_eq!(back.to_bytes().expect("small"), bytes);
@@ -283,10 +283,7 @@ fn every_refusal_by_name() {
         board.nodes[0].x = 0.3;
     };
     assert_eq!(changed(off_grid), Err(Refusal::OffGrid));
-    let page = Wanted {
-        page: true,
-        ..Wanted::default()
-    };
+    let page = Wanted::default().with_page();
     assert_eq!(board().draw_with(&page), Err(Refusal::PageOffGrid));
     let mut plan = board().plan().expect("planned");
     plan.places.push(None);
@@ -395,7 +392,7 @@ fn minus_zero_is_taken_as_plus_zero() {
 
 #[test]
 fn refusals_have_their_numbers_and_words() {
-    for (refusal, number) in Refusal::ALL.into_iter().zip(1..) {
+    for (refusal, number) in Refusal::ALL.iter().copied().zip(1..) {
         assert_eq!(refusal.number(), number);
         assert_eq!(Refusal::of_number(number), Some(refusal));
         let words = refusal.to_string();

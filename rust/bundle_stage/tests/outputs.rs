@@ -20,10 +20,7 @@ fn planned_and_drawn_later() {
     let bytes = plan.to_bytes().expect("small");
     assert_eq!(bundle_stage::plan(&job), bytes);
     assert_eq!(answer_from(&job, &bytes), answer(&job));
-    let wanted = Wanted {
-        plan: Some(&bytes),
-        ..Wanted::default()
-    };
+    let wanted = Wanted::default().with_plan(&bytes);
     assert_eq!(board.draw_with(&wanted).expect("drawn").sheet, sheet);
     // Elsewhere, with other visits left; at the rail.
     let other = Plan {
@@ -45,10 +42,7 @@ fn planned_and_drawn_later() {
         ..plan.clone()
     };
     assert_eq!(board.draw_from(&visits), Err(Refusal::PlanMismatch));
-    let empty = Wanted {
-        plan: Some(&[]),
-        ..Wanted::default()
-    };
+    let empty = Wanted::default().with_plan(&[]);
     assert_eq!(board.draw_with(&empty), Err(Refusal::PlanMismatch));
     // The planner does not draw, and the drawing does not plan.
     let mut spent = board.clone();
@@ -100,10 +94,7 @@ fn crossed(places: impl IntoIterator<Item = f64>) -> Board {
 /// before 16.
 #[test]
 fn the_list_of_crossings() {
-    let wanted = Wanted {
-        crossings: true,
-        ..Wanted::default()
-    };
+    let wanted = Wanted::default().with_crossings();
     let board = crossed([150.0, 100.0, 150.0]);
     let drawn = board.draw_with(&wanted).expect("drawn");
     assert_eq!(Ok(drawn.sheet.clone()), board.draw());
@@ -153,10 +144,7 @@ fn the_list_of_crossings() {
     let more = winding(17);
     assert!(more.draw().is_ok());
     assert_eq!(more.draw_with(&wanted), Err(Refusal::TooManyCrossings));
-    let both = Wanted {
-        page: true,
-        ..wanted
-    };
+    let both = wanted.with_page();
     assert_eq!(most.draw_with(&both), Err(Refusal::PageOffGrid));
     assert_eq!(more.draw_with(&both), Err(Refusal::TooManyCrossings));
 }
@@ -193,10 +181,7 @@ fn the_bundle_page() {
     board.flags.on_grid = true;
     board.nodes[0].y -= 1.0 / 64.0;
     board.ports[0].offset += 1.0 / 64.0;
-    let wanted = Wanted {
-        page: true,
-        ..Wanted::default()
-    };
+    let wanted = Wanted::default().with_page();
     let drawn = board.draw_with(&wanted).expect("drawn");
     assert_eq!(drawn.sheet, board.draw().expect("drawn"));
     assert_eq!(
@@ -219,10 +204,7 @@ fn the_bundle_page() {
 #[test]
 fn buffers_are_used_again() {
     let mut buffers = Box::new(Buffers::default());
-    let wanted = Wanted {
-        page: true,
-        ..Wanted::default()
-    };
+    let wanted = Wanted::default().with_page();
     let records = stored("jobs.bin");
     let (mut pages, mut refused) = (0, 0);
     for pair in records.chunks_exact(2) {

@@ -128,7 +128,7 @@ fn ids() {
         said(|board| board.edges[1].id = Id::from(1)),
         one(
             8,
-            "edge 1 is there twice: the first and the second of the edges"
+            "edge 1 and edge 1 have one id: the first and the second of the edges"
         )
     );
     assert_eq!(
@@ -162,21 +162,14 @@ fn ids() {
     );
 }
 
-/// A wire of another edge.
-fn wire(board: &mut Board, id: u32, points: &[(f64, f64)]) {
-    let mut wire = board.edges[0].clone();
-    wire.id = Id::from(id);
-    wire.points = points.iter().map(|&(x, y)| at(x, y)).collect();
-    board.edges.insert(1, wire);
-}
-
 #[test]
 fn drawings() {
     assert_eq!(
         said(|board| board.edges[0].points.truncate(1)),
         one(
             10,
-            "the route of edge 1, a member of bundle 1, cannot be led to its tap: it has one point"
+            "the route of edge 1, a member of bundle 1, cannot be led to its tap at (60, 45): it has \
+             one point"
         )
     );
     for extra in [None, Some(3), Some(2)] {
@@ -192,7 +185,7 @@ fn drawings() {
             }),
             one(
                 11,
-                "the spine of bundle 1 would touch the route of edge 3, or come too close to it"
+                "the spine of bundle 1 would cross the route of edge 3, at (100, 50)"
             )
         );
         assert_eq!(
@@ -202,7 +195,7 @@ fn drawings() {
             }),
             one(
                 11,
-                "the collector of bundle 1 would touch the route of edge 4, or come too close to it"
+                "the collector of bundle 1 would touch the route of edge 4, at (180, 55)"
             )
         );
     }
@@ -212,10 +205,36 @@ fn drawings() {
             said(|board| board.nodes.insert(place, between)),
             one(
                 12,
-                "the route of edge 1, a member of bundle 1, would run through node 3"
+                "the route of edge 1, a member of bundle 1, would run through node 3, from (185, 40) to \
+                 (195, 40)"
             )
         );
     }
+}
+
+/// Whether two touch, come too close or lie on one another is told apart, and a slanted run is shown.
+#[test]
+fn how_they_meet() {
+    let near = |board: &mut Board| {
+        board.options.minimum_parallel_wire_spacing = 5.0;
+        wire(board, 4, &[(183.0, 44.0), (183.0, 48.0)]);
+    };
+    let words = "the collector of bundle 1 would come too close to the route of edge 4, from \
+                 (180, 44) to (183, 48)";
+    assert_eq!(said(near), one(11, words));
+    let along = |board: &mut Board| wire(board, 4, &[(180.0, 45.0), (180.0, 52.0)]);
+    let words =
+        "the collector of bundle 1 would lie on the route of edge 4, from (180, 45) to (180, 52)";
+    assert_eq!(said(along), one(11, words));
+    // Behind the collector, so that no search looks at it.
+    let slanted = |board: &mut Board| {
+        let points = &mut board.edges[1].points;
+        points.pop();
+        points.extend([at(190.0, 60.0), at(200.0, 61.0)]);
+    };
+    let words =
+        "the route of edge 2, a member of bundle 1, would be slanted, from (190, 60) to (200, 61)";
+    assert_eq!(said(slanted), one(12, words));
 }
 
 /// Every member that cannot be led to its tap, and no other one.
@@ -229,11 +248,14 @@ fn members_that_cannot_be_led() {
         board.bundles[0].members = members.map(|(edge, lane)| member(edge, lane)).to_vec();
     });
     let led = |edge: u8, why: &str| {
-        format!("the route of edge {edge}, a member of bundle 1, cannot be led to its tap{why}")
+        format!("the route of edge {edge}, a member of bundle 1, cannot be led to its tap at {why}")
     };
     assert_eq!(
         (number, places),
-        (10, vec![led(4, ": it has no points"), led(3, "")])
+        (
+            10,
+            vec![led(4, "(60, 45): it has no points"), led(3, "(60, 65)")]
+        )
     );
 }
 
@@ -302,85 +324,6 @@ fn chains_without_room() {
     assert!(board.plan().is_ok());
 }
 
-// ---- what was tried
-
-/// The attempt of the board with a change: its collector, the edges whose routes were led, and where it
-/// was refused.
-fn tried(change: impl FnOnce(&mut Board)) -> (Segment, Option<Segment>) {
-    let mut board = board();
-    change(&mut board);
-    let attempt = board.attempt().expect("refused by the drawing");
-    assert_eq!(attempt.refused().id, Id::from(1));
-    assert_eq!(attempt.routes.len(), board.edges.len());
-    (attempt.refused().collector, attempt.at)
-}
-
-fn from(start: Point, end: Point) -> Segment {
-    Segment { start, end }
-}
-
-#[test]
-fn attempts() {
-    assert_eq!(board().attempt(), None, "it is drawn");
-    let inside = from(at(180.0, 40.0), at(180.0, 60.0));
-    // A wire across the spine, and one that lies on the collector's way.
-    let (collector, place) = tried(|board| wire(board, 3, &[(100.0, 0.0), (100.0, 100.0)]));
-    assert_eq!(collector, inside);
-    assert_eq!(place, Some(from(at(100.0, 50.0), at(100.0, 50.0))));
-    let (collector, place) = tried(|board| wire(board, 4, &[(180.0, 55.0), (199.0, 55.0)]));
-    assert_eq!(collector, inside);
-    assert_eq!(place, Some(from(at(180.0, 55.0), at(180.0, 55.0))));
-    // One that comes too close: what is between them.
-    let (_, place) = tried(|board| {
-        board.options.minimum_parallel_wire_spacing = 5.0;
-        wire(board, 4, &[(183.0, 44.0), (183.0, 48.0)]);
-    });
-    assert_eq!(place, Some(from(at(180.0, 44.0), at(183.0, 48.0))));
-    // A node in the way of a member.
-    let between = node(3, 185.0, 35.0, 10.0, 10.0);
-    let (collector, place) = tried(|board| board.nodes.push(between));
-    assert_eq!(collector, inside);
-    assert_eq!(place, Some(from(at(185.0, 40.0), at(195.0, 40.0))));
-    // A member that cannot be led to its tap at the rail.
-    let (collector, place) = tried(|board| board.edges[1].points.truncate(1));
-    let tap = at(60.0, 55.0);
-    assert_eq!(collector, from(at(60.0, 45.0), tap));
-    assert_eq!(place, Some(from(tap, tap)));
-}
-
-/// A second bundle on the first one's collector.
-#[test]
-fn attempts_at_a_later_bundle() {
-    let mut board = board();
-    board.ports.push(Port {
-        node: Id::from(1),
-        id: Id::from(2),
-        side: Side::East,
-        offset: 25.0,
-    });
-    for (id, y) in [(3, 45.0), (4, 55.0)] {
-        wire(
-            &mut board,
-            id,
-            &[(40.0, 55.0), (60.0, 55.0), (60.0, y), (200.0, y)],
-        );
-    }
-    let mut second = board.bundles[0].clone();
-    second.id = Id::from(2);
-    second.endpoint = end(1, 2);
-    second.members = vec![member(3, 0), member(4, 1)];
-    board.bundles.push(second);
-    let refused = board.draw_detailed().expect_err("they meet");
-    assert_eq!(refused.refusal, Refusal::ForbiddenContact);
-    let attempt = board.attempt().expect("refused by the drawing");
-    let named = refused.places[0].items().find_map(|item| match item {
-        Item::Bundle { id, .. } => Some(id),
-        _ => None,
-    });
-    assert_eq!(named, Some(attempt.refused().id));
-    assert!(attempt.at.is_some());
-}
-
 #[test]
 fn grants() {
     let (number, places) = said(|board| board.grants.geometry = 3);
@@ -401,43 +344,4 @@ fn grants() {
         panic!("drawn");
     };
     assert_eq!(paid.geometry, enough);
-}
-
-/// Of every refusal a place is told, and of every refusal by the drawing what was tried.
-#[test]
-fn stored_jobs() {
-    let mut told = [0_usize; 16];
-    let mut silent = [0_usize; 16];
-    let mut marked = 0;
-    for name in ["jobs.bin", "largest.bin"] {
-        let path = format!("{}/../../stored/{name}", env!("CARGO_MANIFEST_DIR"));
-        let bytes = std::fs::read(path).expect("a stored file");
-        let mut rest = &bytes[..];
-        while let Some((length, tail)) = rest.split_first_chunk() {
-            let (record, tail) = tail.split_at(u32::from_be_bytes(*length) as usize);
-            if let Some(refused) = locate(record) {
-                let number = usize::from(refused.refusal.number());
-                told[number] += 1;
-                silent[number] += usize::from(refused.places.is_empty());
-                if (10..=12).contains(&number) {
-                    let board = Board::from_bytes(record).expect("a whole job");
-                    let attempt = board.attempt().expect("what was tried");
-                    let mut items = refused.places[0].items();
-                    let last = attempt.bundles.len() - 1;
-                    assert!(items.any(|item| match item {
-                        Item::Bundle { place, id } => (place, id) == (last, attempt.refused().id),
-                        _ => false,
-                    }));
-                    marked += usize::from(attempt.at.is_some());
-                }
-            }
-            rest = tail;
-        }
-    }
-    let by_drawing = told[10..=12].iter().sum::<usize>();
-    println!(
-        "told {told:?}\nsilent {silent:?}\nof {by_drawing} by the drawing {marked} with a place"
-    );
-    assert!(3 * marked > 2 * by_drawing, "{marked} of {by_drawing}");
-    assert_eq!(silent, [0; 16]);
 }

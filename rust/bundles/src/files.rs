@@ -44,7 +44,13 @@ pub fn load(name: &str, names: Option<&str>) -> Result<Loaded, String> {
         Err(_) => job.truncate(JOB),
     }
     if let Some(file) = names {
-        loaded.names = Names::read(&read(file)?).map_err(of(file))?;
+        let text = read(file)?;
+        let names = match Board::from_bytes(&job) {
+            Ok(board) => Names::read_for(&text, &board),
+            // What it has is not known.
+            Err(_) => Names::read(&text),
+        };
+        loaded.names.take(names.map_err(of(file))?);
     }
     Ok(Loaded {
         name: name.to_string(),
@@ -54,8 +60,28 @@ pub fn load(name: &str, names: Option<&str>) -> Result<Loaded, String> {
 }
 
 pub fn answer(name: &str) -> Result<Answer, String> {
-    Answer::from_bytes(&read(name)?)
-        .map_err(|malformed| format!("{}: no answer: {malformed}", called(name)))
+    let bytes = read(name)?;
+    Answer::from_bytes(&bytes).map_err(|malformed| {
+        let file = called(name);
+        match other(&bytes) {
+            Some(what) => format!(
+                "{file}: no answer, but {what}: `bundles draw` makes an answer of it, and `bundles picture` \
+                 a picture"
+            ),
+            None => format!("{file}: no answer: {malformed}"),
+        }
+    })
+}
+
+/// What is given in an answer's place.
+fn other(bytes: &[u8]) -> Option<&'static str> {
+    // An answer begins with a length that has a zero byte.
+    let is_text = !bytes.contains(&0) && str::from_utf8(bytes).is_ok();
+    if is_text && !bytes.is_empty() {
+        Some("a text")
+    } else {
+        Board::from_bytes(bytes).ok().map(|_| "a job")
+    }
 }
 
 pub fn read(name: &str) -> Result<Vec<u8>, String> {

@@ -36,7 +36,9 @@ bytes. A text's comments, blank lines and spaces are not in a job, so they do no
         short: "the names in a board's text, to a file of names on standard output",
         long: "\
 A job's bytes have no names. A file of names has lines such as `node 5 \"timestamp unit\"`, for nodes,
-ports, edges and bundles; every command with `--names FILE` takes such a file, or a board's text.",
+ports, edges and bundles; every command with `--names FILE` takes such a file, or a board's text. A line
+that is none such is refused, and so is a name of what the board does not have: the file may be that of
+another.",
     },
     Command {
         name: "plan",
@@ -54,14 +56,14 @@ text.",
     },
     Command {
         name: "draw",
-        words: "[JOB...] [--plan PLAN]",
+        words: "[JOB...] [--plan PLAN] [--names FILE]",
         short: "a job, to its answer on standard output; or several jobs, each to a file",
         long: "\
 The answer is the sheet with its bundles drawn, or the six bytes of a refusal, byte for byte what
 the program `sheet` writes; as there, at most 65,536 bytes of a job are looked at. A refusal is
 also said in words on standard error, with what it is about: the field, record and id; the bundle and
 the edge or node; the bundles of a component; what grant would be enough. A JOB may be a board's text,
-which is packed: then the lines are named too.
+which is packed: then the lines are named too. Names of a FILE are for these words, and of one JOB.
 
 With a PLAN, made by `bundles plan`, the one job is drawn from it and nothing is planned. It may be the plan
 of another revision: it is refused with 17 where it does not fit the job's bundles, with 18 where a planned
@@ -99,11 +101,11 @@ proved; where it was exact none was found on any board tried. All this is about 
 With a PLAN in the answer's place the table has a line for each bundle: the x that is planned for it, or
 none. With the JOB it also has the bundle's id and role and where it stands on the sheet that is drawn from
 the plan, and it is said whether the plan is the one that is made for this job, and whether the sheet is
-accepted.",
+accepted, or why it is refused and where.",
     },
     Command {
         name: "svg",
-        words: "JOB ANSWER [--title TITLE] [--names FILE]",
+        words: "JOB ANSWER [--title TITLE] [--names FILE] [--plan PLAN]",
         short: "a job and its answer, to a picture on standard output",
         long: "\
 The picture is an SVG file: open it with a browser, print it from there. The page is A4 where on it the
@@ -119,10 +121,13 @@ Nodes are boxes with their ids, ports are squares, routes are thin lines and bun
 with a colour and a mark of its own. A dot is a joint: a tap on its collector. Where lines cross
 without a joint, the one goes over the other in an arch; arches that run into each other are joined, and
 one that has no room to rise is a gap. Where a bundle and a route do so, that is the list of `bundles
-crossings`: each crossing of it is shown by an arch or a gap, counted for each bundle and route. A sheet
-drawn from a given plan is not the stage's own answer to the job, and one with more than 1,024 crossings
-has no list: there the tool itself finds where they cross. Routes that lie over each other, or very near,
-are drawn side by side; a route in two bundles changes its colour half way. The legend has each
+crossings`: each crossing of it is shown by an arch or a gap, counted for each bundle and route. Of a sheet
+that is drawn from a PLAN it is the list of that sheet. A sheet with more than 1,024 crossings has no list,
+nor has one that the stage gives neither of itself nor from the PLAN: there the tool itself finds where they
+cross, and the picture says so. Routes that lie over each other, or very near, are drawn side by side; arches
+side by side over a bundle rise to one side; a route in two bundles changes its colour half way. No line comes
+within 0.2 mm of the square of a port at which it does not end; a sheet that itself has a line on the place of
+such a port has no picture, but words that name the line, the port and the node. The legend has each
 bundle's id, from which ports to which it leads, its role, place and width. Below it stands what `bundles
 explain` says of the joints and of the last shift; a false joint has a ring around it, and its words stand
 below the title.
@@ -139,7 +144,8 @@ Without a TITLE the title is the job's name without its end.
 For a refusal the picture has the board as it was given, in grey, if the job is whole, and the refusal
 in words with what it is about. Where the drawing refused it (10, 11, 12), the bundle that was refused
 lies over it as it was tried, dashed: its spine and collector, its taps, where its members would be led,
-and a ring where it was refused. None of that is a sheet.",
+and a ring where it was refused. None of that is a sheet. A line on the place of a port at which it does not
+end is there shown with a ring, and named below the title.",
     },
     Command {
         name: "html",
@@ -150,9 +156,10 @@ The page is one file that needs nothing else: open it with a browser. It has the
 `bundles svg`. Point at a bundle, a route, a node or a port, and its way from unit to port is lifted,
 the rest is dimmed, and the way is told in words; a click or a tap of the finger keeps it so. The
 search takes names and ids. Wheel, two fingers, `+` and `-` zoom; dragging and the arrows move; `0`
-shows the whole sheet, Tab goes from one thing to the next, Enter chooses, Escape shows all again, `/`
+shows the whole sheet, Tab goes from one thing to the next, Enter or Space chooses, Escape shows all again, `/`
 goes to the search. Behind `#` in the address can stand what is chosen: sheet.html#bundle-3. Printed
-it is the picture.",
+it is the picture. Where no picture would be clear, the page has the words that say so, and the exit code
+is 2, as with `bundles svg`.",
     },
     Command {
         name: "crossings",
@@ -169,7 +176,7 @@ A sheet with more than 1,024 is refused with 19. With a PLAN the list is that of
     },
     Command {
         name: "page",
-        words: "[BOARD] [--plan PLAN]",
+        words: "[BOARD] [--plan PLAN] [--names FILE]",
         short: "a board's text or job, to the page of its bundles on standard output",
         long: "\
 The page is a listing to clip to the unit, for boards on the drafting grid (`grid yes` in the text):
@@ -182,13 +189,15 @@ with a space between them; a line has 76 bytes, its newline among them.
 With a PLAN the page is that of the sheet drawn from it.
 
 A board that is not said to be on the grid has no page: it is refused with 16, if with nothing else. Where
-the board is refused, standard output stays empty, and the refusal is told on standard error.",
+the board is refused, standard output stays empty, and the refusal is told on standard error, with names
+where there are some: the page itself has no place for them.",
     },
     Command {
         name: "picture",
-        words: "BOARD [--title TITLE] [--names FILE]",
+        words: "BOARD [--title TITLE] [--names FILE] [--plan PLAN]",
         short: "a board's text or a job, drawn, to a picture on standard output: all in one",
-        long: "The picture is that of `bundles svg`. A refusal is also said on standard error.",
+        long: "The picture is that of `bundles svg`, drawn from the PLAN if one is given. A refusal is also said on \
+               standard error.",
     },
     Command {
         name: "version",
@@ -205,7 +214,8 @@ the board is refused, standard output stays empty, and the refusal is told on st
 ];
 
 const FILES: &str = "\
-Where a file is left out, or named `-`, standard input is read.
+Where a file is left out, or named `-`, standard input is read. A word that begins with `-` is a flag, and
+one that the command does not have is refused; a file of such a name is named with its folder, as ./-x.
 
 Exit codes: 0, done. 1, the job was refused; the answer, its explanation or its picture is written
 all the same, a bundle page or a list of crossings is not. 2, bad usage, or a file that cannot be read

@@ -8,21 +8,26 @@ use std::fmt::Write;
 use bundle_stage::{Board, Refusal, Sheet};
 
 use crate::names::Names;
-use crate::svg::{escaped, svg, svg_refused};
+use crate::svg::{Unclear, escaped, svg, svg_refused};
 pub use ways::{Way, ways};
 
 const STYLE: &str = include_str!("html/page.css");
 const SCRIPT: &str = include_str!("html/page.js");
 
-/// The page of a finished sheet. Where no picture would be clear, it has the words that say so.
-pub fn html(board: &Board, sheet: &Sheet, names: &Names, title: &str) -> String {
-    match svg(board, sheet, names, title) {
-        Ok(picture) => page(&picture, &ways(board, Some(sheet), names), title),
-        Err(unclear) => {
-            let words = format!("<p class=\"warning\">{}</p>", escaped(&unclear.to_string()));
-            page(&words, &[], title)
-        }
-    }
+/// The page of a finished sheet.
+///
+/// # Errors
+///
+/// Where no picture would be clear; [`html_unclear`] has a page for that.
+pub fn html(board: &Board, sheet: &Sheet, names: &Names, title: &str) -> Result<String, Unclear> {
+    let picture = svg(board, sheet, names, title)?;
+    Ok(page(&picture, &ways(board, Some(sheet), names), title))
+}
+
+/// The page of a finished sheet of which no picture would be clear: the words that say so.
+pub fn html_unclear(unclear: &Unclear, title: &str) -> String {
+    let words = escaped(&unclear.to_string());
+    page(&format!("<p class=\"warning\">{words}</p>"), &[], title)
 }
 
 /// The page of a board that was refused: its nodes, ports and routes as they were given.

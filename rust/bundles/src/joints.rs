@@ -15,6 +15,8 @@ pub enum Joints {
     Permitted(Option<Vec<Crossing>>, LastShift),
     /// These are false: none, mostly.
     False(Vec<FalseJoint>, LastShift),
+    /// The same of a sheet that the stage draws from a plan that is given.
+    Planned(Box<Joints>),
 }
 
 impl Joints {
@@ -24,10 +26,25 @@ impl Joints {
         if board.draw().as_ref() != Ok(sheet) {
             return Joints::NotOurs;
         }
+        Joints::found_on(board, sheet, None)
+    }
+
+    /// The same of a sheet that may be drawn from a plan, by the plan's bytes.
+    pub fn of_plan(board: &Board, sheet: &Sheet, plan: &[u8]) -> Joints {
+        let wanted = Wanted::default().with_plan(plan);
+        match board.draw_with(&wanted) {
+            Ok(drawn) if drawn.sheet == *sheet => {
+                Joints::Planned(Box::new(Joints::found_on(board, sheet, Some(plan))))
+            }
+            _ => Joints::NotOurs,
+        }
+    }
+
+    fn found_on(board: &Board, sheet: &Sheet, plan: Option<&[u8]>) -> Joints {
         let shift = sheet.last_shift(board);
         match sheet.false_joints(board) {
             Some(joints) => Joints::False(joints, shift),
-            None => Joints::Permitted(listed(board), shift),
+            None => Joints::Permitted(listed(board, plan), shift),
         }
     }
 
@@ -38,6 +55,7 @@ impl Joints {
             Joints::Permitted(list, _) => list.as_deref(),
             // None is permitted.
             Joints::False(..) => Some(&[]),
+            Joints::Planned(joints) => joints.crossings(),
         }
     }
 
@@ -45,6 +63,7 @@ impl Joints {
     pub fn found(&self) -> &[FalseJoint] {
         match self {
             Joints::False(joints, _) => joints,
+            Joints::Planned(joints) => joints.found(),
             _ => &[],
         }
     }
@@ -61,7 +80,15 @@ impl Joints {
     /// The same as one line, the false ones only counted.
     pub fn line(&self) -> String {
         let shift = self.shift().map(|shift| format!(" Last shift: {shift}."));
-        format!("Joints: {}.{}", self.said(), shift.unwrap_or_default())
+        let by_tool = match self.crossings() {
+            Some(_) => "",
+            None => " Where bundles and routes cross was found by the tool itself.",
+        };
+        format!(
+            "Joints: {}.{by_tool}{}",
+            self.said(),
+            shift.unwrap_or_default()
+        )
     }
 
     fn said(&self) -> String {
@@ -87,6 +114,26 @@ impl Joints {
                     count => format!("{count} are"),
                 }
             ),
+            Joints::Planned(joints) => {
+                format!("drawn from the plan that is given; {}", joints.planned())
+            }
+        }
+    }
+
+    /// Of a sheet from any plan that much less is proved.
+    fn planned(&self) -> String {
+        match self {
+            Joints::False(joints, _) if !joints.is_empty() => format!(
+                "false on the sheet in the answer, looked at in exact numbers: {}",
+                joints.len()
+            ),
+            Joints::Permitted(Some(list), _) => {
+                format!(
+                    "{} with routes, by the stage's list",
+                    counted(list.len(), "crossing")
+                )
+            }
+            _ => self.said(),
         }
     }
 
@@ -94,16 +141,15 @@ impl Joints {
         match self {
             Joints::NotOurs => None,
             Joints::Permitted(_, shift) | Joints::False(_, shift) => Some(shifted(*shift)),
+            Joints::Planned(joints) => joints.shift(),
         }
     }
 }
 
 /// The crossings of the board's sheet, none where there are too many to be listed.
-fn listed(board: &Board) -> Option<Vec<Crossing>> {
-    let wanted = Wanted {
-        crossings: true,
-        ..Wanted::default()
-    };
+fn listed(board: &Board, plan: Option<&[u8]>) -> Option<Vec<Crossing>> {
+    let mut wanted = Wanted::default().with_crossings();
+    wanted.plan = plan;
     board.draw_with(&wanted).ok()?.crossings
 }
 
@@ -113,6 +159,7 @@ pub fn name(joint: &FalseJoint) -> &'static str {
         Meeting::Route { .. } | Meeting::Bundles { .. } => "false joint",
         Meeting::Node { .. } => "route in a node",
         Meeting::SlantedRoute { .. } | Meeting::SlantedBundle { .. } => "slanted",
+        _ => "false joint",
     }
 }
 
@@ -124,6 +171,7 @@ pub fn words(joint: &FalseJoint) -> String {
         Meeting::Node { route, node } => format!("route {route} enters node {node}"),
         Meeting::SlantedRoute { route } => format!("route {route} is slanted"),
         Meeting::SlantedBundle { bundle } => format!("bundle {bundle} is slanted"),
+        _ => "parts that must not meet do".to_string(),
     };
     let Segment { start, end } = joint.shared;
     let place = |at: Point| format!("({}, {})", number(at.x), number(at.y));
@@ -139,7 +187,7 @@ fn shifted(LastShift { x, y }: LastShift) -> String {
         Shift::Nothing => "it subtracted nothing",
         Shift::Exact => "it was exact (all numbers of the job are multiples of 1/64 up to 2^20)",
         Shift::Rounded => "it rounded a coordinate, or a far side that is summed anew",
-        Shift::NotKnown => "it may have rounded",
+        _ => "it may have rounded",
     };
     if x == y {
         along(x).to_string()

@@ -5,20 +5,22 @@
 mod files;
 mod help;
 mod plans;
+mod usage;
 
 use std::fs;
 use std::path::{Path, PathBuf};
 use std::process::ExitCode;
 
-use bundle_stage::{Answer, Board, Buffers, Cause, Crossing, Sheet, Wanted, locate};
+use bundle_stage::{Answer, Board, Buffers, Crossing, Sheet, Wanted, locate, locate_planned};
 use bundles::explain::{counted, explain, explain_crossings, places};
-use bundles::html::{html, html_refused};
+use bundles::html::{html, html_refused, html_unclear};
 use bundles::names::Names;
-use bundles::svg::{svg, svg_refused};
+use bundles::svg::{svg, svg_from, svg_refused};
 use bundles::text;
 
 use files::{Loaded, answer, called, load, of, out, read};
 use plans::{plan, plan_explained, plan_of};
+use usage::{Settings, settings, wrong};
 
 /// How a command ends where nothing failed.
 enum Done {
@@ -26,14 +28,6 @@ enum Done {
     Refused,
     /// One of several jobs could not be read or written; it was said.
     Unreadable,
-}
-
-/// What stands behind a command's `--title`, `--names` and `--plan`.
-#[derive(Clone, Copy, Default)]
-struct Settings<'a> {
-    title: Option<&'a str>,
-    names: Option<&'a str>,
-    plan: Option<&'a str>,
 }
 
 fn main() -> ExitCode {
@@ -61,9 +55,7 @@ fn words() -> Result<Vec<String>, String> {
 }
 
 fn command(words: &[&str]) -> Result<Done, String> {
-    if let [name, .., "--help" | "-h"] = *words
-        && let Some(text) = help::one(name)
-    {
+    if let Some(text) = usage::help(words) {
         return out(text.as_bytes());
     }
     let (words, settings) = settings(words)?;
@@ -79,6 +71,9 @@ fn command(words: &[&str]) -> Result<Done, String> {
         ["draw", job] => draw_one(job, settings),
         ["draw", _, ..] if settings.plan.is_some() => {
             Err("a plan is of one job: several cannot be drawn from it".to_string())
+        }
+        ["draw", _, ..] if settings.names.is_some() => {
+            Err("names are of one job: several cannot be told by them".to_string())
         }
         ["draw", ref jobs @ ..] => Ok(draw_all(jobs)),
         ["explain"] if settings.plan.is_some() => plan_explained(None, settings),
@@ -96,7 +91,7 @@ fn command(words: &[&str]) -> Result<Done, String> {
         ["crossings", board] => crossings(board, settings),
         ["page"] => page("-", settings),
         ["page", board] => page(board, settings),
-        ["help" | "--help" | "-h"] => out(help::all().as_bytes()),
+        ["help"] => out(help::all().as_bytes()),
         ["version" | "--version" | "-V"] => {
             out(format!("bundles {}\n", env!("CARGO_PKG_VERSION")).as_bytes())
         }
@@ -107,41 +102,6 @@ fn command(words: &[&str]) -> Result<Done, String> {
         [] => Err("no command; see `bundles help`".to_string()),
         [name, ..] => Err(wrong(name)),
     }
-}
-
-fn wrong(name: &str) -> String {
-    match help::usage(name) {
-        Some(usage) => format!("wrong words; it is: {usage}"),
-        None => format!("no command `{name}`; see `bundles help`"),
-    }
-}
-
-/// The words without `--title TITLE`, `--names FILE` and `--plan PLAN`, and these.
-fn settings<'a>(words: &[&'a str]) -> Result<(Vec<&'a str>, Settings<'a>), String> {
-    let mut settings = Settings::default();
-    let mut others = Vec::new();
-    let mut words = words.iter().copied();
-    while let Some(word) = words.next() {
-        let place = match word {
-            "--title" => &mut settings.title,
-            "--names" => &mut settings.names,
-            "--plan" => &mut settings.plan,
-            _ => {
-                others.push(word);
-                continue;
-            }
-        };
-        let value = words.next();
-        *place = Some(value.ok_or_else(|| wrong(others.first().unwrap_or(&word)))?);
-    }
-    let takes_plan = matches!(
-        others.first(),
-        Some(&("draw" | "explain" | "crossings" | "page"))
-    );
-    if settings.plan.is_some() && !takes_plan {
-        return Err(wrong(others.first().unwrap_or(&"--plan")));
-    }
-    Ok((others, settings))
 }
 
 fn pack(name: &str) -> Result<Done, String> {
@@ -165,29 +125,17 @@ fn unpack(name: &str, settings: Settings<'_>) -> Result<Done, String> {
 fn draw_one(name: &str, settings: Settings<'_>) -> Result<Done, String> {
     let plan = plan_of(settings, name)?;
     let loaded = load(name, settings.names)?;
-    let (bytes, answer) = match &plan {
-        None => drawn(&loaded)?,
-        Some(plan) => {
-            let bytes = bundle_stage::answer_from(&loaded.job, plan);
-            let answer = Answer::from_bytes(&bytes).map_err(of(&loaded.name))?;
-            (bytes, answer)
-        }
-    };
+    let (bytes, answer) = drawn_from(&loaded, plan.as_deref())?;
     out(&bytes)?;
     tell(&answer, &loaded, plan.as_deref());
     Ok(done(&answer))
 }
 
-/// Says a refusal on standard error, and what it is about. Of the drawing's refusals that is known where
-/// the plan is the stage's own.
+/// Says a refusal on standard error, and what it is about.
 fn tell(answer: &Answer, loaded: &Loaded, plan: Option<&[u8]>) {
-    let Answer::Refused(refusal) = answer else {
-        return;
-    };
-    eprintln!("{}: {refusal}", called(&loaded.name));
-    let drawing = matches!(refusal.caused_by(), Cause::Drawing | Cause::Grant);
-    if !drawing || plan.is_none_or(|plan| plan == bundle_stage::plan(&loaded.job)) {
-        eprint!("{}", located(answer, loaded));
+    if let Answer::Refused(refusal) = answer {
+        eprintln!("{}: {refusal}", called(&loaded.name));
+        eprint!("{}", located(answer, loaded, plan));
     }
 }
 
@@ -222,13 +170,23 @@ fn draw_beside(name: &str) -> Result<(String, Done), String> {
         Answer::Drawn(sheet) => format!("{} drawn", counted(sheet.bundles.len(), "bundle")),
         Answer::Refused(refusal) => refusal.to_string(),
     };
-    let places = located(&answer, &loaded);
+    let places = located(&answer, &loaded, None);
     let places = places.trim_end();
     let gap = if places.is_empty() { "" } else { "\n" };
     Ok((
         format!("{said}; {}{gap}{places}", to.display()),
         done(&answer),
     ))
+}
+
+/// The same from a plan, if one is given.
+fn drawn_from(loaded: &Loaded, plan: Option<&[u8]>) -> Result<(Vec<u8>, Answer), String> {
+    let Some(plan) = plan else {
+        return drawn(loaded);
+    };
+    let bytes = bundle_stage::answer_from(&loaded.job, plan);
+    let answer = Answer::from_bytes(&bytes).map_err(of(&loaded.name))?;
+    Ok((bytes, answer))
 }
 
 /// The bytes of a job's answer, and what they say.
@@ -244,11 +202,8 @@ fn crossings(name: &str, settings: Settings<'_>) -> Result<Done, String> {
     let plan = plan_of(settings, name)?;
     let loaded = load(name, settings.names)?;
     let mut buffers = Box::new(Buffers::default());
-    let wanted = Wanted {
-        plan: plan.as_deref(),
-        crossings: true,
-        ..Wanted::default()
-    };
+    let mut wanted = Wanted::default().with_crossings();
+    wanted.plan = plan.as_deref();
     let written = buffers.write(&loaded.job, &wanted);
     let answer = Answer::from_bytes(written.answer).map_err(of(&loaded.name))?;
     if let Some(list) = written.crossings {
@@ -262,13 +217,10 @@ fn crossings(name: &str, settings: Settings<'_>) -> Result<Done, String> {
 /// The bundle page of a board, from its text or its job. A refusal is told, and there is no page.
 fn page(name: &str, settings: Settings<'_>) -> Result<Done, String> {
     let plan = plan_of(settings, name)?;
-    let loaded = load(name, None)?;
+    let loaded = load(name, settings.names)?;
     let mut buffers = Box::new(Buffers::default());
-    let wanted = Wanted {
-        plan: plan.as_deref(),
-        page: true,
-        ..Wanted::default()
-    };
+    let mut wanted = Wanted::default().with_page();
+    wanted.plan = plan.as_deref();
     let written = buffers.write(&loaded.job, &wanted);
     let answer = Answer::from_bytes(written.answer).map_err(of(&loaded.name))?;
     out(written.page.unwrap_or_default())?;
@@ -276,13 +228,18 @@ fn page(name: &str, settings: Settings<'_>) -> Result<Done, String> {
     Ok(done(&answer))
 }
 
-/// Where a job was refused, a line for each place that the refusal is about.
-fn located(answer: &Answer, loaded: &Loaded) -> String {
+/// Where a job was refused, a line for each place that the refusal is about. Of a job that is drawn from a
+/// plan, if one is given.
+fn located(answer: &Answer, loaded: &Loaded, plan: Option<&[u8]>) -> String {
     let Answer::Refused(refusal) = answer else {
         return String::new();
     };
-    // The answer may be that of another job.
-    let refused = locate(&loaded.job).filter(|refused| refused.refusal == *refusal);
+    let refused = match plan {
+        Some(plan) => locate_planned(&loaded.job, plan),
+        None => locate(&loaded.job),
+    };
+    // The answer may be that of another job, or the refusal that of another output.
+    let refused = refused.filter(|refused| refused.refusal == *refusal);
     refused.map_or(String::new(), |refused| {
         places(&refused, &loaded.names, &loaded.lines)
     })
@@ -309,29 +266,34 @@ fn explained(name: &str, job: Option<&str>, settings: Settings<'_>) -> Result<Do
         Answer::Refused(_) => None,
     };
     let mut words = explain(&answer, board.as_ref(), &loaded.names);
-    words.push_str(&located(&answer, &loaded));
+    words.push_str(&located(&answer, &loaded, None));
     out(words.as_bytes())?;
     Ok(done(&answer))
 }
 
 fn picture_of(job: &str, name: &str, settings: Settings<'_>) -> Result<Done, String> {
+    if settings.plan == Some("-") && name == "-" {
+        return Err("a plan and an answer cannot both come from standard input".to_string());
+    }
+    let plan = plan_of(settings, job)?;
     let answer = answer(name)?;
     let loaded = load(job, settings.names)?;
-    shown(&loaded, name, &answer, settings)
+    shown(&loaded, (name, &answer), plan.as_deref(), settings)
 }
 
 /// Packs where that is needed, draws, and shows.
 fn picture(name: &str, settings: Settings<'_>) -> Result<Done, String> {
+    let plan = plan_of(settings, name)?;
     let loaded = load(name, settings.names)?;
-    let (_, answer) = drawn(&loaded)?;
-    tell(&answer, &loaded, None);
-    shown(&loaded, name, &answer, settings)
+    let (_, answer) = drawn_from(&loaded, plan.as_deref())?;
+    tell(&answer, &loaded, plan.as_deref());
+    shown(&loaded, (name, &answer), plan.as_deref(), settings)
 }
 
 fn shown(
     loaded: &Loaded,
-    name: &str,
-    answer: &Answer,
+    (name, answer): (&str, &Answer),
+    plan: Option<&[u8]>,
     settings: Settings<'_>,
 ) -> Result<Done, String> {
     let by_file = title(&loaded.name);
@@ -339,7 +301,12 @@ fn shown(
     let text = match answer {
         Answer::Drawn(sheet) => {
             let board = board_of(loaded, name, sheet)?;
-            svg(&board, sheet, &loaded.names, title).map_err(of(&loaded.name))?
+            let names = &loaded.names;
+            let picture = match plan {
+                Some(plan) => svg_from(&board, sheet, plan, names, title),
+                None => svg(&board, sheet, names, title),
+            };
+            picture.map_err(of(&loaded.name))?
         }
         // The refusal may be that the bytes are no job; then there is no board to show.
         Answer::Refused(refusal) => {
@@ -351,14 +318,21 @@ fn shown(
     Ok(done(answer))
 }
 
-/// The page of a board, from its text or its job.
+/// The page of a board, from its text or its job. Where no picture would be clear it has the words that
+/// say so, and the command fails as `svg` does.
 fn followed(name: &str, settings: Settings<'_>) -> Result<Done, String> {
     let loaded = load(name, settings.names)?;
     let by_file = title(&loaded.name);
     let title = settings.title.unwrap_or(&by_file);
     let (_, answer) = drawn(&loaded)?;
     let page = match &answer {
-        Answer::Drawn(sheet) => html(&loaded.board()?, sheet, &loaded.names, title),
+        Answer::Drawn(sheet) => match html(&loaded.board()?, sheet, &loaded.names, title) {
+            Ok(page) => page,
+            Err(unclear) => {
+                out(html_unclear(&unclear, title).as_bytes())?;
+                return Err(of(&loaded.name)(unclear));
+            }
+        },
         // The refusal may be that the bytes are no job; then there is no board to show.
         Answer::Refused(refusal) => {
             tell(&answer, &loaded, None);

@@ -3,10 +3,10 @@
 
 use std::collections::BTreeMap;
 
-use bundle_stage::{Endpoint, Id, Item};
+use bundle_stage::{Board, Id, Item};
 
-use crate::text::{Wrong, utf8};
-use crate::tokens::{quote, split, unquote};
+use crate::text::{Named, Wrong, named};
+use crate::tokens::quote;
 
 /// Names by id, where they are given.
 #[derive(Clone, Debug, Default, Eq, PartialEq)]
@@ -15,6 +15,8 @@ pub struct Names {
     ports: BTreeMap<(Id, Id), String>,
     edges: BTreeMap<Id, String>,
     bundles: BTreeMap<Id, String>,
+    /// The records of a text whose id another one has too: the names that they have there.
+    twice: Vec<(Item, Option<String>)>,
 }
 
 impl Names {
@@ -56,7 +58,9 @@ impl Names {
 
     /// A record by id, and by name where it has one.
     pub fn item(&self, item: Item) -> String {
+        let own = self.twice.iter().find(|(of, _)| *of == item);
         let name = match item {
+            _ if own.is_some() => own.and_then(|(_, name)| name.as_deref()),
             Item::Node { id, .. } => self.node(id),
             Item::Port { node, id, .. } => self.port(node, id),
             Item::Edge { id, .. } => self.edge(id),
@@ -66,6 +70,18 @@ impl Names {
         match name {
             Some(name) => format!("{item} ({name})"),
             None => item.to_string(),
+        }
+    }
+
+    /// Tells records that have one id apart: each has its own name, or none.
+    pub(crate) fn tell_apart(&mut self, board: &Board, name: impl Fn(Item) -> Option<String>) {
+        let mut by_id = BTreeMap::<String, Vec<Item>>::new();
+        for item in records(board) {
+            by_id.entry(item.to_string()).or_default().push(item);
+        }
+        for items in by_id.into_values().filter(|items| items.len() > 1) {
+            let named = items.into_iter().map(|item| (item, name(item)));
+            self.twice.extend(named);
         }
     }
 
@@ -88,41 +104,55 @@ impl Names {
         text
     }
 
-    /// The names of a file of names, or of a board's text: lines without a name, and what stands behind
-    /// one, say nothing here.
+    /// The names of a file of names, which has nothing else, or of a board's text.
     pub fn read(text: &[u8]) -> Result<Names, Wrong> {
         let mut names = Names::default();
-        for (line, said) in (1..).zip(utf8(text)?.lines()) {
-            let words = split(said).map_err(|words| Wrong { line, words })?;
-            if let [key, id, name, ..] = words[..]
-                && let Some(name) = unquote(name)
-            {
-                names.set(key, id, &name).ok_or_else(|| Wrong {
-                    line,
-                    words: format!(
-                        "expected `node`, `port`, `edge` or `bundle` and its id, found `{key} {id}`"
-                    ),
-                })?;
-            }
+        for Named { record, name, .. } in named(text)? {
+            names.set(record, &name);
         }
         Ok(names)
     }
 
-    fn set(&mut self, key: &str, id: &str, name: &str) -> Option<()> {
-        match key {
-            "port" => {
-                let (node, port) = id.split_once(':')?;
-                let at = Endpoint {
-                    node: node.parse().ok()?,
-                    port: port.parse().ok()?,
-                };
-                self.set_port(at.node, at.port, name);
-            }
-            "node" => self.set_node(id.parse().ok()?, name),
-            "edge" => self.set_edge(id.parse().ok()?, name),
-            "bundle" => self.set_bundle(id.parse().ok()?, name),
-            _ => return None,
+    /// The same for a board. A name of what the board does not have is refused, as the file may be that of
+    /// another.
+    pub fn read_for(text: &[u8], board: &Board) -> Result<Names, Wrong> {
+        let named = named(text)?;
+        if let Some(other) = named.iter().find(|named| !named.is_of(board)) {
+            return Err(Wrong {
+                line: other.line,
+                words: format!("{} has a name, and the board has none such", other.record),
+            });
         }
-        Some(())
+        Names::read(text)
     }
+
+    /// Takes the names of another, where they differ.
+    pub fn take(&mut self, other: Names) {
+        self.nodes.extend(other.nodes);
+        self.ports.extend(other.ports);
+        self.edges.extend(other.edges);
+        self.bundles.extend(other.bundles);
+    }
+
+    fn set(&mut self, record: Item, name: &str) {
+        match record {
+            Item::Node { id, .. } => self.set_node(id, name),
+            Item::Port { node, id, .. } => self.set_port(node, id, name),
+            Item::Edge { id, .. } => self.set_edge(id, name),
+            Item::Bundle { id, .. } => self.set_bundle(id, name),
+            _ => {}
+        }
+    }
+}
+
+fn records(board: &Board) -> Vec<Item> {
+    let nodes = board.nodes.iter().map(|of| of.id).enumerate();
+    let ports = board.ports.iter().map(|of| (of.node, of.id)).enumerate();
+    let edges = board.edges.iter().map(|of| of.id).enumerate();
+    let bundles = board.bundles.iter().map(|of| of.id).enumerate();
+    let nodes = nodes.map(|(place, id)| Item::Node { place, id });
+    let ports = ports.map(|(place, (node, id))| Item::Port { place, node, id });
+    let edges = edges.map(|(place, id)| Item::Edge { place, id });
+    let bundles = bundles.map(|(place, id)| Item::Bundle { place, id });
+    nodes.chain(ports).chain(edges).chain(bundles).collect()
 }

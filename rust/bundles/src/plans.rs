@@ -4,7 +4,8 @@ use bundle_stage::{Answer, Plan, Refusal};
 use bundles::explain::{Drawing, explain_plan};
 
 use crate::files::{called, load, of, out, read};
-use crate::{Done, Settings, done, tell};
+use crate::usage::Settings;
+use crate::{Done, done, located, tell};
 
 /// The plan of a job. A notice that stands for it is told.
 pub fn plan(name: &str) -> Result<Done, String> {
@@ -63,6 +64,7 @@ pub fn plan_explained(job: Option<&str>, settings: Settings<'_>) -> Result<Done,
         own: bundle_stage::plan(&loaded.job) == bytes,
         answer: &answer,
     };
-    out(explain_plan(&plan, Some(&drawing)).as_bytes())?;
+    let words = explain_plan(&plan, Some(&drawing)) + &located(&answer, &loaded, Some(&bytes));
+    out(words.as_bytes())?;
     Ok(done(&answer))
 }

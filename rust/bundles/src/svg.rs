@@ -15,6 +15,8 @@ mod page;
 mod palette;
 mod paths;
 mod pens;
+mod ports;
+mod rings;
 mod scene;
 mod shapes;
 mod spans;
@@ -43,8 +45,8 @@ use legend::{Head, Legend};
 use page::{A0, LARGEST, MARGIN, PAPERS, Page};
 use palette::{BLACK, GREY};
 use pens::Pens;
-use scene::Scene;
-use shapes::{lines, marks, nodes, ports};
+use scene::{Mark, Scene};
+use shapes::{lines, marks, nodes};
 use spans::Way;
 use stretch::{Needs, is_straight};
 use stroke::Stroke;
@@ -62,14 +64,19 @@ pub struct Unclear {
     what: String,
 }
 
+impl Unclear {
+    /// What is still so on the largest paper.
+    fn on_paper(what: &str) -> Unclear {
+        let (long, short) = PAPERS[PAPERS.len() - 1];
+        Unclear {
+            what: format!("on paper of {long} by {short} mm still {what}"),
+        }
+    }
+}
+
 impl fmt::Display for Unclear {
     fn fmt(&self, to: &mut fmt::Formatter<'_>) -> fmt::Result {
-        let (long, short) = PAPERS[PAPERS.len() - 1];
-        let what = &self.what;
-        write!(
-            to,
-            "no picture, as it would mislead: on paper of {long} by {short} mm still {what}"
-        )
+        write!(to, "no picture, as it would mislead: {}", self.what)
     }
 }
 
@@ -83,6 +90,33 @@ impl std::error::Error for Unclear {}
 ///
 /// Where on no paper all that does not join can be drawn apart.
 pub fn svg(board: &Board, sheet: &Sheet, names: &Names, title: &str) -> Result<String, Unclear> {
+    sheet_of(board, sheet, &Joints::of(board, sheet), names, title)
+}
+
+/// The same of a sheet that was drawn from a plan, by the plan's bytes: the list of crossings is then that
+/// of the plan's sheet.
+///
+/// # Errors
+///
+/// Where on no paper all that does not join can be drawn apart.
+pub fn svg_from(
+    board: &Board,
+    sheet: &Sheet,
+    plan: &[u8],
+    names: &Names,
+    title: &str,
+) -> Result<String, Unclear> {
+    let joints = Joints::of_plan(board, sheet, plan);
+    sheet_of(board, sheet, &joints, names, title)
+}
+
+fn sheet_of(
+    board: &Board,
+    sheet: &Sheet,
+    joints: &Joints,
+    names: &Names,
+    title: &str,
+) -> Result<String, Unclear> {
     let crossings = if board.flags.permit_crossings {
         "permitted"
     } else {
@@ -99,15 +133,18 @@ pub fn svg(board: &Board, sheet: &Sheet, names: &Names, title: &str) -> Result<S
         sheet.visits_left.tap,
         sheet.visits_left.geometry,
     );
-    let joints = Joints::of(board, sheet);
     let mut scene = Scene::of_sheet(board, sheet);
+    scene.names = names.clone();
+    // What meets on the sheet itself meets on every paper.
+    if let Some((_, what)) = ports::contacts(&scene).next() {
+        return Err(Unclear { what });
+    }
     scene.mark(joints.found());
     scene.list(joints.crossings());
-    scene.names = names.clone();
     let head = Head {
         title: title.to_string(),
         about: Some(about),
-        warnings: warnings(&joints),
+        warnings: warnings(joints),
     };
     picture(scene, &head, BLACK, Some(joints.line()))
 }
@@ -143,6 +180,10 @@ pub fn svg_refused(board: &Board, refusal: Refusal, names: &Names, title: &str) 
             .attempt()
             .and_then(|attempt| Tried::of(board, &attempt));
     }
+    let contacts = ports::contacts(&scene).collect::<Vec<_>>();
+    let said = contacts.iter().map(|(_, words)| words.clone());
+    warnings.extend(first(said.collect()));
+    scene.marks = contacts.into_iter().map(Mark::no_joint).collect();
     let mut head = Head {
         title: title.to_string(),
         about: None,
@@ -154,6 +195,7 @@ pub fn svg_refused(board: &Board, refusal: Refusal, names: &Names, title: &str) 
         return svg;
     }
     scene.routes.clear();
+    scene.marks.clear();
     let without = "The routes are not shown: they cannot be drawn apart.";
     head.warnings.push(without.to_string());
     // Without lines nothing can touch.
@@ -163,15 +205,16 @@ pub fn svg_refused(board: &Board, refusal: Refusal, names: &Names, title: &str) 
 /// What a refusal is about, in words.
 fn here(refused: &Refused, names: &Names) -> Vec<String> {
     let words = |place: &Place| place.words(|item| names.item(item));
-    let all = refused.places.len();
-    let named = refused.places.iter().take(MOST_NAMED);
-    let mut here = named
-        .map(|place| capital(format!("{}.", words(place))))
-        .collect::<Vec<_>>();
-    if all > MOST_NAMED {
-        here.push(format!("And {} more.", all - MOST_NAMED));
-    }
-    here
+    first(refused.places.iter().map(words).collect())
+}
+
+/// The first of several words as sentences, and how many more there are.
+fn first(all: Vec<String>) -> Vec<String> {
+    let more = all.len().saturating_sub(MOST_NAMED);
+    let named = all.into_iter().take(MOST_NAMED);
+    let named = named.map(|words| capital(format!("{words}.")));
+    let more = (more > 0).then(|| format!("And {more} more."));
+    named.chain(more).collect()
 }
 
 /// On the smallest paper on which all that does not join is drawn apart. `ink` is for what has no
@@ -215,7 +258,7 @@ fn with_legend(
             Some(words) => what = words,
         }
     }
-    Err(Unclear { what })
+    Err(Unclear::on_paper(&what))
 }
 
 /// How many times the room that lines need is tried: an arch may take more.
@@ -260,7 +303,7 @@ fn page_of(
     svg.push_str(&head.draw(corner(MARGIN, MARGIN), inner));
     svg.push_str(&nodes(scene, pens, ink));
     svg.push_str(&lines(scene, strokes, pens, ink));
-    svg.push_str(&ports(scene, pens, ink));
+    svg.push_str(&shapes::ports(scene, ink));
     svg.push_str("<g class=\"ids\" text-anchor=\"middle\">\n");
     svg.push_str(&labels.svg);
     svg.push_str("</g>\n");

@@ -13,8 +13,10 @@ use crate::lines::Lines;
 use crate::names::Names;
 use crate::tokens::{self, unquote};
 
+mod named;
 mod write;
 
+pub(crate) use named::{Named, named};
 pub use write::{write, write_named};
 
 /// A line that is not as it should be.
@@ -99,6 +101,11 @@ pub fn read_all(text: &[u8]) -> Result<Text, Wrong> {
         ];
         all.lines.note(line, &all.board, said.concat());
     }
+    let name_of = |item| {
+        let said = text.lines().nth(all.lines.of(item)? - 1)?;
+        tokens::unquote(tokens::split(said).ok()?.get(2)?)
+    };
+    all.names.tell_apart(&all.board, name_of);
     let board = &mut all.board;
     if let Some(place) = settings.options.iter().position(Option::is_none) {
         return Err(Wrong {

@@ -8,7 +8,7 @@ use std::path::PathBuf;
 use std::process::Command;
 
 use bundle_stage::{Board, Endpoint, Id, Refusal, Role};
-use bundles::html::{html, html_refused};
+use bundles::html::{html, html_refused, ways};
 use bundles::names::Names;
 use bundles::text;
 
@@ -127,18 +127,15 @@ fn due(board: &Board, drawn: bool) -> BTreeMap<String, (usize, BTreeSet<String>)
         let parts = [edge.source, edge.target].into_iter().flat_map(ends);
         let mut parts = parts.chain([route.clone()]).collect::<BTreeSet<_>>();
         let bundles = trunks(edge.id);
-        for (bundle, _) in &bundles {
-            let own = parts.iter().filter(|part| !part.starts_with("bundle-"));
-            let own = own.filter(|part| !part.starts_with("tap-")).cloned();
-            let tap = format!("tap-{bundle}-{}", edge.id);
-            let key = format!("bundle-{bundle}");
-            let of = due.entry(key.clone()).or_default();
-            of.0 += 1;
-            of.1.extend(own.chain([tap, key]));
-        }
+        // The whole way of the edge, through the bundles at both of its ends.
         for (bundle, _) in &bundles {
             parts.insert(format!("bundle-{bundle}"));
             parts.insert(format!("tap-{bundle}-{}", edge.id));
+        }
+        for (bundle, _) in &bundles {
+            let of = due.entry(format!("bundle-{bundle}")).or_default();
+            of.0 += 1;
+            of.1.extend(parts.clone());
         }
         let at = [edge.source, edge.target].into_iter().flat_map(ends);
         for key in at.chain([route]).collect::<BTreeSet<_>>() {
@@ -155,7 +152,7 @@ fn due(board: &Board, drawn: bool) -> BTreeMap<String, (usize, BTreeSet<String>)
 
 fn followed(name: &str, board: &Board) {
     let sheet = board.draw().expect("a sheet");
-    let page = html(board, &sheet, &Names::default(), name);
+    let page = html(board, &sheet, &Names::default(), name).expect("a picture");
     if let Some(asked) = asked(name, &page) {
         assert_eq!(asked, due(board, true), "{name}");
     }
@@ -179,6 +176,33 @@ fn a_chain() {
     });
     chain.bundles = ends.cloned().collect();
     followed("chain", &chain);
+}
+
+/// The way of a bundle goes from the units' ports to its own, through the bundles that its members are in at
+/// their other ends; their other members are not on it.
+#[test]
+fn the_whole_chain() {
+    let mut board = example("clock-board");
+    let whole = board.clone();
+    board.bundles = vec![whole.bundles[2].clone(), whole.bundles[3].clone()];
+    for board in [whole, board] {
+        let sheet = board.draw().expect("a sheet");
+        let ways = ways(&board, Some(&sheet), &Names::default());
+        let way = |key: &str| ways.iter().find(|way| way.key == key).expect(key);
+        let four = "bundle-3 bundle-4 node-2 node-5 node-7 port-2-1 port-5-11 port-5-12 port-7-1 route-32 \
+                    route-33 route-41 route-42 tap-3-32 tap-3-33 tap-4-32 tap-4-33 tap-4-41 tap-4-42";
+        assert_eq!(way("bundle-4").lifted.join(" "), four);
+        let three = "bundle-3 bundle-4 node-2 node-4 node-5 node-7 port-2-1 port-4-5 port-5-1 port-7-1 \
+                     route-31 route-32 route-33 route-34 tap-3-31 tap-3-32 tap-3-33 tap-3-34 tap-4-32 \
+                     tap-4-33";
+        assert_eq!(way("bundle-3").lifted.join(" "), three);
+        let words = &way("bundle-4").words;
+        assert_eq!(words.len(), 4);
+        let chain = "node 2 \u{2192} port 2:1 \u{2192} spine and collector of bundle 3 \u{2192} tap \u{2192} edge 33 \
+                     \u{2192} tap \u{2192} collector and spine of bundle 4 \u{2192} port 7:1 \u{2192} node 7";
+        assert_eq!(words[1], chain);
+        assert!(way("bundle-3").words.contains(&words[1]));
+    }
 }
 
 #[test]
@@ -241,7 +265,7 @@ fn names_and_words() {
     let mut names = Names::default();
     names.set_node(Id::from(5), "time </script> & \"unit\"");
     names.set_bundle(Id::from(4), "time code");
-    let page = html(&board, &sheet, &names, "a < b");
+    let page = html(&board, &sheet, &names, "a < b").expect("a picture");
     assert!(page.contains("<title>a &lt; b</title>"));
     assert_eq!(
         page.matches("</script>").count(),

@@ -7,7 +7,7 @@ use std::fs;
 use bundle_stage::{Answer, Board, Sheet};
 use bundles::explain::explain;
 use bundles::names::Names;
-use bundles::svg::svg;
+use bundles::svg::{svg, svg_from};
 use bundles::text;
 
 fn file(name: &str) -> Vec<u8> {
@@ -76,6 +76,31 @@ fn in_words() {
     );
 }
 
+const BY_TOOL: &str = "Where bundles and routes cross was found by the tool itself.";
+
+/// A sheet from a plan has the stage's list of that sheet; from another plan it is not that sheet.
+#[test]
+fn from_a_plan() {
+    let board = example("crossings");
+    let mut next = board.clone();
+    next.options.member_endpoint_reserve += 7.0;
+    let plan = board.plan().expect("a plan");
+    let sheet = next.draw_from(&plan).expect("a sheet");
+    assert_ne!(sheet, drawn(&next));
+    let plan = plan.to_bytes().expect("a plan");
+    let picture = |plan: &[u8]| {
+        let picture = svg_from(&next, &sheet, plan, &Names::default(), "planned");
+        picture.expect("a clear picture")
+    };
+    let said =
+        ">Joints: drawn from the plan that is given; 5 crossings with routes, by the stage's list.";
+    let planned = picture(&plan);
+    assert!(planned.contains(said), "{planned}");
+    assert!(!planned.contains(BY_TOOL));
+    let own = next.plan().expect("a plan").to_bytes().expect("a plan");
+    assert!(picture(&own).contains(BY_TOOL));
+}
+
 #[test]
 fn another_answer() {
     let board = example("clock-board");
@@ -85,7 +110,7 @@ fn another_answer() {
     assert!(
         svg(&board, &sheet, &Names::default(), "other")
             .expect("a clear picture")
-            .contains(&format!(">Joints: {said}.</text>"))
+            .contains(&format!(">Joints: {said}. {BY_TOOL}</text>"))
     );
     assert_eq!(explained(&board, sheet), format!("joints: {said}\n"));
 }

@@ -218,6 +218,83 @@ fn names_come_back() {
     // A file of names, and a board's text as one.
     assert_eq!(Names::read(names.write().as_bytes()), Ok(names.clone()));
     assert_eq!(Names::read(named.as_bytes()), Ok(names));
-    let error = Names::read(b"\nwire 5 \"a\"\n").expect_err("no such table");
-    assert_eq!(error.line, 2);
+}
+
+/// What a file of names has that is no name is told, with its line; so is what is wrong in a board's text.
+#[test]
+fn no_names() {
+    let board = format!("{SETTINGS}node 5 at 0,0 size 1,1\n");
+    for (text, said) in [
+        (
+            "\nwire 5 \"a\"\n",
+            "line 2: expected `node`, `port`, `edge` or `bundle`, found `wire`",
+        ),
+        (
+            "node 5 \"a\"\nwire 5\n",
+            "line 2: expected `node`, `port`, `edge` or `bundle`, found `wire`",
+        ),
+        (
+            "node a \"b\"\n",
+            "line 1: expected the node's id, found `a`",
+        ),
+        (
+            "port 5 \"b\"\n",
+            "line 1: expected the port as NODE:PORT, found `5`",
+        ),
+        (
+            "node 5 timestamp\n",
+            "line 1: expected a name in quotation marks, found `timestamp`",
+        ),
+        (
+            "edge 5\n",
+            "line 1: expected a name in quotation marks, found the line's end",
+        ),
+        (
+            "bundle 5 \"a\" at\n",
+            "line 1: expected the line's end, found `at`",
+        ),
+        (
+            "node 5 \"a\"\nedge 5 \"b\"\nnode 5 \"c\"\n",
+            "line 3: node 5 has a name already",
+        ),
+        (
+            &board.replace("node 5 at", "nod 5 at"),
+            "line 6: expected `node`, `port`, `edge`, `bundle` or a setting's name, found `nod`",
+        ),
+    ] {
+        let error = Names::read(text.as_bytes()).expect_err(said);
+        assert_eq!(error.to_string(), said);
+    }
+    assert_eq!(Names::read(b"# none\n\n"), Ok(Names::default()));
+    assert_eq!(Names::read(board.as_bytes()), Ok(Names::default()));
+    let twice = format!("{board}node 6 \"a\" at 0,0 size 1,1\nnode 6 \"b\" at 0,0 size 1,1\n");
+    assert!(Names::read(twice.as_bytes()).is_ok());
+}
+
+/// A file of names may be that of another board.
+#[test]
+fn names_of_another_board() {
+    let text = format!(
+        "{SETTINGS}node 5 at 0,0 size 1,1\nport 5:11 east 0\nedge 3 from 5:11 to 5:11\n\
+         bundle 4 at 5:11 input width 0\n"
+    );
+    let board = read(text.as_bytes()).expect("a board");
+    let own = "node 5 \"a\"\nport 5:11 \"b\"\nedge 3 \"c\"\nbundle 4 \"d\"\n";
+    let names = Names::read_for(own.as_bytes(), &board).expect("names");
+    assert_eq!(names.write(), own);
+    for (line, record) in [
+        ("node 11 \"a\"", "node 11"),
+        ("port 5:12 \"a\"", "port 5:12"),
+        ("port 6:11 \"a\"", "port 6:11"),
+        ("edge 4 \"a\"", "edge 4"),
+        ("bundle 3 \"a\"", "bundle 3"),
+    ] {
+        let error = Names::read_for(format!("{own}{line}\n").as_bytes(), &board);
+        let said = format!("line 5: {record} has a name, and the board has none such");
+        assert_eq!(error.expect_err(record).to_string(), said);
+        // So in another board's text.
+        let other = format!("{text}node 6 \"a\" at 0,0 size 1,1\n");
+        let error = Names::read_for(other.as_bytes(), &board).expect_err("another board");
+        assert_eq!(error.line, 10);
+    }
 }

@@ -72,6 +72,8 @@ fn from_text_to_picture() {
     let picture = text(out(0, &["svg", &job, &answer], b""));
     assert!(picture.starts_with("<svg ") && picture.ends_with("</svg>\n"));
     assert!(picture.contains("<title>clock-board</title>"));
+    // Two members share port 2:1, which stands in the legend once.
+    assert!(picture.contains(">2:1, 5:11, 5:12 → 7:1; output"));
     let titled = out(
         0,
         &["svg", &job, &answer, "--title", "Clocks & pulses"],
@@ -245,6 +247,14 @@ fn planned_and_drawn_later() {
     let own = out(0, &["draw", &name("next.txt")], b"");
     let drawn = out(0, &["draw", "--plan", &kept, &name("next.txt")], b"");
     assert_ne!(drawn, own);
+    let picture = out(0, &["picture", "--plan", &kept, &name("next.txt")], b"");
+    let same = ["svg", "--plan", &kept, &name("next.txt"), "-"];
+    assert_eq!(out(0, &same, &drawn), picture);
+    let said =
+        "Joints: drawn from the plan that is given; none is false on the sheet in the answer";
+    assert!(text(picture).contains(said));
+    let picture = text(out(0, &["svg", &name("next.txt"), "-"], &drawn));
+    assert!(picture.contains("Where bundles and routes cross was found by the tool itself."));
     let words = text(out(
         0,
         &["explain", "--plan", &kept, &name("next.txt")],
@@ -288,11 +298,15 @@ fn planned_and_drawn_later() {
             "a plan is of one job",
         ),
         (
-            &["svg", "--plan", &kept, &job, "-"],
-            "bundles svg JOB ANSWER",
+            &["svg", "--plan", "-", &job, "-"],
+            "a plan and an answer cannot both come from standard input",
         ),
+        (&["html", "--plan", &kept, &job], "bundles html BOARD"),
         (&["explain", "--plan", &job], "no plan: byte "),
-        (&["draw", "--plan"], "bundles draw [JOB...] [--plan PLAN]"),
+        (
+            &["draw", "--plan"],
+            "bundles draw [JOB...] [--plan PLAN] [--names FILE]",
+        ),
     ] {
         let message = failed(words);
         assert!(message.contains(said), "{words:?}: {message}");
@@ -388,6 +402,37 @@ fn a_refusal() {
     assert!(page.contains("refused with 1"), "{page}");
 }
 
+/// A route that ends on another: on no paper are they apart.
+const UNCLEAR: &str = "port_stub 0\nroute_lane_gap 3\nedge_node_clearance 5\n\
+    minimum_parallel_wire_spacing 2\nmember_endpoint_reserve 2\n\
+    node 1 at 14,52 size 3,6\nnode 2 at 28,38 size 0,4\n\
+    port 1:1 east 6\nport 2:1 east 6\nport 1:2 east 5\nport 2:2 north 2\n\
+    edge 1 from 2:2 to 1:1 via 4,50 16,50 69,50 117,50 -1,50\n\
+    edge 2 from 1:2 to 1:2 via 4,50 16,50 69,50 117,50 -1,50\n\
+    edge 3 from 1:1 to 1:2 via 4,50 16,50 69,50 117,50 -1,50\n";
+
+/// Where no picture would be clear, a page of the same words, and the same exit code.
+#[test]
+fn no_clear_picture() {
+    let [picture, page] = ["picture", "html"].map(|command| {
+        let output = bundles(&[command, "-"], UNCLEAR.as_bytes());
+        assert_eq!(output.status.code(), Some(2), "{command}");
+        (text(output.stdout), text(output.stderr))
+    });
+    assert!(picture.0.is_empty());
+    assert!(
+        picture.1.contains("no picture, as it would mislead"),
+        "{}",
+        picture.1
+    );
+    assert_eq!(picture.1, page.1);
+    assert!(
+        page.0
+            .contains("<p class=\"warning\">no picture, as it would mislead")
+    );
+    assert!(page.0.ends_with("</html>\n"));
+}
+
 #[test]
 fn only_65536_bytes_of_a_job_are_looked_at() {
     // As the program sheet: the length counts what is read, and the bytes after it are not there.
@@ -466,6 +511,59 @@ fn texts_in_place_of_jobs() {
     );
 }
 
+/// Names stand in refusals of every command that draws, or are refused themselves.
+#[test]
+fn names_beside_a_job() {
+    let folder = folder("names");
+    let name = |name: &str| folder.join(name).to_str().expect("text").to_string();
+    let board = fs::read_to_string(example("clock-board.txt")).expect("an example");
+    let far = board.replace("\"alarms\" at 8:1", "at 8:7");
+    fs::write(name("far.job"), out(0, &["pack", "-"], far.as_bytes())).expect("a file");
+    fs::write(name("names"), "bundle 6 \"alarms\"\n").expect("a file");
+    let (job, names) = (name("far.job"), name("names"));
+    let draws: [&[&str]; 5] = [
+        &["draw", &job],
+        &["picture", &job],
+        &["html", &job],
+        &["crossings", &job],
+        &["page", &job],
+    ];
+    for words in draws {
+        let refused = bundles(&[words, &["--names", &names]].concat(), b"");
+        assert_eq!(refused.status.code(), Some(1), "{words:?}");
+        let said = text(refused.stderr);
+        assert!(said.contains("bundle 6 (alarms) names port 8:7"), "{said}");
+    }
+    // Of several jobs each has names of its own.
+    let said = failed(&["draw", &job, &job, "--names", &names]);
+    assert_eq!(
+        said,
+        "bundles: names are of one job: several cannot be told by them\n"
+    );
+    // The file of another board, and one with a line that is no name.
+    fs::write(
+        &names,
+        "bundle 6 \"alarms\"\n# no such\nnode 9 \"alarm output\"\n",
+    )
+    .expect("a file");
+    let said = failed(&["draw", &job, "--names", &names]);
+    let due = "line 3: node 9 has a name, and the board has none such";
+    assert_eq!(said, format!("bundles: {names}: {due}\n"));
+    fs::write(&names, "bundle 6 alarms\n").expect("a file");
+    let said = failed(&["names", &names]);
+    let due = "line 1: expected a name in quotation marks, found `alarms`";
+    assert_eq!(said, format!("bundles: {names}: {due}\n"));
+    // Names of the file go before those of the text.
+    fs::write(&names, "bundle 6 \"bells\"\n").expect("a file");
+    let unpacked = text(out(
+        0,
+        &["unpack", &example("clock-board.txt"), "--names", &names],
+        b"",
+    ));
+    assert!(unpacked.contains("\nbundle 6 \"bells\" at "), "{unpacked}");
+    assert!(unpacked.contains("\nbundle 5 \"pulse\" at "), "{unpacked}");
+}
+
 /// Line, id and name of what a refusal is about.
 #[test]
 fn refusals_with_their_place() {
@@ -493,7 +591,7 @@ fn refusals_with_their_place() {
     assert_eq!(
         said("node 5 \"timestamp unit\"", "node 4 \"timestamp unit\""),
         format!(
-            "  lines {four}, {five}: node 4 (timestamp unit) is there twice: the fourth and the fifth of the nodes"
+            "  lines {four}, {five}: node 4 (PLL) and node 4 (timestamp unit) have one id: the fourth and the fifth of the nodes"
         )
     );
     let bundle = line("bundle 6");
@@ -529,7 +627,10 @@ fn what_fails() {
         (&["draw", "not-there.job"], "not-there.job: "),
         (&["pack", &job], "the bytes are no text"),
         (&["unpack", &other], "no whole job: byte "),
-        (&["explain", &job], "no answer: byte "),
+        (
+            &["explain", &job],
+            "no answer, but a job: `bundles draw` makes",
+        ),
         (&["explain", &other, &job], "is not the answer to"),
         (&["svg", &job, &other], "is not the answer to"),
         (&["svg", "-", "-"], "cannot both"),

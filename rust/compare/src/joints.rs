@@ -137,6 +137,7 @@ fn count(said: Shift, truth: Truth, found: &mut Found) -> Result<(), String> {
         Shift::Exact => exact,
         Shift::Rounded => !exact,
         Shift::NotKnown => !truth.nothing || !truth.known_zero,
+        _ => false,
     };
     match right {
         true => Ok(()),

@@ -32,4 +32,5 @@ fn every_family() {
     }
     println!("10, 11, 12: told {told:?}, not told {silent:?}");
     assert!(told.iter().all(|&count| count > 20), "{told:?}");
+    assert_eq!(silent, [0; 3]);
 }

@@ -2,10 +2,12 @@
 
 use crate::board::{Board, Visits};
 use crate::place::{Item, Place, place};
+use crate::plan::Plan;
 use crate::refusal::Refusal;
 
 /// What the stage would make of a board with the largest grants.
 #[derive(Clone, Copy, Debug, Eq, PartialEq)]
+#[non_exhaustive]
 pub enum Forecast {
     /// It is drawn, and these visits are paid: grants of as many are enough for the same sheet.
     Drawn(Visits),
@@ -41,7 +43,8 @@ impl Board {
     }
 }
 
-pub(super) fn place(board: &Board) -> Place {
+/// Of a board that is drawn from a plan, if one is given.
+pub(super) fn place(board: &Board, plan: Option<&Plan>) -> Place {
     let [_, name] = Visits::NAMES;
     let setting = Item::Setting { name };
     let granted = board.grants.geometry;
@@ -53,7 +56,11 @@ pub(super) fn place(board: &Board) -> Place {
         },
         ..board.clone()
     };
-    let forecast = match same_taps.draw() {
+    let drawn = match plan {
+        Some(plan) => same_taps.draw_from(plan),
+        None => same_taps.draw(),
+    };
+    let forecast = match drawn {
         Ok(sheet) => {
             let paid = Visits::MOST.geometry - sheet.visits_left.geometry;
             format!("; with {paid} the board is drawn")

@@ -7,41 +7,6 @@ use crate::refusal::Refusal;
 
 use super::nth;
 
-impl Board {
-    pub(crate) fn node_items(&self) -> Vec<Item> {
-        let nodes = self.nodes.iter().enumerate();
-        nodes
-            .map(|(place, node)| Item::Node { place, id: node.id })
-            .collect()
-    }
-
-    pub(crate) fn port_items(&self) -> Vec<Item> {
-        let ports = self.ports.iter().enumerate();
-        let item = |(place, port): (usize, &crate::Port)| Item::Port {
-            place,
-            node: port.node,
-            id: port.id,
-        };
-        ports.map(item).collect()
-    }
-
-    pub(crate) fn edge_items(&self) -> Vec<Item> {
-        let edges = self.edges.iter().enumerate();
-        edges
-            .map(|(place, edge)| Item::Edge { place, id: edge.id })
-            .collect()
-    }
-
-    pub(crate) fn bundle_items(&self) -> Vec<Item> {
-        let bundles = self.bundles.iter().enumerate();
-        let item = |(place, bundle): (usize, &Bundle)| Item::Bundle {
-            place,
-            id: bundle.id,
-        };
-        bundles.map(item).collect()
-    }
-}
-
 /// Every record whose id an earlier one has, and every edge that bundles of one role list twice.
 pub(super) fn twice(board: &Board) -> Vec<Place> {
     let mut found = Vec::new();
@@ -56,14 +21,11 @@ pub(super) fn twice(board: &Board) -> Vec<Place> {
         for (later, item) in items.iter().enumerate() {
             if let Some(earlier) = names[..later].iter().position(|name| *name == names[later]) {
                 let said = format!(
-                    " is there twice: {} and {} of the {plural}",
+                    " have one id: {} and {} of the {plural}",
                     nth(earlier),
                     nth(later)
                 );
-                found.push(Place {
-                    also: vec![items[earlier]],
-                    ..place!(*item, said)
-                });
+                found.push(place!(items[earlier], " and ", *item, said));
             }
         }
     }

@@ -1,29 +1,25 @@
 //! The bundle at whose turn a drawing is refused, and the members that cannot be led to it.
 //!
-//! A board is drawn bundle by bundle. So it is drawn again from the stage's own plan, the two cut to
-//! the first bundles: the last of the fewest that are refused is the one.
+//! A board is drawn bundle by bundle. So it is drawn again from the plan, the two cut to the first bundles:
+//! the last of the fewest that are refused is the one.
 
 use crate::board::{Board, Visits};
 use crate::plan::Plan;
 use crate::refusal::Refusal;
 
-/// The place of the bundle at whose turn the drawing is refused with 10, 11 or 12. None of a board that
-/// is not.
-pub(crate) fn refused_turn(board: &Board) -> Option<usize> {
-    let plan = board.plan().ok()?;
+/// The place of the bundle at whose turn the drawing from a plan is refused with 10, 11 or 12. None of a
+/// board that is not.
+pub(crate) fn refused_turn(board: &Board, plan: &Plan) -> Option<usize> {
     (0..board.bundles.len()).find(|&turn| {
-        let (board, plan) = up_to(board, &plan, turn);
+        let (board, plan) = up_to(board, plan, turn);
         board.draw_from(&plan).is_err()
     })
 }
 
 /// The members of the bundle at this turn that cannot be led to it at the rail, or, where all can, to
 /// where it is planned, by their places in the bundle: each is tried alone.
-pub(super) fn not_led(board: &Board, turn: usize) -> Vec<usize> {
-    let Ok(plan) = board.plan() else {
-        return Vec::new();
-    };
-    let (board, plan) = up_to(board, &plan, turn);
+pub(super) fn not_led(board: &Board, plan: &Plan, turn: usize) -> Vec<usize> {
+    let (board, plan) = up_to(board, plan, turn);
     let members = 0..board.bundles[turn].members.len();
     let at = |x: Option<f64>| {
         let alone = members.clone().filter(|&member| {

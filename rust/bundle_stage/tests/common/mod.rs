@@ -74,6 +74,14 @@ pub fn board() -> Board {
     }
 }
 
+/// A wire of another edge, the second of the table.
+pub fn wire(board: &mut Board, id: u32, points: &[(f64, f64)]) {
+    let mut wire = board.edges[0].clone();
+    wire.id = Id::from(id);
+    wire.points = points.iter().map(|&(x, y)| at(x, y)).collect();
+    board.edges.insert(1, wire);
+}
+
 /// The reading of document 01 for 13: the largest input minimum is 2^-33, pitch and smallest output
 /// maximum are 2^20.
 pub fn split_board() -> Board {

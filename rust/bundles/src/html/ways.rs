@@ -49,11 +49,9 @@ impl Told<'_> {
         let members = self.board.edges.iter();
         let members = members.filter(|edge| self.bundles_of(edge.id).contains(&id));
         let members = members.collect::<Vec<_>>();
-        let mut lifted = BTreeSet::from([bundle_key(id)]);
-        for edge in &members {
-            lifted.extend([route_key(edge.id), tap_key(id, edge.id)]);
-            lifted.extend(self.ends(edge));
-        }
+        // A member may be in a bundle at its other end too: the way goes through that as well.
+        let mut lifted = self.lifted(&members);
+        lifted.insert(bundle_key(id));
         if let Some(bundle) = self.board.bundle(id) {
             lifted.extend(end_keys(bundle.endpoint));
         }

@@ -6,6 +6,7 @@ use std::collections::HashMap;
 
 use bundle_stage::Point;
 
+use super::rings::unring;
 use super::scene::Crossed;
 use super::spans::{Span, Way};
 use super::stroke::{Arch, Gap, Piece, Stroke};
@@ -21,6 +22,16 @@ struct Over {
     there: f64,
 }
 
+/// A piece of a stroke, by the places of both.
+#[derive(Clone, Copy)]
+pub struct Placed {
+    pub stroke: usize,
+    pub place: usize,
+    pub piece: Piece,
+}
+
+type Pairs = HashMap<(usize, usize), usize>;
+
 /// Gives the strokes their arches, and says how often each bundle and route cross on the page. With
 /// `tunnels` a line of which too little would be left between two that go over it has one gap there. A
 /// bundle and a route that are not `listed` get no arch.
@@ -28,44 +39,86 @@ pub fn bridge(
     strokes: &mut [Stroke],
     tunnels: bool,
     listed: Option<&HashMap<(usize, usize), Crossed>>,
-) -> HashMap<(usize, usize), usize> {
-    let mut found = HashMap::new();
+) -> Pairs {
+    let pieces = placed(strokes);
+    let (mut over, found) = crossed(strokes, &pieces, listed);
+    let lines = pieces.iter().map(|of| (of.piece.start, of.piece.end));
+    let lines = lines.collect::<Vec<_>>();
+    let spans = Way::BOTH.map(|way| (way, way.spans(&lines)));
+    let arches = pieces.iter().zip(&mut over).map(|(of, over)| {
+        let width = strokes[of.stroke].width;
+        narrow(&of.piece, over, &lines, width);
+        let mut arches = joined(over, of.piece.length(), width);
+        for arch in &mut arches {
+            arch.rise = rise(&of.piece, arch, &spans, width);
+        }
+        arches
+    });
+    let mut arches = arches.collect::<Vec<_>>();
+    let trunk = |of: &Over| strokes[pieces[of.under].stroke].bundle.is_some();
+    let over_trunk = |piece: usize, arch: &Arch| {
+        let mut over = over[piece].iter().filter(|of| trunk(of));
+        over.any(|of| arch.first <= of.at && of.at <= arch.last)
+    };
+    unring(&pieces, &mut arches, &spans, strokes, over_trunk);
+    for (turn, of) in pieces.iter().enumerate() {
+        gaps(strokes, &pieces, of, &over[turn], &arches[turn]);
+        // Without a rise the line goes straight on.
+        let rising = arches[turn].iter().filter(|arch| arch.rise != 0.0);
+        strokes[of.stroke].arches[of.place] = rising.copied().collect();
+    }
+    for gaps in strokes.iter_mut().flat_map(|stroke| &mut stroke.gaps) {
+        gaps.sort_by(|a, b| a.from.total_cmp(&b.from));
+        if tunnels {
+            *gaps = merged(gaps);
+        }
+    }
+    found
+}
+
+/// All pieces, those of a stroke one behind the other.
+fn placed(strokes: &[Stroke]) -> Vec<Placed> {
     let pieces = strokes.iter().enumerate();
     let pieces = pieces.flat_map(|(stroke, of)| {
         let pieces = of.pieces().enumerate();
-        pieces
-            .map(|(place, piece)| (stroke, place, piece))
-            .collect::<Vec<_>>()
+        pieces.map(move |(place, piece)| Placed {
+            stroke,
+            place,
+            piece,
+        })
     });
-    let pieces = pieces.collect::<Vec<_>>();
+    pieces.collect()
+}
+
+/// Where each piece goes over others, and how often each bundle and route cross.
+fn crossed(
+    strokes: &[Stroke],
+    pieces: &[Placed],
+    listed: Option<&HashMap<(usize, usize), Crossed>>,
+) -> (Vec<Vec<Over>>, Pairs) {
+    let mut found = HashMap::new();
     let mut over = pieces.iter().map(|_| Vec::new()).collect::<Vec<_>>();
-    for (i, (a, place, here)) in pieces.iter().enumerate() {
-        for (j, (b, other, there)) in pieces.iter().enumerate().skip(i + 1) {
-            let next = a == b && place.abs_diff(*other) < 2;
-            let same = strokes[*a].bundle.is_some() && strokes[*a].bundle == strokes[*b].bundle;
+    for (i, one) in pieces.iter().enumerate() {
+        for (j, two) in pieces.iter().enumerate().skip(i + 1) {
+            let (a, b) = (&strokes[one.stroke], &strokes[two.stroke]);
+            let next = one.stroke == two.stroke && one.place.abs_diff(two.place) < 2;
+            let same = a.bundle.is_some() && a.bundle == b.bundle;
             if next || same {
                 continue;
             }
-            let Some((at, other)) = here.crossing(there) else {
+            let Some((here, there)) = one.piece.crossing(&two.piece) else {
                 continue;
             };
-            // The routes' strokes stand first, in the scene's order.
-            let pair = match (strokes[*a].bundle, strokes[*b].bundle) {
-                (Some(trunk), None) => Some((trunk, *b)),
-                (None, Some(trunk)) => Some((trunk, *a)),
-                _ => None,
-            };
-            if let Some(pair) = pair {
+            if let Some(pair) = pair(strokes, one, two) {
                 *found.entry(pair).or_insert(0) += 1;
                 if listed.is_some_and(|listed| !listed.contains_key(&pair)) {
                     continue;
                 }
             }
-            let (a, b) = (&strokes[*a], &strokes[*b]);
-            let (place, at, reach, under, there) = if goes_over(a, here, b, there) {
-                (i, at, reach(a, b), j, other)
+            let (place, at, reach, under, there) = if goes_over(a, &one.piece, b, &two.piece) {
+                (i, here, reach(a, b), j, there)
             } else {
-                (j, other, reach(b, a), i, at)
+                (j, there, reach(b, a), i, here)
             };
             over[place].push(Over {
                 at,
@@ -75,36 +128,30 @@ pub fn bridge(
             });
         }
     }
-    let lines = pieces.iter().map(|(_, _, piece)| (piece.start, piece.end));
-    let lines = lines.collect::<Vec<_>>();
-    let spans = Way::BOTH.map(|way| (way, way.spans(&lines)));
-    for ((stroke, place, piece), over) in pieces.iter().zip(&mut over) {
-        let width = strokes[*stroke].width;
-        narrow(piece, over, &lines, width);
-        let mut arches = joined(over, piece.length(), width);
-        for arch in &mut arches {
-            arch.rise = rise(piece, arch, &spans, width);
-        }
-        for crossed in over {
-            let arch = arches
-                .iter()
-                .find(|arch| arch.first <= crossed.at && crossed.at <= arch.last);
-            let rise = arch.map_or(0.0, |arch| arch.rise);
-            let (stroke, place, under) = &pieces[crossed.under];
-            let widths = (width, strokes[*stroke].width);
-            strokes[*stroke].gaps[*place].push(gap(piece, rise, widths, under, crossed.there));
-        }
-        // Without a rise the line goes straight on.
-        arches.retain(|arch| arch.rise != 0.0);
-        strokes[*stroke].arches[*place] = arches;
+    (over, found)
+}
+
+/// A bundle and a route by their places: the routes' strokes stand first, in the scene's order.
+fn pair(strokes: &[Stroke], one: &Placed, two: &Placed) -> Option<(usize, usize)> {
+    match [one, two].map(|of| strokes[of.stroke].bundle) {
+        [Some(trunk), None] => Some((trunk, two.stroke)),
+        [None, Some(trunk)] => Some((trunk, one.stroke)),
+        _ => None,
     }
-    for gaps in strokes.iter_mut().flat_map(|stroke| &mut stroke.gaps) {
-        gaps.sort_by(|a, b| a.from.total_cmp(&b.from));
-        if tunnels {
-            *gaps = merged(gaps);
-        }
+}
+
+/// Gives the lines below a piece their gaps.
+fn gaps(strokes: &mut [Stroke], pieces: &[Placed], of: &Placed, over: &[Over], arches: &[Arch]) {
+    let width = strokes[of.stroke].width;
+    for crossed in over {
+        let mut arches = arches.iter();
+        let arch = arches.find(|arch| arch.first <= crossed.at && crossed.at <= arch.last);
+        let rise = arch.map_or(0.0, |arch| arch.rise);
+        let under = &pieces[crossed.under];
+        let widths = (width, strokes[under.stroke].width);
+        let gap = gap(&of.piece, rise, widths, &under.piece, crossed.there);
+        strokes[under.stroke].gaps[under.place].push(gap);
     }
-    found
 }
 
 /// Gaps in order, those that are too near to each other as one.

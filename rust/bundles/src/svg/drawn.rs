@@ -9,6 +9,7 @@ use super::crossings::bridge;
 use super::field::moved;
 use super::lanes;
 use super::pens::Pens;
+use super::ports;
 use super::scene::{Crossed, Port, Route, Scene, Tap, Trunk, corners};
 use super::spans::{Way, room};
 use super::stroke::{NO_END, Piece, Stroke, apart};
@@ -61,6 +62,7 @@ pub fn strokes(scene: &mut Scene, pens: &mut Pens, tunnels: bool) -> (Vec<Stroke
     }
     strokes.extend(of_trunks);
     let found = bridge(&mut strokes, tunnels, scene.crossings.as_ref());
+    ports::fit(scene, &strokes, pens);
     let miscounted = miscounted(scene, &found);
     (strokes, miscounted)
 }

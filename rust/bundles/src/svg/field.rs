@@ -2,7 +2,6 @@
 
 use bundle_stage::Point;
 
-use super::pens::Pens;
 use super::scene::{MARK, Scene, corners};
 use super::stroke::Stroke;
 
@@ -208,7 +207,7 @@ pub fn lengthen(
 }
 
 /// All that is drawn, on a page from one corner to the other.
-pub fn field(scene: &Scene, strokes: &[Stroke], pens: &Pens, page: (Point, Point)) -> Field {
+pub fn field(scene: &Scene, strokes: &[Stroke], page: (Point, Point)) -> Field {
     let mut taken = Vec::new();
     for stroke in strokes {
         let half = stroke.width / 2.0 + 0.15;
@@ -223,7 +222,7 @@ pub fn field(scene: &Scene, strokes: &[Stroke], pens: &Pens, page: (Point, Point
     let taps = scene.trunks.iter().flat_map(|trunk| &trunk.taps);
     let dots = taps.map(|tap| Rect::of(tap.at, tap.at, tap.radius + 0.1));
     let ports = scene.ports.iter();
-    let ports = ports.map(|port| Rect::of(port.low, port.high, pens.port / 2.0 + 0.1));
+    let ports = ports.map(|port| Rect::of(port.low, port.high, port.size / 2.0 + 0.1));
     let marks = scene.marks.iter();
     let marks = marks.map(|mark| Rect::of(mark.at, mark.at, MARK));
     let tried = scene.tried.iter();

@@ -69,7 +69,7 @@ impl Wishes {
 
 /// The routes' strokes come first among `strokes`, in the routes' order. No name stands where an id could.
 pub fn labels(scene: &Scene, strokes: &[Stroke], pens: &Pens, page: (Point, Point)) -> Labels {
-    let mut field = field(scene, strokes, pens, page);
+    let mut field = field(scene, strokes, page);
     let all = [
         bundle_ids(scene, pens),
         node_ids(scene),

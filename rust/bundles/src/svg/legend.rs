@@ -7,7 +7,7 @@ use bundle_stage::{Endpoint, Id, Point, Role};
 use super::labels::{pill_at, pill_size};
 use super::palette::{BLACK, WARNING, colour, mark};
 use super::paths::marked;
-use super::scene::{Route, Scene, Trunk};
+use super::scene::{Mark, Route, Scene, Trunk};
 use super::shapes::ring;
 use super::tried::dashed;
 use super::xml::{mm, wide, wide_bold, words};
@@ -251,7 +251,10 @@ fn way(scene: &Scene, place: usize, trunk: &Trunk) -> String {
         Role::Output => route.source,
     });
     let name = |at: Endpoint| format!("{}:{}", at.node, at.port);
-    let ports = ports.map(name).collect::<Vec<_>>();
+    let mut seen = BTreeSet::new();
+    // Members may share one.
+    let ports = ports.map(name).filter(|port| seen.insert(port.clone()));
+    let ports = ports.collect::<Vec<_>>();
     let more = ports.len().saturating_sub(MOST_PORTS);
     let mut named = ports[..ports.len() - more].join(", ");
     if more > 0 {
@@ -291,7 +294,7 @@ fn signs(scene: &Scene) -> Vec<Sign> {
         (
             !scene.marks.is_empty(),
             ring(5.0, 0.0, 1.4),
-            "false joint, or a route in a node",
+            scene.marks.first().map_or("", Mark::means),
         ),
         (!scene.ports.is_empty(), SQUARE.to_string(), "port"),
         (

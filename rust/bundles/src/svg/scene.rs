@@ -34,6 +34,8 @@ pub struct Port {
     /// From where to where the routes that end there are drawn: at first just there.
     pub low: Point,
     pub high: Point,
+    /// The side of its square.
+    pub size: f64,
 }
 
 #[derive(Clone)]
@@ -82,7 +84,7 @@ pub struct Crossed {
     pub places: usize,
 }
 
-/// A false joint.
+/// A false joint, or what would look like one.
 #[derive(Clone)]
 pub struct Mark {
     pub at: Point,
@@ -92,6 +94,24 @@ pub struct Mark {
 
 /// The radius of the ring around it, in millimetres.
 pub const MARK: f64 = 2.4;
+/// What a line at the port of others is called.
+const NO_JOINT: &str = "no joint";
+
+impl Mark {
+    /// Of a line that lies on the place of a port and does not end there.
+    pub fn no_joint((at, words): (Point, String)) -> Mark {
+        let name = NO_JOINT;
+        Mark { at, name, words }
+    }
+
+    pub fn means(&self) -> &'static str {
+        if self.name == NO_JOINT {
+            "no joint: a line at a port where it does not end"
+        } else {
+            "false joint, or a route in a node"
+        }
+    }
+}
 
 impl Route {
     pub fn member_of(&self, place: usize) -> bool {
@@ -199,6 +219,7 @@ impl Scene {
                 side,
                 low: at,
                 high: at,
+                size: 0.0,
             })
         };
         let ports = board.ports.iter().filter_map(port).collect::<Vec<_>>();

@@ -50,22 +50,20 @@ pub fn nodes(scene: &Scene, pens: &Pens, ink: &str) -> String {
 }
 
 /// Squares over the lines that end there.
-pub fn ports(scene: &Scene, pens: &Pens, ink: &str) -> String {
-    let half = pens.port / 2.0;
-    let mut svg = format!(
-        "<g class=\"ports\" stroke=\"{ink}\" stroke-width=\"{}\" fill=\"white\">\n",
-        mm(pens.port / 4.0)
-    );
+pub fn ports(scene: &Scene, ink: &str) -> String {
+    let mut svg = format!("<g class=\"ports\" stroke=\"{ink}\" fill=\"white\">\n");
     for port in &scene.ports {
+        let half = port.size / 2.0;
         svg.push_str(&format!(
-            "<rect class=\"port\" id=\"port-{}-{}\" x=\"{}\" y=\"{}\" width=\"{}\" height=\"{}\">\
-             <title>port {}{}</title></rect>\n",
+            "<rect class=\"port\" id=\"port-{}-{}\" x=\"{}\" y=\"{}\" width=\"{}\" height=\"{}\" \
+             stroke-width=\"{}\"><title>port {}{}</title></rect>\n",
             port.name.node,
             port.name.port,
             mm(port.low.x - half),
             mm(port.low.y - half),
-            mm(port.high.x - port.low.x + pens.port),
-            mm(port.high.y - port.low.y + pens.port),
+            mm(port.high.x - port.low.x + port.size),
+            mm(port.high.y - port.low.y + port.size),
+            mm(port.size / 4.0),
             name(port.name),
             called(scene.names.port(port.name.node, port.name.port)),
         ));
@@ -177,7 +175,7 @@ pub fn marks(scene: &Scene, width: f64) -> String {
             inside.push_str(&words(beside, size, &more, mark.name));
             taken.push(rect);
         }
-        let title = &mark.words;
+        let title = escaped(&mark.words);
         svg.push_str(&format!(
             "<g class=\"false-joint\"><title>{title}</title>\n{inside}</g>\n"
         ));

@@ -20,6 +20,8 @@ const LANE: f64 = 1.7;
 const TRUNK: f64 = 1.2;
 /// The least length of a run.
 const RUN: f64 = 1.6;
+/// Between a port and a line or an end that passes it: its square may be small.
+const PORT: f64 = 0.8;
 /// Between two places of the sheet that nothing else keeps apart.
 const PLACES: f64 = 0.02;
 
@@ -69,7 +71,7 @@ impl Needs {
             places,
         };
         let all = needs.lines(scene, lines);
-        let mut most = BTreeMap::new();
+        let mut most = needs.ports(scene, lines);
         for (turn, one) in all.iter().enumerate() {
             let beside = all[turn + 1..].iter().filter(|two| two.at > one.at);
             for two in beside.filter(|two| one.beside(two)) {
@@ -90,6 +92,26 @@ impl Needs {
             needs.apart[high].push((low, far));
         }
         needs
+    }
+
+    /// How far ports are to be from lines and ends beside them, by the numbers of their places.
+    fn ports(&self, scene: &Scene, way: Way) -> BTreeMap<(usize, usize), f64> {
+        let mut most = BTreeMap::new();
+        for port in &scene.ports {
+            let (at, along) = (way.across(port.at), way.along(port.at));
+            for (a, b) in scene.lines() {
+                let ends = [way.along(a), way.along(b)];
+                if along < ends[0].min(ends[1]) || along > ends[0].max(ends[1]) {
+                    continue;
+                }
+                let across = [a, b].map(|end| way.across(end));
+                for end in across.into_iter().filter(|end| *end != at) {
+                    let pair = [self.number(end.min(at)), self.number(end.max(at))];
+                    most.insert((pair[0], pair[1]), PORT);
+                }
+            }
+        }
+        most
     }
 
     fn number(&self, place: f64) -> usize {

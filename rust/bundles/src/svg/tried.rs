@@ -33,10 +33,10 @@ const WIDTH: f64 = 0.7;
 impl Tried {
     /// None where a number is no place.
     pub fn of(board: &Board, attempt: &Attempt) -> Option<Tried> {
-        let refused = attempt.refused();
+        let refused = &attempt.refused;
         let members = board.bundle(refused.id)?.members.iter();
         let led = members.flat_map(|member| led(board, attempt, member.edge));
-        let earlier = attempt.bundles.iter().filter(|of| of.id != refused.id);
+        let earlier = attempt.earlier.iter();
         let met = earlier.filter(|of| attempt.at.is_some_and(|at| meets(of, at)));
         let tried = Tried {
             id: refused.id,

@@ -6,6 +6,7 @@ use super::field::Rect;
 use super::lanes::NO_STEP;
 use super::paths::{flat, gaps};
 use super::pens::Pens;
+use super::ports::{ends, touched};
 use super::scene::{MARK, Port, Route, Scene, Tap, Trunk};
 use super::spans::Way;
 use super::stroke::{Piece, Stroke, apart};
@@ -14,7 +15,7 @@ use super::stroke::{Piece, Stroke, apart};
 /// rounding of the file's numbers may take.
 pub const WHITE: f64 = 0.23;
 /// What lines may be nearer than what they are drawn for, by the rounding of sums.
-const NEARLY: f64 = 0.005;
+pub const NEARLY: f64 = 0.005;
 /// Between the trunks of two bundles on one line, which would otherwise look like one.
 const IN_LINE: f64 = 1.0;
 /// What a line keeps between two that go over it.
@@ -85,6 +86,7 @@ pub fn unclear(scene: &Scene, strokes: &[Stroke], pens: &Pens) -> Option<String>
         .or_else(|| kept(scene, strokes))
         .or_else(|| in_line(scene, strokes))
         .or_else(|| touching(scene, strokes))
+        .or_else(|| touched(scene, strokes))
 }
 
 /// A tap whose dot is lost in its trunk or its route.
@@ -106,18 +108,26 @@ fn dots(scene: &Scene, pens: &Pens) -> Option<String> {
 
 /// A line of which too little is left between two that go over it.
 fn kept(scene: &Scene, strokes: &[Stroke]) -> Option<String> {
-    for (place, stroke) in strokes.iter().enumerate() {
-        for turn in 0..stroke.arches.len() {
-            let gaps = gaps(stroke, turn);
-            let short = gaps.windows(2).any(|two| two[1].from - two[0].to < KEPT)
-                || gaps.iter().any(|gap| gap.to - gap.from > TUNNEL);
-            if short {
-                let name = of_stroke(scene, place);
-                return Some(format!("{name} would fall into dashes under others"));
-            }
-        }
-    }
-    None
+    let place = strokes.iter().position(in_dashes)?;
+    let name = of_stroke(scene, place);
+    Some(format!("{name} would fall into dashes under others"))
+}
+
+fn in_dashes(stroke: &Stroke) -> bool {
+    // What is left behind the last gap so far.
+    let mut before: Option<f64> = None;
+    (0..stroke.arches.len()).any(|turn| {
+        let gaps = gaps(stroke, turn);
+        // A bend is shorter than its corner.
+        let around = gaps.first().zip(before);
+        let corner = around.is_some_and(|(gap, before)| before + gap.from < 1.3 * KEPT);
+        let length = stroke.piece(turn).length();
+        let last = gaps.last().map(|gap| length - gap.to);
+        before = last.or(before.map(|before| before + length));
+        corner
+            || gaps.windows(2).any(|two| two[1].from - two[0].to < KEPT)
+            || gaps.iter().any(|gap| gap.to - gap.from > TUNNEL)
+    })
 }
 
 /// Trunks of two bundles that lie on one line and nearly meet.
@@ -154,7 +164,7 @@ fn touching(scene: &Scene, strokes: &[Stroke]) -> Option<String> {
         let beside = beside.take_while(|b| b.rect.low.x < a.rect.high.x);
         for b in beside.filter(|b| b.owner != a.owner && b.rect.meets(&a.rect)) {
             let (distance, at) = a.white(b);
-            if distance < WHITE - NEARLY && !joined(scene, strokes, a.owner, b.owner, at) {
+            if distance < WHITE - NEARLY && !joined(scene, a.owner, b.owner, at) {
                 let names = [a.owner, b.owner].map(|owner| name(scene, owner));
                 return Some(format!("{} would touch {}", names[0], names[1]));
             }
@@ -196,7 +206,7 @@ fn inks(scene: &Scene, strokes: &[Stroke]) -> Vec<Ink> {
 }
 
 /// Whether two may touch here.
-fn joined(scene: &Scene, strokes: &[Stroke], a: Owner, b: Owner, at: Point) -> bool {
+fn joined(scene: &Scene, a: Owner, b: Owner, at: Point) -> bool {
     // A false joint of the sheet itself is shown, with a ring around it.
     if scene.marks.iter().any(|mark| apart(mark.at, at) < MARK) {
         return true;
@@ -210,10 +220,8 @@ fn joined(scene: &Scene, strokes: &[Stroke], a: Owner, b: Owner, at: Point) -> b
                 taps.is_some_and(|(a, b)| near(a, AROUND) || near(b, AROUND))
             });
             let mut ports = scene.ports.iter();
-            tapped
-                || ports.any(|port| {
-                    within(port, at, 0.5) && ends(port, &strokes[i]) && ends(port, &strokes[j])
-                })
+            let both = |port: &Port| [i, j].map(|of| ends(scene, &scene.routes[of], port.name));
+            tapped || ports.any(|port| within(port, at, 0.5) && both(port) == [true, true])
         }
         (Owner::Route(i), Owner::Trunk(place)) | (Owner::Trunk(place), Owner::Route(i)) => {
             let own = tap(&scene.trunks[place], scene.routes[i].id);
@@ -249,12 +257,6 @@ fn within(port: &Port, at: Point, more: f64) -> bool {
     point.within(&Rect::of(port.low, port.high, more))
 }
 
-fn ends(port: &Port, stroke: &Stroke) -> bool {
-    let ends = [stroke.corners.first(), stroke.corners.last()];
-    let mut ends = ends.into_iter().flatten();
-    ends.any(|end| within(port, *end, 0.02))
-}
-
 // ---- words
 
 fn name(scene: &Scene, owner: Owner) -> String {
@@ -282,4 +284,33 @@ fn of_stroke(scene: &Scene, place: usize) -> String {
 fn name_of(scene: &Scene, place: Option<usize>) -> String {
     let trunk = place.and_then(|place| scene.trunks.get(place));
     trunk.map_or(String::new(), |trunk| format!("bundle {}", trunk.id))
+}
+
+#[cfg(test)]
+mod tests {
+    use super::super::stroke::Gap;
+    use super::*;
+
+    /// A line 10 to the right, `down` and to the right again, with gaps in each part.
+    fn under(down: f64, gaps: [&[(f64, f64)]; 3]) -> bool {
+        let corners = [(0.0, 0.0), (10.0, 0.0), (10.0, down), (20.0, down)];
+        let corners = corners.map(|(x, y)| Point { x, y });
+        let mut stroke = Stroke::new(corners.to_vec(), 0.35, None);
+        for (turn, gaps) in gaps.into_iter().enumerate() {
+            stroke.gaps[turn] = gaps.iter().map(|&(from, to)| Gap { from, to }).collect();
+        }
+        in_dashes(&stroke)
+    }
+
+    #[test]
+    fn what_is_left_between_gaps() {
+        assert!(!under(5.0, [&[(1.0, 2.0), (2.6, 4.0)], &[], &[]]));
+        assert!(under(5.0, [&[(1.0, 2.0), (2.4, 4.0)], &[], &[]]));
+        assert!(under(5.0, [&[(1.0, 5.5)], &[], &[]]), "unseen for too long");
+        // Around one corner, and around two.
+        assert!(!under(5.0, [&[(9.0, 9.6)], &[(0.4, 1.0)], &[]]));
+        assert!(under(5.0, [&[(9.0, 9.8)], &[(0.2, 1.0)], &[]]));
+        assert!(!under(0.5, [&[(9.0, 9.8)], &[], &[(0.2, 1.0)]]));
+        assert!(under(0.2, [&[(9.0, 9.8)], &[], &[(0.2, 1.0)]]));
+    }
 }

@@ -104,8 +104,8 @@ impl Browser {
             "Page.navigate",
             &format!("\"url\":\"file://{}\"", path.display()),
         );
-        while self.value("document.readyState") != "complete"
-            || self.value("String(typeof ways)") != "object"
+        while self.value("document.readyState + location.pathname")
+            != format!("complete{}", path.display())
         {}
     }
 
@@ -121,22 +121,41 @@ impl Browser {
         string(&reply, "value").unwrap_or_default()
     }
 
-    /// Presses a key and lets it go; one letter is typed.
+    /// Presses a key and lets it go, `Shift+Tab` and the like with another held; one letter is typed.
     pub fn key(&mut self, key: &str) {
+        let held = key.split_once('+').filter(|(held, _)| !held.is_empty());
+        let (held, key) = held.unwrap_or(("", key));
         let code = match key {
             "Enter" => ",\"text\":\"\\r\",\"windowsVirtualKeyCode\":13",
             "Tab" => ",\"windowsVirtualKeyCode\":9",
             "Escape" => ",\"windowsVirtualKeyCode\":27",
+            " " => ",\"windowsVirtualKeyCode\":32",
             _ => "",
         };
+        let modifiers = match held {
+            "Alt" => 1,
+            "Control" => 2,
+            "Meta" => 4,
+            "Shift" => 8,
+            _ => 0,
+        };
         let text = match key.chars().count() {
-            1 => format!(",\"text\":\"{key}\""),
+            1 if held.is_empty() => format!(",\"text\":\"{key}\""),
             _ => String::new(),
         };
         for kind in ["keyDown", "keyUp"] {
-            let words = format!("\"type\":\"{kind}\",\"key\":\"{key}\"{code}{text}");
+            let words = format!(
+                "\"type\":\"{kind}\",\"key\":\"{key}\",\"modifiers\":{modifiers}{code}{text}"
+            );
             self.ask("Input.dispatchKeyEvent", &words);
         }
+    }
+
+    /// What is to be seen of a part of the page from its left upper corner, as the bytes of a picture.
+    pub fn picture(&mut self, (width, height): (f64, f64)) -> String {
+        let clip = format!("\"x\":0,\"y\":0,\"width\":{width},\"height\":{height},\"scale\":1");
+        let reply = self.ask("Page.captureScreenshot", &format!("\"clip\":{{{clip}}}"));
+        string(&reply, "data").expect("a picture")
     }
 
     pub fn mouse(&mut self, kind: &str, (x, y): (f64, f64), more: &str) {

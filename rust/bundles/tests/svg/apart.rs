@@ -1,19 +1,27 @@
 //! What a reader could take for a joint, looked for in a picture that is read back.
 
-use bundle_stage::{DrawnBundle, Id, Segment, Sheet};
+use bundle_stage::{Board, DrawnBundle, Id, Segment, Sheet};
 
+use super::lengths::lengths;
+use super::ports::{Square, ports, squares};
 use super::read::{Element, Line, beside, lines, nearest};
+use super::rings::rings;
 use super::{checked, of_class};
 
 /// A route or a bundle as it is drawn.
 pub struct Drawn {
     /// Each line as five beside each other, from edge to edge.
     pub lines: Vec<Line>,
+    /// Its paths one after the other, as they are written.
+    pub paths: Vec<String>,
     /// Its taps by middle and radius, in the bundle's order.
-    taps: Vec<((f64, f64), f64)>,
+    pub taps: Vec<Dot>,
     /// Half the width of its lines.
-    half: f64,
+    pub half: f64,
 }
+
+/// The middle of a tap's dot, and its radius.
+pub type Dot = ((f64, f64), f64);
 
 /// All of a class, in order. A white path is the mark on a trunk, and lies on a line that is there.
 pub fn drawn(elements: &[Element], class: &str) -> Vec<Drawn> {
@@ -33,6 +41,10 @@ pub fn drawn(elements: &[Element], class: &str) -> Vec<Drawn> {
         let half = width.unwrap_or(all).parse::<f64>().expect("a width") / 2.0;
         Drawn {
             half,
+            paths: paths
+                .clone()
+                .map(|path| path.value("d").to_string())
+                .collect(),
             lines: paths
                 .flat_map(|path| lines(path.value("d")))
                 .flat_map(|line| [-1.0, -0.5, 0.0, 0.5, 1.0].map(|part| beside(line, part * half)))
@@ -48,94 +60,133 @@ pub fn drawn(elements: &[Element], class: &str) -> Vec<Drawn> {
 }
 
 /// What is white between two lines must be wider, in millimetres.
-const SEEN: f64 = 0.2;
+pub const SEEN: f64 = 0.2;
+
+/// A picture that is read back, and the sheet that it shows.
+pub struct Shown<'a> {
+    pub sheet: &'a Sheet,
+    pub routes: Vec<Drawn>,
+    pub bundles: Vec<Drawn>,
+    pub ports: Vec<Square>,
+}
+
+impl Shown<'_> {
+    /// The dot of an edge on a bundle, by the bundle's place.
+    fn tap_of(&self, edge: Id, bundle: usize) -> Option<Dot> {
+        let taps = self.sheet.bundles.get(bundle)?.taps.iter();
+        let mut taps = taps.zip(&self.bundles[bundle].taps);
+        taps.find(|(tap, _)| tap.edge == edge).map(|(_, dot)| *dot)
+    }
+
+    /// Whether two routes may touch here: at a port at which both end, or a bundle that both are in.
+    fn common(&self, routes: [usize; 2], at: (f64, f64)) -> bool {
+        let [one, two] = routes.map(|place| self.sheet.routes[place].id);
+        let mut ports = self.ports.iter();
+        ports.any(|port| port.near(at, 0.5) && port.is_of(one) && port.is_of(two))
+            || (0..self.bundles.len()).any(|bundle| {
+                let both = self.tap_of(one, bundle).zip(self.tap_of(two, bundle));
+                both.is_some_and(|(a, b)| within(at, a, 0.3) || within(at, b, 0.3))
+            })
+    }
+}
+
+fn within(at: (f64, f64), (middle, radius): Dot, more: f64) -> bool {
+    (at.0 - middle.0).hypot(at.1 - middle.1) <= radius + more
+}
+
+/// Fails where two are too near to each other.
+pub fn apart(what: &str, (distance, at): (f64, (f64, f64)), least: f64) -> Result<(), String> {
+    if distance <= least {
+        return Err(format!("{what}: {distance} at {at:?}"));
+    }
+    Ok(())
+}
+
+/// What a reader could take for a joint: lines of two routes that touch, but where both end at one
+/// port or one bundle; a route that touches a bundle elsewhere than at its tap, or another one's dot;
+/// two bundles that touch, or look like one; a line at a port where it does not end. And what is not
+/// seen as a joint that is one, or as one line.
+pub fn false_joint(picture: &str, board: &Board, sheet: &Sheet) -> Result<(), String> {
+    let elements = checked(picture);
+    let shown = Shown {
+        sheet,
+        routes: drawn(&elements, "route"),
+        bundles: drawn(&elements, "bundle"),
+        ports: squares(&elements, board),
+    };
+    for place in 0..shown.routes.len() {
+        routes(&shown, place)?;
+        bundles_of(&shown, place)?;
+    }
+    for place in 0..shown.bundles.len() {
+        dots(&shown, place)?;
+        bundles(&shown, place)?;
+    }
+    ports(&shown)?;
+    lengths(&shown)?;
+    rings(&shown)
+}
+
+/// A route beside those after it.
+fn routes(shown: &Shown<'_>, place: usize) -> Result<(), String> {
+    for (other, with) in shown.routes.iter().enumerate().skip(place + 1) {
+        let common = |at| shown.common([place, other], at);
+        let near = nearest(&shown.routes[place].lines, &with.lines, common);
+        apart("routes", near, SEEN)?;
+    }
+    Ok(())
+}
+
+/// A route beside all bundles and their dots.
+fn bundles_of(shown: &Shown<'_>, route: usize) -> Result<(), String> {
+    let id = shown.sheet.routes[route].id;
+    let lines = &shown.routes[route].lines;
+    for (place, bundle) in shown.bundles.iter().enumerate() {
+        let tap = shown.tap_of(id, place);
+        let own = |at| tap.is_some_and(|tap| within(at, tap, 0.5));
+        let near = nearest(lines, &bundle.lines, own);
+        apart("a route on a bundle", near, SEEN)?;
+        let same = |at| tap.is_some_and(|tap| within(at, (tap.0, 0.05), 0.0));
+        let others = bundle.taps.iter().filter(|(middle, _)| !same(*middle));
+        for (middle, radius) in others {
+            let near = nearest(lines, &[[*middle; 2]], |_| false);
+            apart("a route on a dot", near, SEEN + radius)?;
+        }
+    }
+    Ok(())
+}
+
+/// Every dot is seen beside its trunk.
+fn dots(shown: &Shown<'_>, place: usize) -> Result<(), String> {
+    let bundle = &shown.bundles[place];
+    for (turn, (middle, radius)) in bundle.taps.iter().enumerate() {
+        let held = sheet_held(&shown.sheet.bundles[place], turn);
+        let most = if held { bundle.half } else { 0.0 };
+        if *radius < most + 0.1 {
+            return Err(format!("no dot to be seen at {middle:?}"));
+        }
+    }
+    Ok(())
+}
+
+/// A bundle beside the others and their dots.
+fn bundles(shown: &Shown<'_>, place: usize) -> Result<(), String> {
+    let bundle = &shown.bundles[place];
+    let others = shown.bundles.iter().enumerate();
+    for (_, other) in others.filter(|(other, _)| *other != place) {
+        let near = nearest(&bundle.lines, &other.lines, |_| false);
+        apart("bundles", near, SEEN)?;
+        for (middle, radius) in &bundle.taps {
+            let near = nearest(&other.lines, &[[*middle; 2]], |_| false);
+            apart("a bundle on a dot", near, SEEN + radius)?;
+        }
+    }
+    Ok(())
+}
 
 /// Whether a tap lies on its collector.
 fn sheet_held(bundle: &DrawnBundle, turn: usize) -> bool {
     let at = bundle.taps[turn].point;
     let Segment { start, end } = bundle.collector;
     at.x == start.x && start.y.min(end.y) <= at.y && at.y <= start.y.max(end.y)
-}
-
-/// What a reader could take for a joint: lines of two routes that touch, but where both end at one
-/// port or one bundle; a route that touches a bundle elsewhere than at its tap, or another one's dot;
-/// two bundles that touch.
-pub fn false_joint(picture: &str, sheet: &Sheet) -> Result<(), String> {
-    let elements = checked(picture);
-    let (routes, bundles) = (drawn(&elements, "route"), drawn(&elements, "bundle"));
-    let ports = of_class(&elements, "port").into_iter().map(Element::rect);
-    let ports = ports.collect::<Vec<_>>();
-    let at_port = |at: (f64, f64), more: f64| {
-        ports.iter().any(|[low, high]| {
-            let inside = |at: f64, low: f64, high: f64| low - more <= at && at <= high + more;
-            inside(at.0, low.0, high.0) && inside(at.1, low.1, high.1)
-        })
-    };
-    let apart = |what: &str, (distance, at): (f64, (f64, f64)), least: f64| {
-        if distance <= least {
-            return Err(format!("{what}: {distance} at {at:?}"));
-        }
-        Ok(())
-    };
-    let tap_of = |edge: Id, bundle: usize| {
-        let taps = sheet.bundles.get(bundle)?.taps.iter();
-        let tap = taps.zip(&bundles[bundle].taps);
-        tap.into_iter()
-            .find(|(tap, _)| tap.edge == edge)
-            .map(|(_, dot)| *dot)
-    };
-    let within = |at: (f64, f64), (middle, radius): ((f64, f64), f64), more: f64| {
-        (at.0 - middle.0).hypot(at.1 - middle.1) <= radius + more
-    };
-    for (place, route) in routes.iter().enumerate() {
-        let id = sheet.routes[place].id;
-        for (other, with) in routes.iter().enumerate().skip(place + 1) {
-            let common = |at: (f64, f64)| {
-                at_port(at, 0.5)
-                    || (0..bundles.len()).any(|bundle| {
-                        let both = tap_of(id, bundle).zip(tap_of(sheet.routes[other].id, bundle));
-                        both.is_some_and(|(a, b)| within(at, a, 0.3) || within(at, b, 0.3))
-                    })
-            };
-            let near = nearest(&route.lines, &with.lines, common);
-            apart("routes", near, SEEN)?;
-        }
-        for (place, bundle) in bundles.iter().enumerate() {
-            let tap = tap_of(id, place);
-            let own = |at: (f64, f64)| tap.is_some_and(|tap| within(at, tap, 0.5));
-            let near = nearest(&route.lines, &bundle.lines, own);
-            apart("a route on a bundle", near, SEEN)?;
-            let same = |at: &(f64, f64)| tap.is_some_and(|tap| within(*at, (tap.0, 0.05), 0.0));
-            let others = bundle.taps.iter().filter(|(middle, _)| !same(middle));
-            for (middle, radius) in others {
-                let near = nearest(&route.lines, &[[*middle; 2]], |_| false);
-                apart("a route on a dot", near, SEEN + radius)?;
-            }
-        }
-    }
-    for (place, bundle) in bundles.iter().enumerate() {
-        for (turn, (middle, radius)) in bundle.taps.iter().enumerate() {
-            let most = if sheet_held(&sheet.bundles[place], turn) {
-                bundle.half
-            } else {
-                0.0
-            };
-            if *radius < most + 0.1 {
-                return Err(format!("no dot to be seen at {middle:?}"));
-            }
-        }
-        for (_, other) in bundles
-            .iter()
-            .enumerate()
-            .filter(|(other, _)| *other != place)
-        {
-            let near = nearest(&bundle.lines, &other.lines, |_| false);
-            apart("bundles", near, SEEN)?;
-            for (middle, radius) in &bundle.taps {
-                let near = nearest(&other.lines, &[[*middle; 2]], |_| false);
-                apart("a bundle on a dot", near, SEEN + radius)?;
-            }
-        }
-    }
-    Ok(())
 }

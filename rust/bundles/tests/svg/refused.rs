@@ -105,7 +105,7 @@ fn as_tried(tried: &[&Element], attempt: &Attempt) {
         .iter()
         .filter(|of| !of.value("stroke-dasharray").is_empty());
     let heavy = dashed.filter(|of| of.value("stroke-width") == "0.7");
-    let refused = attempt.refused();
+    let refused = &attempt.refused;
     let drawn = heavy
         .flat_map(|of| lines(of.value("d")))
         .collect::<Vec<_>>();
@@ -192,7 +192,7 @@ fn a_spine_that_would_cross_a_wire() {
     assert_eq!(refusal, Refusal::ForbiddenContact);
     let picture = shown(&board, refusal, "11");
     for words in [
-        "The spine of bundle 3 would touch the route of edge 81, or come too close to it.",
+        "The spine of bundle 3 would cross the route of edge 81, at (320, 260).",
         "B3: refused, not drawn",
         "refused bundle as it was tried, on no sheet",
     ] {
@@ -203,7 +203,7 @@ fn a_spine_that_would_cross_a_wire() {
         .expect("a text")
         .names;
     let named = bundles::svg::svg_refused(&board, refusal, &names, "11");
-    assert!(named.contains("The spine of bundle 3 (oscillator) would touch the route of edge 81"));
+    assert!(named.contains("The spine of bundle 3 (oscillator) would cross the route of edge 81"));
     assert!(named.contains("B3 oscillator: refused, not drawn"));
 }
 
@@ -220,7 +220,7 @@ fn a_node_in_the_way() {
     let (board, refusal) = clock_board(|board| board.nodes.push(node));
     assert_eq!(refusal, Refusal::RouteThroughNode);
     let picture = shown(&board, refusal, "12");
-    let words = "The route of edge 11, a member of bundle 1, would run through node 9.";
+    let words = "The route of edge 11, a member of bundle 1, would run through node 9, from";
     assert!(picture.contains(words));
     ring_at(&picture, &board, 391.0, 70.0);
 }
@@ -236,7 +236,7 @@ fn a_member_that_cannot_be_led() {
     });
     assert_eq!(refusal, Refusal::TapUnreachable);
     let picture = shown(&board, refusal, "10");
-    let words = "The route of edge 51, a member of bundle 5, cannot be led to its tap.";
+    let words = "The route of edge 51, a member of bundle 5, cannot be led to its tap at";
     assert!(picture.contains(words));
     // Its tap is the first of three, 10 from the middle one.
     ring_at(&picture, &board, 120.0, 410.0);
