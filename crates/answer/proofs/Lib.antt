@@ -1,3 +1,4 @@
 pub mod Back
 pub mod Stores
 pub mod WholeAnswer
+pub mod FlatRows

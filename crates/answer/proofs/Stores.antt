@@ -1,7 +1,7 @@
 -- Runs of stores one behind the other, and the lengths of what is written. Assumes nothing.
 use Rattle.std.specs.Int.{from_bool}
 use Rattle.std.specs.Prelude.{ℕ, suc, ◌+◌, ◌*◌, ◌-◌, ◌/◌, ◌%◌, ◌≤◌, ◌<◌, ◌≡◌, refl, Bool, true, false, List, [], ◌∷◌, ◌++◌, map, Float, take, drop, get_or, set}
-use Rattle.std.proofs.Common.{sym, ◌∙◌, length-drop, drop_of_length-le, get_or-take, length-take-le, take-take, take-add, drop_at}
+use Rattle.std.proofs.Common.{sym, ◌∙◌, length-drop, drop_of_length-le, get_or-take, length-take-le}
 use Rattle.std.proofs.Math.Path.{ap}
 use native.Mathlib.Omega.{arith}
 use Rattle.std.proofs.Math.Numerals.{add-one}
@@ -18,10 +18,10 @@ use Rattle.board.specs.declared.DrawnBundle.{DrawnBundle}
 use Rattle.board.specs.declared.DrawnTap.{DrawnTap}
 use Rattle.board.specs.Board.{taps_of}
 use Rattle.geometry.specs.Points.{point_at, points_from}
-use Rattle.route.specs.Window.{points_next, points_none, points_length}
+use Rattle.route.specs.Window.{points_length}
 use Rattle.route.specs.Slots.{routes_from}
 use Rattle.answer.specs.Answer.{Line, Trunk, Sheet, all_bytes, point_bytes, segment_bytes, spot_bytes, line_bytes, tap_bytes, mark, trunk_head, trunk_bytes, counts_bytes, head_bytes, body_bytes, answer_bytes, notice_bytes, lines_of, trunk_of}
-use Rattle.answer.specs.SheetTables.{drawn_bytes, Windows}
+use Rattle.answer.specs.SheetTables.{drawn_bytes}
 pub use Rattle.answer.specs.Widths.{spot_length, tap_length}
 
 -- ---- stores
@@ -170,10 +170,6 @@ module _ {A : Type 0} (f : A → List ℕ) (l : List A) (n i : ℕ) (d : A) (fit
   unfolding all_bytes
   written o o' at h e = rw (e, rest_next h, sets_append)
 
-  pub written_as : (w : ℕ) (o o' : List ℕ) (at : ℕ) → length (f (get_or l i d)) ≡ w → i < n → o' ≡ sets o at (f (get_or l i d))
-      → sets o' (at + w) (all_bytes f (drop (i + 1) (take n l))) ≡ sets o at (all_bytes f (drop i (take n l)))
-  written_as w o o' at q h e = ap (λ (z : ℕ). sets o' (at + z) (all_bytes f (drop (i + 1) (take n l)))) (sym q) ∙ written o o' at h e
-
   -- what is left gets shorter by it
   pub shorter : i < n → length (all_bytes f (drop i (take n l))) ≡ length (f (get_or l i d)) + length (all_bytes f (drop (i + 1) (take n l)))
   unfolding all_bytes
@@ -203,65 +199,59 @@ pub records_done : {A : Type 0} (f : A → List ℕ) (l : List A) (i : ℕ) → 
 unfolding all_bytes
 records_done f l i h = rw (drop_of_length-le l h)
 
--- points of a slice
-pub points_turn : (s : List Float) (i end at : ℕ) (o o' : List ℕ) (p : Point) → i < end → p ≡ point_at s i → o' ≡ sets o at (point_bytes p)
-    → sets o' (at + 16) (all_bytes point_bytes (points_from s (i + 1) (end - (i + 1)))) ≡ sets o at (all_bytes point_bytes (points_from s i (end - i)))
-unfolding all_bytes
-points_turn s i end at o o' p h q e =
-    rw (points_next s i end h, ← q, e)
-    (sets_then o at (at + 16) (point_bytes p) (all_bytes point_bytes (points_from s (i + 1) (end - (i + 1)))) (ap (λ (z : ℕ). at + z) (sym (point_length p))))
+-- points of a route
+pub points_turn : (s : List Float) (start n i at : ℕ) (o o' : List ℕ) (p : Point) → i < n → p ≡ point_at s (start + i) → o' ≡ sets o at (point_bytes p)
+    → sets o' (at + 16) (all_bytes point_bytes (points_from s (start + (i + 1)) (n - (i + 1)))) ≡ sets o at (all_bytes point_bytes (points_from s (start + i) (n - i)))
+unfolding all_bytes points_from
+points_turn s start n i at o o' p h q e =
+    let a : n - i ≡ suc (n - (i + 1)) = omega arith in
+    let b : start + (i + 1) ≡ suc (start + i) = omega arith in
+    rw (a, b, ← q, e)
+    (sets_then o at (at + 16) (point_bytes p) (all_bytes point_bytes (points_from s (suc (start + i)) (n - (i + 1)))) (ap (λ (z : ℕ). at + z) (sym (point_length p))))
 
-pub points_done : (s : List Float) (i end at : ℕ) (o : List ℕ) → end ≤ i → sets o at (all_bytes point_bytes (points_from s i (end - i))) ≡ o
-unfolding all_bytes
-points_done s i end at o h = rw (points_none s i end h)
+pub points_done : (s : List Float) (start n i at : ℕ) (o : List ℕ) → n ≤ i → sets o at (all_bytes point_bytes (points_from s (start + i) (n - i))) ≡ o
+unfolding all_bytes points_from
+points_done s start n i at o h = let a : n - i ≡ 0 = omega arith in rw a
 
--- what stands past the end of a table does not matter
+-- windows of as many points
+pub as_many : (s t : List Float) (i j n m : ℕ) → points_from s i n ≡ points_from t j m → n ≡ m
+as_many s t i j n m e = sym (points_length s i n) ∙ ap length e ∙ points_length t j m
+
+-- what a read past a list's end gives
 abbrev pub some_edge : Edge
 some_edge = record { id = 0; source = 0; target = 0; first = 0; count = 0 }
 
 -- routes of the slots
-module _ (rows : List Edge) (slots : List Float) (counts : List ℕ) (n i : ℕ) (d : Edge) (fr : n ≤ length rows) (fc : n ≤ length counts) where
+module _ (rows : List Edge) (slots : List Float) (counts : List ℕ) (i : ℕ) (d : Edge) (within : i < length rows) (counted : length rows ≤ length counts) where
   abbrev rest : ℕ → List Line
-  rest j = lines_of (drop j (take n rows)) (routes_from slots j (drop j counts))
+  rest j = lines_of (drop j rows) (routes_from slots j (drop j counts))
 
   abbrev here : Line
   here = record { id = (get_or rows i d).id; points = points_from slots (slot_points * i) (get_or counts i 0) }
 
-  lines_next : i < n → rest i ≡ here ∷ rest (i + 1)
+  lines_next : rest i ≡ here ∷ rest (i + 1)
   unfolding lines_of routes_from
-  lines_next h =
+  lines_next =
       let k : i < length counts = omega arith in
-      rw (rest_next (λ (e : Edge). []) rows n i d fr h, drop-cons counts i 0 k, add-one i)
+      rw (drop-cons rows i d within, drop-cons counts i 0 k, add-one i)
 
-  pub line_turn : (o o' : List ℕ) (at next : ℕ) → next ≡ at + (6 + 16 * get_or counts i 0) → i < n → o' ≡ sets o at (line_bytes here)
+  here_length : length (line_bytes here) ≡ 6 + 16 * get_or counts i 0
+  here_length = line_length here ∙ ap (λ (z : ℕ). 6 + 16 * z) (points_length slots (slot_points * i) (get_or counts i 0))
+
+  pub line_turn : (o o' : List ℕ) (at next : ℕ) → next ≡ at + (6 + 16 * get_or counts i 0) → o' ≡ sets o at (line_bytes here)
       → sets o' next (all_bytes line_bytes (rest (i + 1))) ≡ sets o at (all_bytes line_bytes (rest i))
   unfolding all_bytes
-  line_turn o o' at next q h e =
-      rw (lines_next h, e)
-      (sets_then o at next (line_bytes here) (all_bytes line_bytes (rest (i + 1)))
-      (q ∙ ap (λ (z : ℕ). at + z) (sym (line_length here ∙ ap (λ (z : ℕ). 6 + 16 * z) (points_length slots (slot_points * i) (get_or counts i 0))))))
+  line_turn o o' at next q e =
+      rw (lines_next, e)
+      (sets_then o at next (line_bytes here) (all_bytes line_bytes (rest (i + 1))) (q ∙ ap (λ (z : ℕ). at + z) (sym here_length)))
 
-  pub line_room : i < n → length (all_bytes line_bytes (rest i)) ≡ 6 + 16 * get_or counts i 0 + length (all_bytes line_bytes (rest (i + 1)))
+  pub line_room : length (all_bytes line_bytes (rest i)) ≡ 6 + 16 * get_or counts i 0 + length (all_bytes line_bytes (rest (i + 1)))
   unfolding all_bytes
-  line_room h =
-      let q = line_length here in
-      let p = points_length slots (slot_points * i) (get_or counts i 0) in
-      rw (lines_next h, length-append, q, p)
+  line_room = let q = here_length in rw (lines_next, length-append, q)
 
-pub lines_done : (rows : List Edge) (slots : List Float) (counts : List ℕ) (n i : ℕ) → n ≤ length rows → n ≤ i → all_bytes line_bytes (lines_of (drop i (take n rows)) (routes_from slots i (drop i counts))) ≡ []
+pub lines_done : (rows : List Edge) (slots : List Float) (counts : List ℕ) (i : ℕ) → length rows ≤ i → all_bytes line_bytes (lines_of (drop i rows) (routes_from slots i (drop i counts))) ≡ []
 unfolding lines_of all_bytes
-lines_done rows slots counts n i f h =
-    let k : length (take n rows) ≤ i = rw (length-take-le n rows f) h in
-    rw (drop_of_length-le (take n rows) k)
-
--- a window of the rows that count
-window_of : {A : Type 0} (l : List A) (f c : ℕ) → f ≤ length l → drop f (take (f + c) l) ≡ take c (drop f l)
-window_of l f c h = ap (λ m. drop f m) (take-add f c l) ∙ drop_at (take f l) (take c (drop f l)) f (length-take-le f l h)
-
-pub same_taps : (rows : List DrawnTap) (n : ℕ) (b : DrawnBundle) → n ≤ length rows → b.first + b.count ≤ n → drop b.first (take (b.first + b.count) rows) ≡ taps_of (take n rows) b
-same_taps rows n b fits inside =
-    let k : b.first ≤ length (take n rows) = rw (length-take-le n rows fits) (omega arith) in
-    ap (λ m. drop b.first m) (sym (take-take (b.first + b.count) n rows inside)) ∙ window_of (take n rows) b.first b.count k
+lines_done rows slots counts i h = rw (drop_of_length-le rows h)
 
 -- a bundle with its taps
 module _ (taps : List DrawnTap) (b : DrawnBundle) (inside : b.first + b.count ≤ length taps) where
@@ -366,9 +356,3 @@ module _ (taps : List DrawnTap) (rows : List DrawnBundle) (i : ℕ) (d : DrawnBu
   bundle_written o o' at next q e =
       rw (e, bundle_next)
       (sets_then o at next (drawn_bytes taps (get_or rows i d)) (all_bytes (drawn_bytes taps) (drop (i + 1) rows)) (q ∙ ap (λ (z : ℕ). at + z) (sym (drawn_length taps (get_or rows i d) inside))))
-
--- the windows, in the rows that count
-pub windows_taken : (n m : ℕ) (rows : List DrawnBundle) (taps : List DrawnTap) → n ≤ length rows → m ≤ length taps → Windows n rows m → Windows (length (take n rows)) (take n rows) (length (take m taps))
-windows_taken n m rows taps fn fm w i d h =
-    let k : i < n = omega (arith, length-take-le n rows fn) in
-    rw (length-take-le m taps fm, get_or-take n rows i d k) (w i d k)

@@ -1,17 +1,15 @@
--- The whole answer from the tables: its parts, their lengths, and the writes joined. Assumes nothing.
-use Rattle.std.specs.Prelude.{ℕ, suc, ◌+◌, ◌*◌, ◌-◌, ◌≤◌, ◌≡◌, refl, List, [], ◌∷◌, ◌++◌, map, Float, take}
+-- The whole answer from the rows: its parts, their lengths, and the writes joined. Assumes nothing.
+use Rattle.std.specs.Prelude.{ℕ, suc, ◌+◌, ◌*◌, ◌-◌, ◌≤◌, ◌≡◌, refl, List, [], ◌∷◌, ◌++◌, Float}
 use Rattle.std.proofs.Common.{ap, ◌∙◌, arith, length-append}
 use Rattle.std.proofs.Math.ListN.{length, length-map}
 use Rattle.std.proofs.lemmas.List.Edits.{sets}
-use Rattle.std.proofs.Math.Seq.{length-take-le}
 use Rattle.wire.specs.Bytes.{bytes}
 use Rattle.wire.proofs.BytesLaws.{bytes_length}
 use Rattle.route.specs.Slots.{routes_of, routes_length}
 use Rattle.board.specs.declared.Edge.{Edge}
-use Rattle.board.specs.Tables.{Nodes}
-use Rattle.board.specs.Tables.{Edges}
-use Rattle.board.specs.Tables.{DrawnBundles}
-use Rattle.board.specs.Tables.{DrawnTaps}
+use Rattle.board.specs.declared.PlacedNode.{PlacedNode}
+use Rattle.board.specs.declared.DrawnBundle.{DrawnBundle}
+use Rattle.board.specs.declared.DrawnTap.{DrawnTap}
 use Rattle.geometry.specs.Points.{Route}
 use Rattle.answer.specs.declared.Frame.{Frame}
 use Rattle.answer.specs.Answer.{all_bytes, spot_bytes, spot_of, line_bytes, lines_of, trunk_bytes, trunk_of, head_bytes, body_bytes, answer_bytes}
@@ -34,38 +32,37 @@ lines_count [] rs h = refl
 lines_count (e ∷ es) [] h = absurd (omega arith)
 lines_count (e ∷ es) (r ∷ rs) h = ap suc (lines_count es rs (omega arith))
 
-module _ (f : Frame) (n : Nodes) (e : Edges) (slots : List Float) (counts : List ℕ) (b : DrawnBundles) (t : DrawnTaps)
-    (fn : n.count ≤ length n.rows) (fe : e.count ≤ length e.rows) (fb : b.count ≤ length b.rows) (fc : e.count ≤ length counts) where
+module _ (f : Frame) (n : List PlacedNode) (e : List Edge) (slots : List Float) (counts : List ℕ) (b : List DrawnBundle) (t : List DrawnTap) where
   abbrev pub heads : List ℕ
-  heads = head_bytes f.tap_visits f.geometry_visits f.width f.height n.count e.count b.count
+  heads = head_bytes f.tap_visits f.geometry_visits f.width f.height (length n) (length e) (length b)
 
   abbrev pub nodes_part : List ℕ
-  nodes_part = all_bytes node_bytes (take n.count n.rows)
+  nodes_part = all_bytes node_bytes n
 
   abbrev pub routes_part : List ℕ
-  routes_part = all_bytes line_bytes (lines_of (take e.count e.rows) (routes_of slots counts))
+  routes_part = all_bytes line_bytes (lines_of e (routes_of slots counts))
 
   abbrev pub bundles_part : List ℕ
-  bundles_part = all_bytes (drawn_bytes (take t.count t.rows)) (take b.count b.rows)
+  bundles_part = all_bytes (drawn_bytes t) b
 
-  body_is : body_bytes (sheet_of f n e slots counts b t) ≡ heads ++ (nodes_part ++ (routes_part ++ bundles_part))
-  unfolding body_bytes
-  body_is =
-      let cn : length (map spot_of (take n.count n.rows)) ≡ n.count = length-map (take n.count n.rows) spot_of ∙ length-take-le n.count n.rows fn in
-      let ce : length (lines_of (take e.count e.rows) (routes_of slots counts)) ≡ e.count =
-      lines_count (take e.count e.rows) (routes_of slots counts) (rw (length-take-le e.count e.rows fe, routes_length slots 0 counts) fc) ∙ length-take-le e.count e.rows fe in
-      let cb : length (map (trunk_of (take t.count t.rows)) (take b.count b.rows)) ≡ b.count = length-map (take b.count b.rows) (trunk_of (take t.count t.rows)) ∙ length-take-le b.count b.rows fb in
-      rw (cn, ce, cb, all_map spot_bytes spot_of (take n.count n.rows), all_map trunk_bytes (trunk_of (take t.count t.rows)) (take b.count b.rows))
+  pub nodes_size : length nodes_part ≡ 20 * length n
+  nodes_size = all_length node_bytes 20 n (λ a. spot_length (spot_of a))
 
-  pub answer_is : answer_bytes (sheet_of f n e slots counts b t) ≡ bytes 4 (length (heads ++ (nodes_part ++ (routes_part ++ bundles_part)))) ++ (heads ++ (nodes_part ++ (routes_part ++ bundles_part)))
-  unfolding answer_bytes
-  answer_is = rw body_is
+  module _ (counted : length e ≤ length counts) where
+    body_is : body_bytes (sheet_of f n e slots counts b t) ≡ heads ++ (nodes_part ++ (routes_part ++ bundles_part))
+    unfolding body_bytes
+    body_is =
+        let cn = length-map n spot_of in
+        let ce = lines_count e (routes_of slots counts) (rw (routes_length slots 0 counts) counted) in
+        let cb = length-map b (trunk_of t) in
+        rw (cn, ce, cb, all_map spot_bytes spot_of n, all_map trunk_bytes (trunk_of t) b)
 
-  pub nodes_size : length nodes_part ≡ 20 * n.count
-  nodes_size = all_length node_bytes 20 (take n.count n.rows) (λ a. spot_length (spot_of a)) ∙ ap (λ (z : ℕ). 20 * z) (length-take-le n.count n.rows fn)
+    pub answer_is : answer_bytes (sheet_of f n e slots counts b t) ≡ bytes 4 (length (heads ++ (nodes_part ++ (routes_part ++ bundles_part)))) ++ (heads ++ (nodes_part ++ (routes_part ++ bundles_part)))
+    unfolding answer_bytes
+    answer_is = rw body_is
 
-  pub answer_size : length (answer_bytes (sheet_of f n e slots counts b t)) ≡ 36 + 20 * n.count + length routes_part + length bundles_part
-  answer_size =
-      let h = head_length f.tap_visits f.geometry_visits f.width f.height n.count e.count b.count in
-      let k = nodes_size in
-      ap length answer_is ∙ simp (length-append, bytes_length) (omega arith)
+    pub answer_size : length (answer_bytes (sheet_of f n e slots counts b t)) ≡ 36 + 20 * length n + length routes_part + length bundles_part
+    answer_size =
+        let h = head_length f.tap_visits f.geometry_visits f.width f.height (length n) (length e) (length b) in
+        let k = nodes_size in
+        ap length answer_is ∙ simp (length-append, bytes_length) (omega arith)

@@ -6,10 +6,10 @@
 
 #![tactic(auto)]
 
-ghost use Rattle.std.specs.Prelude.{◌≡◌, [], ◌∷◌, ◌++◌, map, ◌≤◌, take, None};
-ghost use Rattle.limits.specs.Limits.{max_bundles};
+ghost use Rattle.std.specs.Prelude.{◌≡◌, [], ◌∷◌, ◌++◌, map, None};
 ghost use Rattle.geometry.specs.Lent.{route_lent};
 ghost use Rattle.geometry.specs.Points.{runs};
+ghost use Rattle.plan.specs.MemberColumns.{edges_of};
 ghost use Rattle.drawing.specs.Build.{tap_of};
 ghost use Rattle.drawing.specs.Check.{due, walk, clash, run_tests, over_routes, route_tests, drawn_tests, pair_tests, prior_tests};
 ghost use Rattle.checks.specs.Purse.{told};
@@ -17,7 +17,7 @@ ghost use Rattle.checks.specs.CheckRows.{drawn_of, Tabled};
 ghost use Rattle.route.specs.Lent.{routes_lent};
 ghost use Rattle.checks.specs.Lent.{chosen_lent, drawn_lent, RowsLent, taps_lent};
 
-use board::{DrawnBundle, DrawnBundles};
+use board::DrawnBundle;
 use checks::{BundleTaps, ChosenRoutes, MemberTaps, Rules};
 use contact_test::Bus;
 use drawing::GeometryVisits;
@@ -109,7 +109,8 @@ fn bus_on_routes(
         line: contact_test::trunk_of(segment),
     };
     let own = TappedBus { bus, taps };
-    // By index, the route's number: the mask, the slot and the tap go by it.
+    // By index, the route's number: the mask, the slot and the tap go by it. A loop of its own beside that of
+    // paid_checks: other steps, another law.
     for e in 0..chosen.routes.counts.len() {
         if looks::is_chosen(chosen, e) {
             bus_on_route(
@@ -135,7 +136,7 @@ pub fn drawn_on_routes(
     chosen: ChosenRoutes,
     visits: &mut GeometryVisits,
 ) -> Result<(), Refusal>
-    requires { Tabled d.first d.count table.edges.now table.taps.now }
+    requires { Tabled d.first d.count (edges_of table.members.now) table.taps.now }
     ensures { told result visits.new.0 ≡ walk 11 (drawn_tests rules.options rules.permits_crossings (drawn_lent table.entry d) (chosen_lent chosen.entry) (routes_lent chosen.entry.routes)) visits.old.0 }
 {
     let own = BundleTaps {
@@ -173,6 +174,7 @@ fn drawn_on_drawn(
 }
 
 // An earlier bundle against the changed routes, then against the new bundle.
+#[tactic(auto, using(checks::proofs::TestSteps::then_on, checks::proofs::TestSteps::then_off), unfolding(drawing::specs::Check::pair_tests))]
 fn verify_prior(
     rules: Rules,
     new: DrawnBundle,
@@ -181,7 +183,7 @@ fn verify_prior(
     changed: ChosenRoutes,
     visits: &mut GeometryVisits,
 ) -> Result<(), Refusal>
-    requires { Tabled prior.first prior.count table.edges.now table.taps.now }
+    requires { Tabled prior.first prior.count (edges_of table.members.now) table.taps.now }
     ensures { told result visits.new.0 ≡ walk 11 (drawn_tests rules.options rules.permits_crossings (drawn_lent table.entry prior) (chosen_lent changed.entry) (routes_lent changed.entry.routes) ++ pair_tests rules.options rules.permits_crossings (drawn_lent table.entry new) (drawn_lent table.entry prior)) visits.old.0 }
 {
     drawn_on_routes(rules, prior, table, changed, visits)?;
@@ -189,19 +191,20 @@ fn verify_prior(
 }
 
 // Each earlier bundle in turn.
+#[tactic(auto, using(checks::proofs::TestSteps::tabled_at, checks::proofs::TestSteps::prior_on, checks::proofs::TestSteps::prior_off, checks::proofs::TestSteps::prior_end))]
 pub fn verify_priors(
     rules: Rules,
     new: DrawnBundle,
-    priors: DrawnBundles,
+    priors: &[DrawnBundle],
     table: MemberTaps,
     changed: ChosenRoutes,
     visits: &mut GeometryVisits,
 ) -> Result<(), Refusal>
-    requires { (priors.count ≤ max_bundles) × RowsLent table (take priors.count priors.rows) }
-    ensures { told result visits.new.0 ≡ walk 11 (prior_tests rules.options rules.permits_crossings (drawn_lent table.entry new) (chosen_lent changed.entry) (map (drawn_lent table.entry) (take priors.count priors.rows)) (routes_lent changed.entry.routes)) visits.old.0 }
+    requires { RowsLent table priors.now }
+    ensures { told result visits.new.0 ≡ walk 11 (prior_tests rules.options rules.permits_crossings (drawn_lent table.entry new) (chosen_lent changed.entry) (map (drawn_lent table.entry) priors.now) (routes_lent changed.entry.routes)) visits.old.0 }
 {
-    for i in 0..priors.count {
-        verify_prior(rules, new, priors.rows[i], table, changed, visits)?;
+    for &prior in priors {
+        verify_prior(rules, new, prior, table, changed, visits)?;
     }
     Ok(())
 }

@@ -17,7 +17,7 @@ use Rattle.board.specs.Board.{Board, rail_depth, bundle_pitch}
 use Rattle.plan.specs.Depths.{endpoint_of, members_in, pitch_of}
 use Rattle.drawing.specs.Build.{pt, seg, TapOn, Drawn, trunk_taps, lowest, highest, center, rail_taps, rail_low, rail_high, counts_interior, drawn_as, drawn_inside, rail_corner, railed, inside_or, build}
 use Rattle.checks.specs.CheckRows.{taps_from, drawn_of}
-use Rattle.checks.specs.MemberSlices.{members_from, tapped_in, interior_at, rail_point, Placed, drawn_row, inside_with, corner_with, railed_with, Seen}
+use Rattle.checks.specs.MemberSlices.{members_from, tapped_in, interior_at, rail_point, Placed, drawn_row, inside_with, corner_with, railed_with, Row, Seen}
 use Rattle.bundle_geometry.proofs.Taps.{lowest_any, highest_any, all_any, trunk_any, center_any, rail_listed, rail_low_any, rail_high_any}
 
 abbrev drawn_by : Options → Bundle → Segment → Segment → List TapOn → Drawn
@@ -42,6 +42,16 @@ inside_of b u x ts = refl
 railed_of : (b : Board) (u : Bundle) → railed b u ≡ railed_by b.options u (endpoint_of b u) (taps_by b.options u (endpoint_of b u) (members_in b u))
 unfolding railed rail_corner drawn_as counts_interior railed_by
 railed_of b u = refl
+
+-- ---- the row of a bundle stands for it
+
+pub inside_row : (o : Options) (u : Bundle) (end : Point) (x : Float) (ts : List TapOn) → Row u (inside_with o u end x ts)
+unfolding inside_with drawn_row
+inside_row o u end x ts = record { id = refl; first = refl; count = refl }
+
+pub railed_row : (o : Options) (u : Bundle) (end : Point) (ts : List TapOn) → Row u (railed_with o u end ts)
+unfolding railed_with drawn_row
+railed_row o u end ts = record { id = refl; first = refl; count = refl }
 
 module _ (edges lanes : List ℕ) (t : List Float) (o : Options) (u : Bundle) (end : Point) where
   abbrev listed : List TapOn

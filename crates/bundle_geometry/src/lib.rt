@@ -11,6 +11,7 @@ ghost use Rattle.std.specs.Prelude.{◌≡◌, [], ◌+◌, ◌*◌, ◌≤◌, 
 ghost use Rattle.geometry.specs.Lent.{route_lent};
 ghost use Rattle.route.specs.Slots.{routes_of};
 ghost use Rattle.plan.specs.Depths.{number};
+ghost use Rattle.plan.specs.MemberColumns.{edges_of, lanes_of};
 ghost use Rattle.std.specs.Float.{binary64};
 ghost use Rattle.std.specs.Float.Ieee.{le, add, sub, div};
 ghost use Rattle.binary64.specs.Order.{magnitude};
@@ -22,8 +23,8 @@ ghost use Rattle.route.specs.Lent.{routes_lent};
 ghost use Rattle.checks.specs.LentRows.{taps_in};
 ghost use Rattle.checks.specs.MemberSlices.{members_from, Placed, Untouched, Known, rail_point, tapped_in, interior_at, Row, drawn_row, inside_with, railed_with, corner_with, Draws};
 
-use board::{Bundle, DrawnBundle, Options};
-use checks::{BundleRows, MemberRows};
+use board::{Bundle, DrawnBundle, Member, Options};
+use checks::BundleRows;
 use geometry::{Point, Role, RouteView, Segment};
 use plan::Bound;
 use route::PresentRoutes;
@@ -33,6 +34,14 @@ use route::PresentRoutes;
 pub struct Reach {
     pub low: f64,
     pub high: f64,
+}
+
+// A bundle that is to be drawn, and where its port stands.
+#[derive(Clone, Copy)]
+struct PlacedBundle {
+    options: Options,
+    bundle: Bundle,
+    end: Point,
 }
 
 // ---- build_interior_geometry
@@ -62,12 +71,12 @@ fn trunk_taps(
     taps: &mut [f64],
 ) -> Option<()>
     requires tapped { 2 * (members.first + members.count) ≤ length taps.old }
-    requires known { Known members.table.edges.now members.first members.count (length present.counts.now) }
-    ensures told { tapped_in (is_some result) members.entry.table.edges.now taps.new members.entry.first members.entry.count ≡ trunk_taps role pitch x (members_from members.entry.table.edges.now [] members.entry.first members.entry.count) (routes_lent present.entry) }
+    requires known { Known (edges_of members.rows.now) members.first members.count (length present.counts.now) }
+    ensures told { tapped_in (is_some result) (edges_of members.entry.rows.now) taps.new members.entry.first members.entry.count ≡ trunk_taps role pitch x (members_from (edges_of members.entry.rows.now) [] members.entry.first members.entry.count) (routes_lent present.entry) }
     ensures kept { Untouched taps.old taps.new members.entry.first members.entry.count }
 {
     for i in 0..members.count {
-        let e = members.table.edges[members.first + i];
+        let e = members.rows[members.first + i].edge;
         let route = route_slots::slot_of(present, e);
         let (k, p) = trunk_tap(role, pitch, x, route)?;
         route_views::put_point(&mut taps[..], members.first + i, p);
@@ -129,15 +138,8 @@ fn counts_interior(
 
 // The row of a bundle drawn with these taps, whose collector stands at the corner's x and whose spine
 // goes from end to the corner.
-fn drawn_with(
-    o: Options,
-    u: Bundle,
-    end: Point,
-    corner: Point,
-    reach: Reach,
-    taps: RouteView,
-) -> DrawnBundle
-    ensures { result ≡ drawn_row o u (seg (pt corner.x reach.low) (pt corner.x reach.high)) (seg end corner) (taps_in taps.entry) }
+fn drawn_with(b: PlacedBundle, corner: Point, reach: Reach, taps: RouteView) -> DrawnBundle
+    ensures { result ≡ drawn_row b.options b.bundle (seg (pt corner.x reach.low) (pt corner.x reach.high)) (seg b.end corner) (taps_in taps.entry) }
 {
     let low = Point {
         x: corner.x,
@@ -152,30 +154,30 @@ fn drawn_with(
         end: high,
     };
     let spine = Segment {
-        start: end,
+        start: b.end,
         end: corner,
     };
-    let depth = board::boundary_bundle_rail_depth(o);
-    let pitch = board::pitch_of_bundle(o, u);
+    let depth = board::boundary_bundle_rail_depth(b.options);
+    let pitch = board::pitch_of_bundle(b.options, b.bundle);
     let interior = counts_interior(depth, pitch, collector, spine, taps);
     DrawnBundle {
-        id: u.id,
+        id: b.bundle.id,
         interior,
         collector,
         spine,
-        first: u.first,
-        count: u.count,
+        first: b.bundle.first,
+        count: b.bundle.count,
     }
 }
 
 // With taps at the planned x.
 #[tactic(auto, unfolding(checks::specs::MemberSlices::inside_with))]
-fn build_inside(o: Options, end: Point, u: Bundle, x: f64, taps: RouteView) -> DrawnBundle
-    ensures { result ≡ inside_with o u end x (taps_in taps.entry) }
+fn build_inside(b: PlacedBundle, x: f64, taps: RouteView) -> DrawnBundle
+    ensures { result ≡ inside_with b.options b.bundle b.end x (taps_in taps.entry) }
 {
-    let reach = tap_reach(end.y, taps);
-    let corner = Point { x, y: end.y };
-    drawn_with(o, u, end, corner, reach, taps)
+    let reach = tap_reach(b.end.y, taps);
+    let corner = Point { x, y: b.end.y };
+    drawn_with(b, corner, reach, taps)
 }
 
 // ---- at the rail
@@ -187,14 +189,14 @@ fn half_of(lane: u32) -> f64
 }
 
 // The middle of a bundle's lanes.
-#[tactic(auto, using(crate::proofs::Taps::center_none, crate::proofs::Taps::center_some))]
+#[tactic(auto, using(crate::proofs::Taps::center_none, crate::proofs::Taps::center_some, plan::proofs::MemberColumns::lane_there))]
 fn middle_lane(members: BundleRows) -> f64
-    ensures { result ≡ center (members_from [] members.entry.table.lanes.now members.entry.first members.entry.count) }
+    ensures { result ≡ center (members_from [] (lanes_of members.entry.rows.now) members.entry.first members.entry.count) }
 {
     if members.count == 0 {
         return half_of(0);
     }
-    half_of(members.table.lanes[members.first + members.count - 1])
+    half_of(members.rows[members.first + members.count - 1].tap_lane)
 }
 
 fn rail_tap(end: Point, middle: f64, pitch: f64, lane: u32) -> Point
@@ -209,11 +211,11 @@ fn rail_tap(end: Point, middle: f64, pitch: f64, lane: u32) -> Point
 // Each member's tap on the rail.
 fn rail_taps(end: Point, middle: f64, pitch: f64, members: BundleRows, taps: &mut [f64])
     requires { 2 * (members.first + members.count) ≤ length taps.old }
-    ensures placed { Placed taps.new members.entry.first members.entry.count (λ k. rail_point end middle pitch (get_or members.entry.table.lanes.now (members.entry.first + k) 0)) }
+    ensures placed { Placed taps.new members.entry.first members.entry.count (λ k. rail_point end middle pitch (get_or (lanes_of members.entry.rows.now) (members.entry.first + k) 0)) }
     ensures kept { Untouched taps.old taps.new members.entry.first members.entry.count }
 {
     for i in 0..members.count {
-        let p = rail_tap(end, middle, pitch, members.table.lanes[members.first + i]);
+        let p = rail_tap(end, middle, pitch, members.rows[members.first + i].tap_lane);
         route_views::put_point(&mut taps[..], members.first + i, p);
     }
 }
@@ -235,23 +237,17 @@ fn rail_reach(y: f64, taps: RouteView) -> Reach
 
 // A bundle drawn at the rail, its taps written.
 #[tactic(auto, unfolding(checks::specs::MemberSlices::railed_with))]
-fn build_rail(
-    o: Options,
-    end: Point,
-    u: Bundle,
-    members: BundleRows,
-    taps: &mut [f64],
-) -> DrawnBundle
+fn build_rail(b: PlacedBundle, members: BundleRows, taps: &mut [f64]) -> DrawnBundle
     requires { 2 * (members.first + members.count) ≤ length taps.old }
-    ensures row { result ≡ railed_with o u end (taps_from [] taps.new members.entry.first members.entry.count) }
-    ensures placed { Placed taps.new members.entry.first members.entry.count (λ k. rail_point (corner_with o u end) (center (members_from [] members.entry.table.lanes.now members.entry.first members.entry.count)) (bundle_pitch o u) (get_or members.entry.table.lanes.now (members.entry.first + k) 0)) }
+    ensures row { result ≡ railed_with b.options b.bundle b.end (taps_from [] taps.new members.entry.first members.entry.count) }
+    ensures placed { Placed taps.new members.entry.first members.entry.count (λ k. rail_point (corner_with b.options b.bundle b.end) (center (members_from [] (lanes_of members.entry.rows.now) members.entry.first members.entry.count)) (bundle_pitch b.options b.bundle) (get_or (lanes_of members.entry.rows.now) (members.entry.first + k) 0)) }
     ensures kept { Untouched taps.old taps.new members.entry.first members.entry.count }
 {
-    let depth = board::boundary_bundle_rail_depth(o);
-    let pitch = board::pitch_of_bundle(o, u);
-    let role = u.role;
-    let x = plan_numbers::inward(role, end.x, depth);
-    let corner = Point { x, y: end.y };
+    let depth = board::boundary_bundle_rail_depth(b.options);
+    let pitch = board::pitch_of_bundle(b.options, b.bundle);
+    let role = b.bundle.role;
+    let x = plan_numbers::inward(role, b.end.x, depth);
+    let corner = Point { x, y: b.end.y };
     let middle = middle_lane(members);
     rail_taps(corner, middle, pitch, members, &mut taps[..]);
     let written = RouteView {
@@ -260,7 +256,7 @@ fn build_rail(
         count: members.count,
     };
     let reach = rail_reach(corner.y, written);
-    drawn_with(o, u, end, corner, reach, written)
+    drawn_with(b, corner, reach, written)
 }
 
 // ---- build_geometry
@@ -272,23 +268,28 @@ pub fn build_geometry(
     end: Point,
     u: Bundle,
     planned: Bound,
-    table: MemberRows,
+    table: &[Member],
     present: PresentRoutes,
     taps: &mut [f64],
 ) -> DrawnBundle
-    requires tabled { Tabled u.first u.count table.edges.now taps.old × (u.first + u.count ≤ length table.lanes.now) }
-    requires known { Known table.edges.now u.first u.count (length present.counts.now) }
-    ensures drawn { Draws o u end (members_from table.entry.edges.now table.entry.lanes.now u.first u.count) (planned_x planned) (routes_lent present.entry) (drawn_of table.entry.edges.now taps.new result) }
+    requires tabled { Tabled u.first u.count (edges_of table.now) taps.old }
+    requires known { Known (edges_of table.now) u.first u.count (length present.counts.now) }
+    ensures drawn { Draws o u end (members_from (edges_of table.now) (lanes_of table.now) u.first u.count) (planned_x planned) (routes_lent present.entry) (drawn_of (edges_of table.now) taps.new result) }
     ensures row { Row u result }
     ensures kept { Untouched taps.old taps.new u.first u.count }
 {
+    let b = PlacedBundle {
+        options: o,
+        bundle: u,
+        end,
+    };
     let members = BundleRows {
-        table,
+        rows: table,
         first: u.first,
         count: u.count,
     };
     match planned {
-        Bound::None => build_rail(o, end, u, members, &mut taps[..]),
+        Bound::None => build_rail(b, members, &mut taps[..]),
         Bound::At(x) => {
             let pitch = board::pitch_of_bundle(o, u);
             let role = u.role;
@@ -298,9 +299,9 @@ pub fn build_geometry(
                     start: u.first,
                     count: u.count,
                 };
-                return build_inside(o, end, u, x, written);
+                return build_inside(b, x, written);
             }
-            build_rail(o, end, u, members, &mut taps[..])
+            build_rail(b, members, &mut taps[..])
         }
     }
 }

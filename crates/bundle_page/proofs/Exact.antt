@@ -1,5 +1,5 @@
 -- Each printed number reads back to the drawn one, as an exact fraction; and the page's length. Assumes nothing.
-use Rattle.std.specs.Prelude.{◌≡◌, ℕ, ◌+◌, ◌*◌, ◌≤◌, List, pos, Float, length, take}
+use Rattle.std.specs.Prelude.{◌≡◌, ℕ, ◌+◌, ◌*◌, ◌≤◌, List, pos, Float, length}
 use Rattle.std.proofs.Common.{sym, ap, ◌∙◌, mul_right_comm, arith}
 use Rattle.std.specs.Float.Ieee.Positive.{den}
 use Rattle.limits.specs.Limits.{max_bundles, id_columns, page_room}
@@ -9,10 +9,9 @@ use Rattle.binary64.specs.Integers.{by_parts}
 use Rattle.binary64.proofs.Fraction.{cross_plus, cross_less, value_plus, value_less, value_den}
 use Rattle.binary64.specs.ExactOnGrid.{At}
 use Rattle.board.specs.declared.DrawnBundle.{DrawnBundle}
-use Rattle.board.specs.Tables.{Nodes}
-use Rattle.board.specs.Tables.{Edges}
-use Rattle.board.specs.Tables.{DrawnBundles}
-use Rattle.board.specs.Tables.{DrawnTaps}
+use Rattle.board.specs.declared.PlacedNode.{PlacedNode}
+use Rattle.board.specs.declared.Edge.{Edge}
+use Rattle.board.specs.declared.DrawnTap.{DrawnTap}
 use Rattle.answer.specs.declared.Frame.{Frame}
 use Rattle.answer.specs.Answer.{Sheet, trunk_of}
 use Rattle.answer.specs.SheetTables.{sheet_of}
@@ -67,8 +66,8 @@ answer_page_length w s = all_length (trunk_line w) (66 + w) s.bundles (λ t. lin
 pub page_at_most : (s : Sheet) → length s.bundles ≤ max_bundles → length (answer_page id_columns s) ≤ page_room
 page_at_most s h = omega (arith, answer_page_length id_columns s)
 
--- ---- what is written from the table of bundles is the page of the answer that is written from the same tables
-pub page_of_tables : (w : ℕ) (f : Frame) (n : Nodes) (e : Edges) (slots : List Float) (counts : List ℕ) (b : DrawnBundles) (t : DrawnTaps)
-    → page_bytes w (take b.count b.rows) ≡ answer_page w (sheet_of f n e slots counts b t)
+-- ---- what is written from the rows of the bundles is the page of the answer that is written from the same rows
+pub page_of_tables : (w : ℕ) (f : Frame) (n : List PlacedNode) (e : List Edge) (slots : List Float) (counts : List ℕ) (b : List DrawnBundle) (t : List DrawnTap)
+    → page_bytes w b ≡ answer_page w (sheet_of f n e slots counts b t)
 unfolding bundle_line
-page_of_tables w f n e slots counts b t = sym (all_map (trunk_line w) (trunk_of (take t.count t.rows)) (take b.count b.rows))
+page_of_tables w f n e slots counts b t = sym (all_map (trunk_line w) (trunk_of t) b)

@@ -11,8 +11,8 @@ ghost use Rattle.search_calls.specs.Entry.{collector_bounds_fit, Replied, Untouc
 ghost use Rattle.search_calls.specs.Lent.{search_call, search_call_says, promotion_call, promotion_call_says};
 
 use limits::{ENTRY_WORK, LARGEST_LIST, MOST_KEPT, PROMOTION_SCRATCH, SEARCH_SCRATCH};
-use search::{Bounds, MemberRoutes, Sought, TapVisits};
-use search_calls::{Call, SearchAnswer};
+use search::{Bounds, Sought, TapVisits};
+use search_calls::{Call, Mark, SearchAnswer};
 
 // xs, candidates and scratch are the entries' parameters for C, handed on once: a struct of them would be
 // made there and taken apart here.
@@ -32,20 +32,14 @@ pub fn search_checked<'a>(
     let room = (LARGEST_LIST <= xs.len())
         & (SEARCH_SCRATCH <= candidates.len())
         & (SEARCH_SCRATCH <= scratch.len());
-    let accepted = search_refusals::is_bounds(bounds);
-    let refused = search_refusals::refusal_of(room, call, accepted);
-    if let Err(refusal) = refused {
-        return search_replies::refuse(u8::from(refusal), call.granted);
-    }
-    // As in promotion_checked: that the routes are views is known only here, after the refusals.
-    let routes = MemberRoutes {
-        points: call.routes.points,
-        starts: call.routes.starts,
-        counts: call.routes.counts,
+    let fit = search_refusals::is_bounds(bounds);
+    let (routes, role) = match search_refusals::accepted(room, call, fit) {
+        Ok(accepted) => accepted,
+        Err(refusal) => return search_replies::refuse(u8::from(refusal), call.granted),
     };
     let sought = Sought {
         routes,
-        role: search_refusals::role_from(call.role),
+        role,
         pitch: call.pitch,
         bounds,
     };
@@ -82,28 +76,17 @@ pub fn promotion_checked<'a>(
     let room = (MOST_KEPT <= xs.len())
         & (PROMOTION_SCRATCH <= candidates.len())
         & (PROMOTION_SCRATCH <= scratch.len());
-    let accepted = is_collector_bounds(bounds);
-    let refused = search_refusals::refusal_of(room, call, accepted);
-    if let Err(refusal) = refused {
-        return search_replies::refuse(u8::from(refusal), call.granted);
-    }
-    let Some(b) = bounds else {
-        return SearchAnswer {
-            number: 0,
-            mark: 3,
-            left: call.granted,
-            count: 0,
-            x: 0.0,
-        };
+    let fit = is_collector_bounds(bounds);
+    let (routes, role) = match search_refusals::accepted(room, call, fit) {
+        Ok(accepted) => accepted,
+        Err(refusal) => return search_replies::refuse(u8::from(refusal), call.granted),
     };
-    let routes = MemberRoutes {
-        points: call.routes.points,
-        starts: call.routes.starts,
-        counts: call.routes.counts,
+    let Some(b) = bounds else {
+        return search_replies::reply(u8::from(Mark::Absent), call.granted, 0, candidates, xs);
     };
     let sought = Sought {
         routes,
-        role: search_refusals::role_from(call.role),
+        role,
         pitch: call.pitch,
         bounds: b,
     };

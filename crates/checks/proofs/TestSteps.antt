@@ -1,15 +1,15 @@
 -- The tests of a check one after the other: run after run, tap after tap, route after route, bundle after bundle, node after node.
 -- Assumes nothing.
 use Prim.Native.Nat.{ℕ, zero, suc, ◌+◌, ◌*◌, ◌-◌, ◌≤◌, ◌<◌}
-use Rattle.std.specs.Prelude.{◌≡◌, refl, Bool, false, cond, length, get_or, take, drop, Float, Option, Some, None}
+use Rattle.std.specs.Prelude.{◌≡◌, refl, Bool, false, cond, length, get_or, drop, Float, Option, Some, None}
 use Rattle.std.proofs.Math.Path.{sym, ap}
-use Rattle.std.proofs.Common.{◌∙◌, add-one, drop_of_length-le, get_or-take, length-take-le}
+use Rattle.std.proofs.Common.{◌∙◌, add-one, drop_of_length-le}
 use mathlib.Core.List.{List, [], ◌∷◌, ◌++◌, map}
 use Rattle.std.proofs.Math.Bool.{true}
 use native.Mathlib.Omega.{arith}
 use Rattle.std.proofs.Math.Seq.{drop-cons}
 use borrow.Author.Tests.{eq-eqb, ne_eqb}
-use Rattle.plan.proofs.TableReads.{null_node, part_cons, part_none, rest_cons, rest_none}
+use Rattle.plan.proofs.TableReads.{null_node, rest_cons, rest_none}
 use Rattle.limits.specs.Limits.{slot_points}
 use Rattle.geometry.specs.declared.Point.{Point}
 use Rattle.geometry.specs.declared.Segment.{Segment}
@@ -181,33 +181,30 @@ module _ (er : ℕ) (f : ℕ → Route → List Test) (chosen : ℕ → Bool) (s
 
 -- ---- bundle after bundle
 
-pub tabled_at : (l : List DrawnBundle) (n i : ℕ) (d : DrawnBundle) (edges : List ℕ) (taps : List Float) → AllTabled (take n l) edges taps → i < n → n ≤ length l → Tabled (get_or l i d).first (get_or l i d).count edges taps
-tabled_at l n i d edges taps t h k =
-    let b : i < length (take n l) = rw length-take-le (omega arith) in
-    let e : get_or (take n l) i d ≡ get_or l i d = get_or-take n l i d h in
-    rw e at (every_at (λ x. Tabled x.first x.count edges taps) (take n l) d t i b)
+pub tabled_at : (ds : List DrawnBundle) (i : ℕ) (d : DrawnBundle) (edges : List ℕ) (taps : List Float) → AllTabled ds edges taps → i < length ds → Tabled (get_or ds i d).first (get_or ds i d).count edges taps
+tabled_at ds i d edges taps t h = every_at (λ x. Tabled x.first x.count edges taps) ds d t i h
 
-module _ (o : Options) (allow : Bool) (new : DrawnBundle) (changed : ℕ → Bool) (edges : List ℕ) (taps : List Float) (rs : List Route) (l : List DrawnBundle) (n : ℕ) where
+module _ (o : Options) (allow : Bool) (new : DrawnBundle) (changed : ℕ → Bool) (edges : List ℕ) (taps : List Float) (rs : List Route) (ds : List DrawnBundle) where
   abbrev pub priors_at : ℕ → List Test
-  priors_at i = prior_tests o allow (drawn_of edges taps new) changed (map (drawn_of edges taps) (drop i (take n l))) rs
+  priors_at i = prior_tests o allow (drawn_of edges taps new) changed (map (drawn_of edges taps) (drop i ds)) rs
 
   abbrev pub one_at : DrawnBundle → List Test
   one_at d = drawn_tests o allow (drawn_of edges taps d) changed rs ++ pair_tests o allow (drawn_of edges taps new) (drawn_of edges taps d)
 
-  prior_next : (i : ℕ) (d : DrawnBundle) → i < n → n ≤ length l → priors_at i ≡ one_at (get_or l i d) ++ priors_at (i + 1)
+  prior_next : (i : ℕ) (d : DrawnBundle) → i < length ds → priors_at i ≡ one_at (get_or ds i d) ++ priors_at (i + 1)
   unfolding prior_tests
-  prior_next i d h k = rw (part_cons l n i d h k)
+  prior_next i d h = rw (rest_cons ds i d h)
 
-  module _ (i : ℕ) (d : DrawnBundle) (k m : ℕ) (h : i < n) (q : n ≤ length l) where
-    pub prior_on : clean m ≡ walk 11 (one_at (get_or l i d)) k → walk 11 (priors_at (i + 1)) m ≡ walk 11 (priors_at i) k
-    prior_on w = then_on 11 (one_at (get_or l i d)) (priors_at (i + 1)) k m w ∙ sym (ap (λ (t : List Test). walk 11 t k) (prior_next i d h q))
+  module _ (i : ℕ) (d : DrawnBundle) (k m : ℕ) (h : i < length ds) where
+    pub prior_on : clean m ≡ walk 11 (one_at (get_or ds i d)) k → walk 11 (priors_at (i + 1)) m ≡ walk 11 (priors_at i) k
+    prior_on w = then_on 11 (one_at (get_or ds i d)) (priors_at (i + 1)) k m w ∙ sym (ap (λ (t : List Test). walk 11 t k) (prior_next i d h))
 
-    pub prior_off : (r : ℕ) → failed r m ≡ walk 11 (one_at (get_or l i d)) k → failed r m ≡ walk 11 (priors_at i) k
-    prior_off r w = then_off 11 (one_at (get_or l i d)) (priors_at (i + 1)) k m r w ∙ sym (ap (λ (t : List Test). walk 11 t k) (prior_next i d h q))
+    pub prior_off : (r : ℕ) → failed r m ≡ walk 11 (one_at (get_or ds i d)) k → failed r m ≡ walk 11 (priors_at i) k
+    prior_off r w = then_off 11 (one_at (get_or ds i d)) (priors_at (i + 1)) k m r w ∙ sym (ap (λ (t : List Test). walk 11 t k) (prior_next i d h))
 
-  pub prior_end : (i k : ℕ) → n ≤ i → n ≤ length l → clean k ≡ walk 11 (priors_at i) k
+  pub prior_end : (i k : ℕ) → length ds ≤ i → clean k ≡ walk 11 (priors_at i) k
   unfolding prior_tests walk
-  prior_end i k h m = rw (part_none l n i h m)
+  prior_end i k h = rw (rest_none ds i h)
 
 -- ---- node after node, and then the tests that are left
 

@@ -2,6 +2,7 @@
 -- Assumes nothing.
 use Rattle.std.specs.Prelude.{ℕ, List, Bool, option_copied}
 use Rattle.board.specs.declared.DrawnBundle.{DrawnBundle}
+use Rattle.plan.specs.MemberColumns.{edges_of}
 use Rattle.drawing.specs.Build.{TapOn, Drawn}
 use Rattle.checks.specs.declared.ChosenRoutes.{ChosenRoutes}
 use Rattle.checks.specs.declared.MemberTaps.{MemberTaps}
@@ -14,12 +15,12 @@ chosen_lent c = chosen_by (option_copied c.mask)
 
 -- the bundle that a row stands for
 abbrev pub drawn_lent : MemberTaps → DrawnBundle → Drawn
-drawn_lent t d = drawn_of t.edges.now t.taps.now d
+drawn_lent t d = drawn_of (edges_of t.members.now) t.taps.now d
 
 -- the members of the rows are in the table
 abbrev pub RowsLent : MemberTaps → List DrawnBundle → Type 0
-RowsLent t ds = AllTabled ds t.edges.now t.taps.now
+RowsLent t ds = AllTabled ds (edges_of t.members.now) t.taps.now
 
 -- a bundle's taps
 abbrev pub taps_lent : BundleTaps → List TapOn
-taps_lent b = taps_from b.table.edges.now b.table.taps.now b.first b.count
+taps_lent b = taps_from (edges_of b.table.members.now) b.table.taps.now b.first b.count

@@ -3,6 +3,7 @@
 use Rattle.std.specs.Prelude.{List, []}
 use Rattle.board.specs.declared.Member.{Member}
 use Rattle.geometry.specs.declared.RouteView.{RouteView}
+use Rattle.plan.specs.MemberColumns.{edges_of, lanes_of}
 use Rattle.drawing.specs.Build.{TapOn}
 use Rattle.checks.specs.declared.BundleRows.{BundleRows}
 use Rattle.checks.specs.CheckRows.{taps_from}
@@ -10,7 +11,7 @@ use Rattle.checks.specs.MemberSlices.{members_from}
 
 -- a bundle's members
 abbrev pub rows_lent : BundleRows → List Member
-rows_lent m = members_from m.table.edges.now m.table.lanes.now m.first m.count
+rows_lent m = members_from (edges_of m.rows.now) (lanes_of m.rows.now) m.first m.count
 
 -- the taps at a view's points, whose edges are not asked for
 abbrev pub taps_in : RouteView → List TapOn

@@ -29,14 +29,9 @@ pub fn common_horizontal_collector_xs<'a>(
     ensures { Lists result xs.new (length xs.old) (common_xs sought.entry.role sought.entry.bounds (sought_lent sought.entry) granted.0) }
 {
     let keep = scratch.len() - xs.len();
-    let g = search_lists::gather(sought, granted, xs, scratch);
-    match g {
-        Listed::Spent => Listed::Spent,
-        Listed::All(n, left) => {
-            let k = search_lists::put_in_order(sought.role, &mut xs[..n], &mut scratch[keep..]);
-            search_lists::try_candidates(&scratch[..], sought.routes.counts, left, &mut xs[..k])
-        }
-    }
+    let (n, left) = search_lists::gather(sought, granted, xs, scratch)?;
+    let k = search_lists::put_in_order(sought.role, &mut xs[..n], &mut scratch[keep..]);
+    search_lists::try_candidates(&scratch[..], sought.routes.counts, left, &mut xs[..k])
 }
 
 // The first of them.
@@ -51,22 +46,16 @@ pub fn common_horizontal_collector_x<'a>(
     ensures { result ≡ search_of sought.entry.role sought.entry.bounds (sought_lent sought.entry) granted.0 }
 {
     let g = common_horizontal_collector_xs(sought, granted, xs, scratch);
-    match g {
-        Listed::Spent => Searched {
+    let Ok((n, left)) = g else {
+        return Searched {
             outcome: Outcome::Spent,
             left: TapVisits(0),
-        },
-        Listed::All(n, left) => {
-            if n == 0 {
-                return Searched {
-                    outcome: Outcome::Nothing,
-                    left: left,
-                };
-            }
-            Searched {
-                outcome: Outcome::Found(xs[0]),
-                left: left,
-            }
-        }
-    }
+        };
+    };
+    let outcome = if n == 0 {
+        Outcome::Nothing
+    } else {
+        Outcome::Found(xs[0])
+    };
+    Searched { outcome, left }
 }

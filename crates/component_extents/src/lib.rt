@@ -14,28 +14,27 @@ ghost use Rattle.plan.specs.Plan.{if_between, drop_all, initial_x};
 ghost use Rattle.plan.specs.Prepared.{Listing, plan_in};
 ghost use Rattle.components.specs.Settled.{ranges_in, Chosen, bound_in, inner, extent};
 
+use arrayvec::ArrayVec;
 use components::{Extent, Places};
 use geometry::Role;
 use limits::MAX_BUNDLES;
-use plan::{Bound, Planned, Planning, Ranges};
-use search::Bounds;
+use plan::{Bound, Planned, Planning, Range};
+use search::{Bounds, TapVisits};
 
 // ---- the bundles of a component
 
 // The bundles of a role among those of a component, in order: a selection, as the definition has it.
-pub fn of_role(role: Role, t: &Ranges, order: &[usize]) -> Places
-    requires { (length order.now ≤ max_bundles) × Listing order.now max_bundles }
-    ensures { (m : ℕ) → Listing order.now m → Chosen role (ranges_in m t.now) order.now m result }
+pub fn of_role(role: Role, ranges: &[Range], order: &[usize]) -> Places
+    requires { (length order.now ≤ max_bundles) × Listing order.now (length ranges.now) }
+    ensures { Chosen role (ranges_in ranges.now) order.now (length ranges.now) result.items }
 {
-    let mut rows = [0; MAX_BUNDLES];
-    let mut count = 0;
+    let mut chosen = ArrayVec::new();
     for &i in order {
-        if t.rows[i].bundle.role == role {
-            rows[count] = i;
-            count += 1;
+        if ranges[i].bundle.role == role {
+            chosen.push(i);
         }
     }
-    Places { rows, count }
+    chosen
 }
 
 // The bound of a role: an input's minimum, an output's maximum.
@@ -72,15 +71,15 @@ fn inner(role: Role, x: f64, y: f64) -> f64
 
 // How far the bundles of a role go: inputs to the largest minimum and the largest x found, outputs to
 // the smallest maximum and the smallest x found.
-pub fn extent(role: Role, t: &Ranges, which: &[usize]) -> Extent
-    requires { (0 < length which.now) × Listing which.now max_bundles }
-    ensures { (m : ℕ) → Listing which.now m → result ≡ extent role (ranges_in m t.now) (get_or which.now 0 0) (drop 1 which.now) }
+pub fn extent(role: Role, ranges: &[Range], which: &[usize]) -> Extent
+    requires { (0 < length which.now) × Listing which.now (length ranges.now) }
+    ensures { result ≡ extent role (ranges_in ranges.now) (get_or which.now 0 0) (drop 1 which.now) }
 {
-    let b = t.rows[which[0]].bounds;
+    let b = ranges[which[0]].bounds;
     let mut bound = bound_of(role, b);
     let mut desired = desired_of(b);
     for &i in &which[1..] {
-        let c = t.rows[i].bounds;
+        let c = ranges[i].bounds;
         bound = inner(role, bound, bound_of(role, c));
         desired = inner(role, desired, desired_of(c));
     }
@@ -101,7 +100,8 @@ pub fn drop_all(which: &[usize], p: Planning) -> Planning
 
 // ---- every component
 
-// The x that the first search found.
+// The x that the first search found. A match, as in desired_of: with `Bound::from(b.map(|r| r.desired))` it was
+// proved, but a wrong field in the closure was refused by a search that finds nothing, and at no fact.
 fn initial_x(b: Option<Bounds>) -> Bound
     ensures { result ≡ if_between b None (λ (s : Bounds). At s.desired) }
 {
@@ -112,15 +112,15 @@ fn initial_x(b: Option<Bounds>) -> Bound
 }
 
 // The plan of the first pass.
-pub fn initial(t: Ranges, n: usize) -> Planning
-    requires { n ≤ max_bundles }
-    ensures { plan_in n result ≡ record { xs = map initial_x (ranges_in n t); left = t.left.0 } }
+pub fn initial(ranges: &[Range], left: TapVisits) -> Planning
+    requires { length ranges.now ≤ max_bundles }
+    ensures { plan_in (length ranges.now) result ≡ record { xs = map initial_x (ranges_in ranges.now); left = left.0 } }
 {
     let mut rows = [Planned { x: Bound::None }; MAX_BUNDLES];
-    for (at, r) in t.rows[..n].iter().enumerate() {
+    for (at, r) in ranges.iter().enumerate() {
         rows[at] = Planned {
             x: initial_x(r.bounds),
         };
     }
-    Planning { rows, left: t.left }
+    Planning { rows, left }
 }

@@ -3,61 +3,56 @@
 use mathlib.Core.Path.{◌≡◌, refl, sym, ◌∙◌, ap, subst}
 use mathlib.Core.Bool.{Bool, true, false, not, cond, ◌||◌}
 use mathlib.Core.List.{List, [], ◌∷◌, map}
-use Prim.Native.Nat.{ℕ, zero, suc, ◌+◌, ◌*◌, ◌≤◌, ◌<◌}
+use Prim.Native.Nat.{ℕ, zero, suc, ◌+◌, ◌≤◌, ◌<◌}
 use native.Mathlib.Omega.{arith}
 use lib.ListN.{length, get_or, take, drop, set, replicate, length-map, drop_of_length-le}
 use lib.Seq.{get_or-take, drop-cons, take-set-lt}
-use Rattle.limits.specs.Limits.{max_bundles}
 use Rattle.geometry.specs.Points.{Route}
 use Rattle.board.specs.Board.{Board}
 use Rattle.search.specs.Search.{search_of}
-use Rattle.plan.specs.Tables.{Ranges}
+use Rattle.plan.specs.declared.Range.{Range}
 use Rattle.plan.specs.Plan.{Ranged, no_ranged, ranged_at, found?, Walk, push_all, Component, walk, joined, near_from, near, component_of, indices_from, Plan, Step, going, refused, then, treated, components, initial_x}
-use Rattle.plan.specs.Prepared.{Listing, range_at, ranged_from, passed, TabledTo}
+use Rattle.plan.specs.Prepared.{Listing, range_at, ranged_from, TabledTo}
 use Rattle.plan.specs.Stack.{row_from, row_of}
-use Rattle.plan.proofs.TableReads.{length_part}
 use Rattle.plan_neighbours.proofs.Walks.{Below, near_below, same_in}
 use Rattle.components.specs.Settled.{ranges_in, Neighboured, AllEdges, settled}
 use Rattle.components.proofs.Turns.{range_read, below_listing}
 
-pub ranges_length : (n : ℕ) (t : Ranges) → n ≤ length t.rows → length (ranges_in n t) ≡ n
-ranges_length n t h = length-map (take n t.rows) ranged_from ∙ length_part t.rows n h
+pub ranges_length : (t : List Range) → length (ranges_in t) ≡ length t
+ranges_length t = length-map t ranged_from
 
 -- ---- the table of neighbours
-row_near : (b : Board) (given : List Route) (a : List Bool) (s : Ranged) (i j : ℕ) (l : List Ranged) → ((m : ℕ) → m < length l → get_or a (i * max_bundles + (j + m)) false ≡ joined b given s (get_or l m no_ranged))
-    → row_from a i j (length l) ≡ near_from b given s j l
+row_near : (b : Board) (given : List Route) (row : List Bool) (s : Ranged) (j : ℕ) (l : List Ranged) → ((m : ℕ) → m < length l → get_or row (j + m) false ≡ joined b given s (get_or l m no_ranged))
+    → row_from row j (length l) ≡ near_from b given s j l
 unfolding row_from near_from
-row_near b given a s i j [] f = refl
-row_near b given a s i j (t ∷ l) f =
+row_near b given row s j [] f = refl
+row_near b given row s j (t ∷ l) f =
     let z : j + 0 ≡ j = omega arith in
-    let e : get_or a (i * max_bundles + j) false ≡ joined b given s t = ap (λ (k : ℕ). get_or a (i * max_bundles + k) false) (sym z) ∙ f 0 (omega arith) in
-    let r : row_from a i (suc j) (length l) ≡ near_from b given s (suc j) l =
-    row_near b given a s i (suc j) l
-    (λ m h. (let q : suc j + m ≡ j + suc m = omega arith in ap (λ (k : ℕ). get_or a (i * max_bundles + k) false) q ∙ f (suc m) (omega arith))) in
-    ap (λ (x : Bool). cond x (j ∷ row_from a i (suc j) (length l)) (row_from a i (suc j) (length l))) e
+    let e : get_or row j false ≡ joined b given s t = ap (λ (k : ℕ). get_or row k false) (sym z) ∙ f 0 (omega arith) in
+    let r : row_from row (suc j) (length l) ≡ near_from b given s (suc j) l =
+    row_near b given row s (suc j) l
+    (λ m h. (let q : suc j + m ≡ j + suc m = omega arith in ap (λ (k : ℕ). get_or row k false) q ∙ f (suc m) (omega arith))) in
+    ap (λ (x : Bool). cond x (j ∷ row_from row (suc j) (length l)) (row_from row (suc j) (length l))) e
     ∙ ap (λ (x : List ℕ). cond (joined b given s t) (j ∷ x) x) r
 
-pub tabled_near : (b : Board) (given : List Route) (edges : List ℕ) (t : Ranges) (n : ℕ) (a : List Bool) → n ≤ length t.rows → AllEdges b edges t n → TabledTo b given edges t n n a
-    → Neighboured b given (ranges_in n t) n a
-tabled_near b given edges t n a few all known = record { rows_are = are }
+pub tabled_near : (b : Board) (given : List Route) (edges : List ℕ) (t : List Range) (a : List (List Bool)) → AllEdges b edges t → TabledTo b given edges t (length t) a
+    → Neighboured b given (ranges_in t) (length t) a
+tabled_near b given edges t a all known = record { rows_are = are }
   where
-    long : length (ranges_in n t) ≡ n
-    long = ranges_length n t few
-
-    are : (i : ℕ) → i < n → row_of a n i ≡ near b given (ranges_in n t) i
+    are : (i : ℕ) → i < length t → row_of a (length t) i ≡ near b given (ranges_in t) i
     are i h =
-        ap (row_from a i 0) (sym long)
-        ∙ row_near b given a (ranged_at (ranges_in n t) i) i 0 (ranges_in n t)
+        ap (row_from (get_or a i []) 0) (sym (ranges_length t))
+        ∙ row_near b given (get_or a i []) (ranged_at (ranges_in t) i) 0 (ranges_in t)
         (λ m q.
-        let g : m < n = omega (arith, q, long) in
+        let g : m < length t = omega (arith, q, ranges_length t) in
         let z : 0 + m ≡ m = omega arith in
-        ap (λ (k : ℕ). get_or a (i * max_bundles + k) false) z
+        ap (λ (k : ℕ). get_or (get_or a i []) k false) z
         ∙ known.are i m h g (all.each i h) (all.each m g)
-        ∙ ap (λ (s : Ranged). joined b given s (ranged_from (range_at t m))) (range_read t.rows n i h)
-        ∙ ap (joined b given (ranged_at (ranges_in n t) i)) (range_read t.rows n m g))
+        ∙ ap (λ (s : Ranged). joined b given s (ranged_from (range_at t m))) (range_read t i)
+        ∙ ap (joined b given (ranged_at (ranges_in t) i)) (range_read t m))
 
 -- ---- the walk
-module _ (a : List Bool) (n : ℕ) where
+module _ (a : List (List Bool)) (n : ℕ) where
   walk_below : (k : ℕ) (seen : List Bool) (pending : List ℕ) → Below n pending → Below n (walk (row_of a n) k seen pending).order
   unfolding walk
   walk_below zero seen pending e = tt
@@ -67,9 +62,9 @@ module _ (a : List Bool) (n : ℕ) where
       (e.0, walk_below k w.seen w.pending (near_below a i n (record { seen = seen; pending = pending }) e.1))
 
   -- the order of a component is a list of bundles
-  pub component_listed : (i count : ℕ) (order : List ℕ) (seen marks : List Bool) → i < n → count ≤ length order
-      → ◌≡◌ {A = Component} (record { order = take count order; seen = marks }) (walk (row_of a n) n seen (i ∷ [])) → Listing (take count order) n
-  component_listed i count order seen marks h k e = below_listing (take count order) n (subst (λ (c : Component). Below n c.order) (sym e) (walk_below n seen (i ∷ []) (h, tt)))
+  pub component_listed : (i : ℕ) (order : List ℕ) (seen marks : List Bool) → i < n
+      → ◌≡◌ {A = Component} (record { order = order; seen = marks }) (walk (row_of a n) n seen (i ∷ [])) → Listing order n
+  component_listed i order seen marks h e = below_listing order n (subst (λ (c : Component). Below n c.order) (sym e) (walk_below n seen (i ∷ []) (h, tt)))
 
   module _ (at : ℕ → List ℕ) (same : (i : ℕ) → i < n → row_of a n i ≡ at i) where
     walk_same : (k : ℕ) (seen : List Bool) (pending : List ℕ) → Below n pending → walk (row_of a n) k seen pending ≡ walk at k seen pending
@@ -164,9 +159,9 @@ none_seen (suc n) zero h = absurd (omega arith)
 none_seen (suc n) (suc k) h = ap (λ (l : List Bool). false ∷ l) (none_seen n k (omega arith))
 
 -- the plan after the first pass
-pub settled_is : (b : Board) (given : List Route) (t : Ranges) (n : ℕ) (p : Plan) (s : Step) → n ≤ length t.rows → p ≡ record { xs = map initial_x (ranges_in n t); left = t.left.0 }
-    → s ≡ components search_of b given (ranges_in n t) (indices_from 0 (ranges_in n t)) (replicate n false) p → s ≡ settled b given (passed n t)
-settled_is b given t n p s h ep es =
+pub settled_is : (b : Board) (given : List Route) (t : List Range) (left : ℕ) (p : Plan) (s : Step) → p ≡ record { xs = map initial_x (ranges_in t); left = left }
+    → s ≡ components search_of b given (ranges_in t) (indices_from 0 (ranges_in t)) (replicate (length t) false) p → s ≡ settled b given (record { ranges = ranges_in t; left = left })
+settled_is b given t left p s ep es =
     es
-    ∙ ap (λ (m : ℕ). components search_of b given (ranges_in n t) (indices_from 0 (ranges_in n t)) (replicate m false) p) (sym (ranges_length n t h))
-    ∙ ap (λ (z : Plan). components search_of b given (ranges_in n t) (indices_from 0 (ranges_in n t)) (replicate (length (ranges_in n t)) false) z) ep
+    ∙ ap (λ (m : ℕ). components search_of b given (ranges_in t) (indices_from 0 (ranges_in t)) (replicate m false) p) (sym (ranges_length t))
+    ∙ ap (λ (z : Plan). components search_of b given (ranges_in t) (indices_from 0 (ranges_in t)) (replicate (length (ranges_in t)) false) z) ep

@@ -5,20 +5,20 @@
 
 #![tactic(auto)]
 
-ghost use Rattle.std.specs.Prelude.{◌≡◌, List, ◌≤◌, length};
+ghost use Rattle.std.specs.Prelude.{◌≡◌, List, ◌≤◌, ◌<◌, length, get_or, drop};
 ghost use Rattle.limits.specs.Limits.{max_bundles};
 ghost use Rattle.geometry.specs.Points.{Route};
 ghost use Rattle.board.specs.Board.{Board};
 ghost use Rattle.search.specs.Search.{search_of};
 ghost use Rattle.plan.specs.Plan.{Ranged, input_split, exceeds, split, limited, outputs_last, settle, treated};
 ghost use Rattle.plan.specs.Prepared.{Listing, plan_in};
-ghost use Rattle.components.specs.Settled.{ranges_in, step_in, Known};
+ghost use Rattle.components.specs.Settled.{ranges_in, step_in, extent, Known};
 
 use components::{Extent, Group, NoRoom};
 use geometry::Role;
 use plan::layout::Layout;
 use plan::search_work::SearchWork;
-use plan::{Bound, Planning, Ranges, Upper};
+use plan::{Bound, Planning, Range, Upper};
 
 // ---- one component
 
@@ -125,30 +125,37 @@ fn settle(
     Ok(last)
 }
 
+// Some bundles of one role, and how far they go.
+fn group<'a>(role: Role, ranges: &[Range], bundles: &'a [usize]) -> Group<'a>
+    requires { (0 < length bundles.now) × Listing bundles.now (length ranges.now) }
+    ensures lent { result.bundles.now ≡ bundles.now }
+    ensures far { result.extent ≡ extent role (ranges_in ranges.now) (get_or bundles.now 0 0) (drop 1 bundles.now) }
+{
+    let extent = component_extents::extent(role, ranges, bundles);
+    Group { bundles, extent }
+}
+
 // A component of one role only is left as it is.
 pub fn treat(
     layout: Layout,
-    ranges: &Ranges,
+    ranges: &[Range],
     order: &[usize],
     p: Planning,
     work: &mut SearchWork,
 ) -> Result<Planning, NoRoom>
+    requires as_many { length ranges.now ≡ length layout.reaches.now }
     requires listing { (length order.now ≤ max_bundles) × Listing order.now (length layout.reaches.now) }
-    ensures { (b : Board) (given : List Route) → Known b given layout.entry (ranges_in (length layout.entry.reaches.now) ranges.now) → step_in (length layout.entry.reaches.now) result ≡ treated search_of b given (ranges_in (length layout.entry.reaches.now) ranges.now) order.now (plan_in (length layout.entry.reaches.now) p) }
+    ensures { (b : Board) (given : List Route) → Known b given layout.entry (ranges_in ranges.now) → step_in (length ranges.now) result ≡ treated search_of b given (ranges_in ranges.now) order.now (plan_in (length ranges.now) p) }
 {
     let i = component_extents::of_role(Role::Input, ranges, order);
-    if i.count == 0 {
+    if i.is_empty() {
         return Ok(p);
     }
     let o = component_extents::of_role(Role::Output, ranges, order);
-    if o.count == 0 {
+    if o.is_empty() {
         return Ok(p);
     }
-    let bundles = &i.rows[..i.count];
-    let extent = component_extents::extent(Role::Input, ranges, bundles);
-    let inputs = Group { bundles, extent };
-    let bundles = &o.rows[..o.count];
-    let extent = component_extents::extent(Role::Output, ranges, bundles);
-    let outputs = Group { bundles, extent };
+    let inputs = group(Role::Input, ranges, i.as_slice());
+    let outputs = group(Role::Output, ranges, o.as_slice());
     settle(layout, order, inputs, outputs, p, work)
 }

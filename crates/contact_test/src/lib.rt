@@ -11,7 +11,7 @@
 ghost use Rattle.std.specs.Prelude.{◌≡◌};
 ghost use Rattle.std.proofs.Props.{props};
 ghost use Rattle.geometry.specs.Contact.{matches, slanted, across, upright, place, in_line, crossing, meet, at_tap, strict};
-ghost use Rattle.geometry.specs.Kind.{kind_at, kind_of, kind, disallowed, number};
+ghost use Rattle.geometry.specs.Kind.{kind_at, kind_of, kind, disallowed};
 ghost use Rattle.geometry.specs.Crossing.{is_strict, crossing_place};
 ghost use Rattle.geometry.specs.Apart.{trunk, over, beside, apart};
 ghost use Rattle.geometry.specs.Spacing.{overlap_positive, too_close};
@@ -63,6 +63,9 @@ pub fn span_upright(a: Point, b: Point) -> Span
         high: binary64::max(a.y, b.y),
     }
 }
+
+// level is the definition's word for the direction of two spans in one line, and no switch between two ways
+// to work: which coordinate is fixed.
 
 fn placed(level: bool, fixed: f64, moving: f64) -> Point
     ensures { result ≡ place level fixed moving }
@@ -231,13 +234,6 @@ pub fn is_disallowed(kind: Contact, permitted: bool) -> bool
         Contact::StrictCrossing => !permitted,
         Contact::TouchElsewhere | Contact::Overlap | Contact::Slanted => true,
     }
-}
-
-// The kind's number, for those who colour by it. A function and no From: the name is public.
-pub fn contact_number(kind: Contact) -> u8
-    ensures { result ≡ number kind }
-{
-    kind as u8
 }
 
 pub fn is_strict_crossing(kind: Contact) -> bool

@@ -7,10 +7,11 @@ use Rattle.std.proofs.Math.Seq.{sets}
 use borrow.Author.Tests.{leb-true, leb-false, lt-ltb, le-ltb}
 use Rattle.sorting.specs.Sort.{sorted}
 use Rattle.limits.specs.Limits.{max_crossings}
+use Rattle.crossing_rows.specs.declared.Ids.{Ids}
 use Rattle.crossing_rows.specs.Rows.{Row, rows_from, Kept}
 use Rattle.crossing_bytes.specs.RowBytes.{rows_bytes, row_key, written_rows}
 
-module _ (l : List Row) (p : List Float) (m : List ℕ) (n : ℕ) (kept : Kept l p m n) where
+module _ (l : List Row) (p : List Float) (m : ℕ → Ids) (n : ℕ) (kept : Kept l p m n) where
   over : max_crossings < n → max_crossings < length l
   over h = go (leb (length l) max_crossings) refl kept.count
     where

@@ -21,6 +21,7 @@ use Rattle.sorting.specs.Sorted.{every_sorted, sorted_length}
 use Rattle.place_order.specs.Index.{index_key, count_from}
 use Rattle.place_order.specs.Laws.{counted_length}
 use Rattle.limits.specs.Limits.{max_crossings, crossing_bytes}
+use Rattle.crossing_rows.specs.declared.Ids.{Ids}
 use Rattle.crossing_rows.specs.Rows.{Row, row_at, rows_from}
 use Rattle.crossing_bytes.specs.Bytes.{entry_bytes}
 use Rattle.crossing_bytes.specs.RowBytes.{row_bytes, rows_bytes, row_key}
@@ -39,7 +40,7 @@ entry_joined out at p u e =
     sets_then (sets out at (point_bytes p)) (at + 16) (at + 20) (bytes 4 u) (bytes 4 e) a ∙ sets_then out at (at + 16) (point_bytes p) (bytes 4 u ++ bytes 4 e) b
 
 -- what is left to write from index i on
-module _ (p : List Float) (m : List ℕ) (order : List ℕ) where
+module _ (p : List Float) (m : ℕ → Ids) (order : List ℕ) where
   abbrev pub entries_at : ℕ → List ℕ
   entries_at i = all_bytes row_bytes (map (row_at p m) (drop i order))
 
@@ -77,7 +78,7 @@ module _ {A B : Type 0} (f : A → B) (key : A → ℕ) (key' : B → ℕ) where
   map_sorted (a ∷ l) h = map_insert a (sorted key l) h.0 (every_sorted key (λ x. key x ≡ key' (f x)) l h.1) ∙ ap (insert key' (f a)) (map_sorted l h.1)
 
 -- the rows that the slices hold, by their indices
-module _ (p : List Float) (m : List ℕ) where
+module _ (p : List Float) (m : ℕ → Ids) where
   rows_counted : (i n : ℕ) → map (row_at p m) (count_from i n) ≡ rows_from p m i n
   unfolding rows_from count_from
   rows_counted i zero = refl
@@ -109,7 +110,7 @@ list_joined out l n e =
 
 -- ---- the order that is written
 
-module _ (p : List Float) (m : List ℕ) (first order : List ℕ) (n : ℕ) (f : first ≡ count_from 0 n) (e : order ≡ sorted (index_key p) first) where
+module _ (p : List Float) (m : ℕ → Ids) (first order : List ℕ) (n : ℕ) (f : first ≡ count_from 0 n) (e : order ≡ sorted (index_key p) first) where
   order_is : order ≡ sorted (index_key p) (count_from 0 n)
   order_is = e ∙ ap (sorted (index_key p)) f
 
@@ -127,5 +128,5 @@ module _ (p : List Float) (m : List ℕ) (first order : List ℕ) (n : ℕ) (f :
 pub front_fits : (n k : ℕ) (l : List ℕ) → n ≤ k → n ≤ length l → length (take n l) ≤ k
 front_fits n k l h fits = omega (arith, length-take-le n l fits, h)
 
-pub front_written : (p : List Float) (m : List ℕ) (n : ℕ) (l out out' : List ℕ) → n ≤ length l → out' ≡ sets out 0 (rows_bytes (sorted row_key (rows_from p m 0 (length (take n l))))) → out' ≡ sets out 0 (rows_bytes (sorted row_key (rows_from p m 0 n)))
+pub front_written : (p : List Float) (m : ℕ → Ids) (n : ℕ) (l out out' : List ℕ) → n ≤ length l → out' ≡ sets out 0 (rows_bytes (sorted row_key (rows_from p m 0 (length (take n l))))) → out' ≡ sets out 0 (rows_bytes (sorted row_key (rows_from p m 0 n)))
 front_written p m n l out out' fits e = e ∙ ap (λ (k : ℕ). sets out 0 (rows_bytes (sorted row_key (rows_from p m 0 k)))) (length-take-le n l fits)

@@ -30,13 +30,13 @@ fn put_entry(out: &mut [u8], at: usize, p: Point, bundle: u64, edge: u64)
 }
 
 // Row k.
-#[tactic(auto, unfolding(crossing_rows::specs::Rows::row_at))]
 fn put_row(out: &mut [u8], at: usize, kept: RowsView, k: usize)
     requires { (at + crossing_bytes ≤ length out.old) × (k < max_crossings) }
     ensures { out.new ≡ sets out.old at (row_bytes (row_lent kept.entry k)) }
 {
     let p = route_views::point_at(kept.places, k);
-    put_entry(out, at, p, kept.names[2 * k], kept.names[2 * k + 1]);
+    let ids = kept.names[k];
+    put_entry(out, at, p, ids.bundle, ids.edge);
 }
 
 // The rows that order names, behind the count.

@@ -4,13 +4,13 @@
 
 ghost use Rattle.std.specs.Prelude.{◌≡◌, ◌≤◌, ltb, length, is_err, IfErr};
 ghost use Rattle.std.proofs.lemmas.List.Edits.{sets};
-ghost use Rattle.limits.specs.Limits.{max_edges, max_bundles, max_crossings, crossings_room};
+ghost use Rattle.limits.specs.Limits.{max_edges, max_crossings, crossings_room};
 ghost use Rattle.refusal.specs.declared.Refusal.TheVariants.{TooManyCrossings};
 ghost use Rattle.crossing_rows.specs.Rows.{rows_met};
 ghost use Rattle.crossing_bytes.specs.RowBytes.{written_rows};
 
-use board::{DrawnBundles, Edges};
-use crossing_rows::{Rows, RowsView};
+use board::{DrawnBundle, Edge};
+use crossing_rows::{Ids, Rows, RowsView};
 use limits::{CROSSING_NUMBERS, MAX_CROSSINGS};
 use refusal::Refusal;
 use route::PresentRoutes;
@@ -22,26 +22,27 @@ use route::PresentRoutes;
 pub fn list_crossings(
     permitted: bool,
     withheld: bool,
-    table: Edges,
-    drawn: DrawnBundles,
+    table: &[Edge],
+    drawn: &[DrawnBundle],
     present: PresentRoutes,
     out: &mut [u8],
 ) -> Result<(), Refusal>
-    requires count_le_max_edges { (table.count ≤ max_edges) × (drawn.count ≤ max_bundles) × (crossings_room ≤ length out.old) }
-    requires counts_len { length present.counts.now ≡ table.count }
-    ensures too_many { is_err result ≡ ltb max_crossings (length (rows_met permitted table drawn present.entry.points.now present.entry.counts.now)) }
+    requires table_le_max_edges { (length table.now ≤ max_edges) × (crossings_room ≤ length out.old) }
+    requires counts_len { length present.counts.now ≡ length table.now }
+    ensures too_many { is_err result ≡ ltb max_crossings (length (rows_met permitted table.now drawn.now present.entry.points.now present.entry.counts.now)) }
     ensures refusal { IfErr result (λ r. r ≡ TooManyCrossings) }
-    ensures bytes { out.new ≡ sets out.old 0 (written_rows withheld (rows_met permitted table drawn present.entry.points.now present.entry.counts.now)) }
+    ensures bytes { out.new ≡ sets out.old 0 (written_rows withheld (rows_met permitted table.now drawn.now present.entry.points.now present.entry.counts.now)) }
 {
     let mut places = [0.0; CROSSING_NUMBERS];
-    let mut names = [0; CROSSING_NUMBERS];
+    let mut names = [Ids { bundle: 0, edge: 0 }; MAX_CROSSINGS];
     let mut kept = Rows {
         places: &mut places[..],
         names: &mut names[..],
         count: 0,
     };
     crossing_walk::sheet_crossings(permitted, table, drawn, present, &mut kept);
-    if kept.count > MAX_CROSSINGS {
+    let too_many = kept.count > MAX_CROSSINGS;
+    if too_many {
         return Err(Refusal::TooManyCrossings);
     }
     if withheld {

@@ -3,7 +3,7 @@
 use Rattle.std.specs.Prelude.{ℕ, List, ◌≡◌}
 use Rattle.crossing_rows.specs.declared.Rows.{Rows}
 use Rattle.crossing_rows.specs.declared.RowsView.{RowsView}
-use Rattle.crossing_rows.specs.Rows.{Row, Kept, Grown, row_at, rows_from}
+use Rattle.crossing_rows.specs.Rows.{Row, Kept, Grown, ids_in, row_at, rows_from}
 
 -- they lend the slices that they lent before
 abbrev pub SameSlices : Rows → Rows → Type 0
@@ -11,15 +11,15 @@ SameSlices old k = (k.places.ghost_name ≡ old.places.ghost_name) × (k.names.g
 
 -- they hold the rows l; of more than 1,024 only that they are more
 abbrev pub KeptIn : List Row → Rows → Type 0
-KeptIn l k = Kept l k.places.now k.names.now k.count
+KeptIn l k = Kept l k.places.now (ids_in k.names.now) k.count
 
 -- a walk that met the rows new, whatever they held before it
 abbrev pub GrownBy : Rows → Rows → List Row → Type 0
-GrownBy old k new = Grown old.places.now old.names.now old.count k.places.now k.names.now k.count new
+GrownBy old k new = Grown old.places.now (ids_in old.names.now) old.count k.places.now (ids_in k.names.now) k.count new
 
 -- row i of a view, and all its rows
 abbrev pub row_lent : RowsView → ℕ → Row
-row_lent k i = row_at k.places.now k.names.now i
+row_lent k i = row_at k.places.now (ids_in k.names.now) i
 
 abbrev pub rows_lent : RowsView → List Row
-rows_lent k = rows_from k.places.now k.names.now 0 k.count
+rows_lent k = rows_from k.places.now (ids_in k.names.now) 0 k.count

@@ -21,10 +21,9 @@ use Rattle.geometry.specs.Kind.{kind, disallowed}
 use Rattle.geometry.specs.Crossing.{is_strict, crossing_place}
 use Rattle.geometry.proofs.KindContact.{kind_contact}
 use Rattle.board.specs.declared.DrawnBundle.{DrawnBundle}
-use Rattle.board.specs.Tables.{DrawnBundles}
 use Rattle.board.specs.declared.Edge.{Edge}
-use Rattle.board.specs.Tables.{Edges}
 use Rattle.limits.specs.Limits.{slot_points}
+use Rattle.crossing_rows.specs.declared.Ids.{Ids}
 use Rattle.crossing_rows.specs.Rows.{Row, row, one_row, run_rows, route_rows, bundle_rows, sheet_rows, id_of, rows_met, rows_from, Kept, Grown}
 use Rattle.crossing_rows.specs.Keep.{grown_then}
 
@@ -46,7 +45,7 @@ apart_crosses bus t z a b tap r d e h = sym (apart_uncrossed bus z a b tap (ap (
 
 -- ---- one run
 
-pub grown_as : (p : List Float) (m : List ℕ) (n : ℕ) (q : List Float) (o : List ℕ) (k : ℕ) (x y : List Row) → x ≡ y → Grown p m n q o k x → Grown p m n q o k y
+pub grown_as : (p : List Float) (m : ℕ → Ids) (n : ℕ) (q : List Float) (o : ℕ → Ids) (k : ℕ) (x y : List Row) → x ≡ y → Grown p m n q o k x → Grown p m n q o k y
 grown_as p m n q o k x y e g = subst (Grown p m n q o k) e g
 
 module _ (bus : Segment) (u e : ℕ) (r : Segment) where
@@ -94,31 +93,40 @@ module _ (d : DrawnBundle) (ids : List ℕ) (s : List Float) (ns : List ℕ) whe
 
 -- ---- bundle after bundle
 
+module _ (l : List DrawnBundle) (ids : List ℕ) (rs : List Route) where
+  abbrev pub drawn_at : ℕ → List Row
+  drawn_at i = sheet_rows (drop i l) ids rs
+
+  pub drawn_step : (i : ℕ) (d : DrawnBundle) → i < length l → drawn_at i ≡ bundle_rows (get_or l i d) ids rs 0 ++ drawn_at (i + 1)
+  unfolding sheet_rows
+  drawn_step i d h = rw (add-one, drop-cons l i d h)
+
+  pub drawn_end : (i : ℕ) → length l ≤ i → drawn_at i ≡ []
+  unfolding sheet_rows
+  drawn_end i h = rw (drop_of_length-le l h)
+
+-- the same of the first n of a table
 module _ (l : List DrawnBundle) (n : ℕ) (ids : List ℕ) (rs : List Route) where
   abbrev pub bundles_at : ℕ → List Row
   bundles_at i = sheet_rows (drop i (take n l)) ids rs
 
   pub bundles_step : (i : ℕ) (d : DrawnBundle) → i < n → n ≤ length l → bundles_at i ≡ bundle_rows (get_or l i d) ids rs 0 ++ bundles_at (i + 1)
-  unfolding sheet_rows
   bundles_step i d h k =
       let b : i < length (take n l) = rw length-take-le (omega arith) in
-      let e : drop i (take n l) ≡ get_or l i d ∷ drop (i + 1) (take n l) = rw (add-one, drop-cons (take n l) i d, get_or-take) in
-      rw e
+      drawn_step (take n l) ids rs i d b ∙ ap (λ (x : DrawnBundle). bundle_rows x ids rs 0 ++ bundles_at (i + 1)) (get_or-take n l i d h)
 
   pub bundles_end : (i : ℕ) → n ≤ i → n ≤ length l → bundles_at i ≡ []
-  unfolding sheet_rows
   bundles_end i h k =
       let b : length (take n l) ≤ i = rw length-take-le h in
-      let e : drop i (take n l) ≡ [] = drop_of_length-le (take n l) b in
-      rw e
+      drawn_end (take n l) ids rs i b
 
 -- ---- one route, the collector first
-pub route_grown : (d : DrawnBundle) (e : ℕ) (r : Route) (p q w : List Float) (m o s : List ℕ) (i j k : ℕ) → Grown p m i q o j (run_rows d.collector d.id e (runs r)) → Grown q o j w s k (run_rows d.spine d.id e (runs r)) → Grown p m i w s k (route_rows d e r)
+pub route_grown : (d : DrawnBundle) (e : ℕ) (r : Route) (p q w : List Float) (m o s : ℕ → Ids) (i j k : ℕ) → Grown p m i q o j (run_rows d.collector d.id e (runs r)) → Grown q o j w s k (run_rows d.spine d.id e (runs r)) → Grown p m i w s k (route_rows d e r)
 unfolding route_rows
 route_grown d e r p q w m o s i j k f g = grown_then p q w m o s i j k (run_rows d.collector d.id e (runs r)) (run_rows d.spine d.id e (runs r)) f g
 
 -- ---- from nothing
-pub kept_all : (p : List Float) (m : List ℕ) (q : List Float) (o : List ℕ) (n : ℕ) (all : List Row) → Grown p m 0 q o n all → Kept all q o n
+pub kept_all : (p : List Float) (m : ℕ → Ids) (q : List Float) (o : ℕ → Ids) (n : ℕ) (all : List Row) → Grown p m 0 q o n all → Kept all q o n
 unfolding rows_from
 kept_all p m q o n all g = g [] (record { count = refl; rows = λ h. refl })
 
@@ -129,13 +137,13 @@ ids_more ids rows d i n v h k e = rw (add-one, take-suc-set ids i n h, take-suc 
 
 -- ---- crossings permitted, or not
 
-pub none_kept : (permitted : Bool) (table : Edges) (drawn : DrawnBundles) (points : List Float) (counts : List ℕ) (p : List Float) (m : List ℕ) → not permitted ≡ true → Kept (rows_met permitted table drawn points counts) p m 0
+pub none_kept : (permitted : Bool) (table : List Edge) (drawn : List DrawnBundle) (points : List Float) (counts : List ℕ) (p : List Float) (m : ℕ → Ids) → not permitted ≡ true → Kept (rows_met permitted table drawn points counts) p m 0
 unfolding rows_from rows_met
 none_kept true table drawn points counts p m e = absurd (true≢false (sym e))
 none_kept false table drawn points counts p m e = record { count = refl; rows = λ h. refl }
 
-pub permitted_kept : (permitted : Bool) (table : Edges) (drawn : DrawnBundles) (points : List Float) (counts ids : List ℕ) (p : List Float) (m : List ℕ) (n : ℕ) → not permitted ≡ false → ids ≡ map id_of (take table.count table.rows)
-    → Kept (sheet_rows (take drawn.count drawn.rows) ids (routes_of points counts)) p m n → Kept (rows_met permitted table drawn points counts) p m n
+pub permitted_kept : (permitted : Bool) (table : List Edge) (drawn : List DrawnBundle) (points : List Float) (counts ids : List ℕ) (p : List Float) (m : ℕ → Ids) (n : ℕ) → not permitted ≡ false → ids ≡ map id_of table
+    → Kept (sheet_rows drawn ids (routes_of points counts)) p m n → Kept (rows_met permitted table drawn points counts) p m n
 unfolding rows_met
-permitted_kept true table drawn points counts ids p m n e i k = subst (λ (l : List ℕ). Kept (sheet_rows (take drawn.count drawn.rows) l (routes_of points counts)) p m n) i k
+permitted_kept true table drawn points counts ids p m n e i k = subst (λ (l : List ℕ). Kept (sheet_rows drawn l (routes_of points counts)) p m n) i k
 permitted_kept false table drawn points counts ids p m n e i k = absurd (true≢false e)

@@ -6,9 +6,8 @@
 
 #![tactic(auto)]
 
-ghost use Rattle.std.specs.Prelude.{◌≡◌, [], ◌∷◌, map, ◌≤◌, length, take, None};
+ghost use Rattle.std.specs.Prelude.{◌≡◌, [], ◌∷◌, map, ◌≤◌, length, None};
 ghost use Rattle.std.proofs.Props.{props};
-ghost use Rattle.limits.specs.Limits.{max_edges, max_bundles};
 ghost use Rattle.geometry.specs.Apart.{trunk};
 ghost use Rattle.geometry.specs.Points.{runs};
 ghost use Rattle.geometry.specs.Lent.{route_lent};
@@ -18,20 +17,15 @@ ghost use Rattle.route.specs.Lent.{routes_lent};
 ghost use Rattle.crossing_rows.specs.Rows.{row, one_row, run_rows, route_rows, bundle_rows, sheet_rows, id_of, rows_met};
 ghost use Rattle.crossing_rows.specs.Lent.{KeptIn, GrownBy, SameSlices};
 
-use board::{DrawnBundle, DrawnBundles, Edges};
+use board::{DrawnBundle, Edge};
 use contact_test::Bus;
-use crossing_rows::Rows;
+use crossing_rows::{Ids, Rows};
 use geometry::{Point, RouteView, Segment, Trunk};
-use limits::{MAX_CROSSINGS, MAX_EDGES};
+use limits::MAX_CROSSINGS;
 use route::PresentRoutes;
 
-// The ids of a bundle and of an edge. The rows that are kept are lent beside it: of a struct with a `&mut`
-// each contract would have to say what it still lends.
-#[derive(Clone, Copy)]
-struct Ids {
-    bundle: u64,
-    edge: u64,
-}
+// The rows that are kept are lent beside the ids: of a struct with a `&mut` each contract would have to say
+// what it still lends.
 
 // A drawn bundle and the trunks of its segments, worked out once for all routes.
 #[derive(Clone, Copy)]
@@ -43,12 +37,12 @@ struct Walked {
     ghost spine_known: { spine ≡ trunk row.spine },
 }
 
-// The present routes in their slots, and the id of each one's edge.
+// The present routes in their slots, and the edge of each.
 #[derive(Clone, Copy)]
 struct NamedRoutes<'a> {
     present: PresentRoutes<'a>,
-    ids: &'a [u64],
-    ghost named: { length ids.now ≡ length present.counts.now } by { Prim.hlevel props },
+    edges: &'a [Edge],
+    ghost named: { length edges.now ≡ length present.counts.now } by { Prim.hlevel props },
 }
 
 // ---- the walk
@@ -64,8 +58,7 @@ fn keep(kept: &mut Rows, p: Point, ids: Ids)
         return;
     }
     route_views::put_point(kept.places, n, p);
-    kept.names[2 * n] = ids.bundle;
-    kept.names[2 * n + 1] = ids.edge;
+    kept.names[n] = ids;
     kept.count = n + 1;
 }
 
@@ -125,36 +118,25 @@ fn walk_route(d: Walked, edge: u64, route: RouteView, kept: &mut Rows)
 // Every route against a bundle.
 fn walk_bundle(row: DrawnBundle, routes: NamedRoutes, kept: &mut Rows)
     ensures same { SameSlices kept.old kept.new }
-    ensures rows { GrownBy kept.old kept.new (bundle_rows row routes.entry.ids.now (routes_lent routes.entry.present) 0) }
+    ensures rows { GrownBy kept.old kept.new (bundle_rows row (map id_of routes.entry.edges.now) (routes_lent routes.entry.present) 0) }
 {
     let d = Walked {
         row,
         collector: contact_test::trunk_of(row.collector),
         spine: contact_test::trunk_of(row.spine),
     };
-    for (e, id) in routes.ids.iter().enumerate() {
-        walk_route(d, *id, route_slots::slot_of(routes.present, e), kept);
+    for (e, edge) in routes.edges.iter().enumerate() {
+        walk_route(d, edge.id, route_slots::slot_of(routes.present, e), kept);
     }
 }
 
 // Every bundle in job order.
-fn walk_bundles(drawn: DrawnBundles, routes: NamedRoutes, kept: &mut Rows)
-    requires { drawn.count ≤ max_bundles }
+fn walk_bundles(drawn: &[DrawnBundle], routes: NamedRoutes, kept: &mut Rows)
     ensures same { SameSlices kept.old kept.new }
-    ensures rows { GrownBy kept.old kept.new (sheet_rows (take drawn.count drawn.rows) routes.entry.ids.now (routes_lent routes.entry.present)) }
+    ensures rows { GrownBy kept.old kept.new (sheet_rows drawn.now (map id_of routes.entry.edges.now) (routes_lent routes.entry.present)) }
 {
-    for i in 0..drawn.count {
-        walk_bundle(drawn.rows[i], routes, kept);
-    }
-}
-
-// The ids of the edges.
-fn edge_ids(table: Edges, ids: &mut [u64])
-    requires { (table.count ≤ max_edges) × (length ids.old ≡ max_edges) }
-    ensures { take table.count ids.new ≡ map id_of (take table.count table.rows) }
-{
-    for i in 0..table.count {
-        ids[i] = table.rows[i].id;
+    for row in drawn {
+        walk_bundle(*row, routes, kept);
     }
 }
 
@@ -163,25 +145,22 @@ fn edge_ids(table: Edges, ids: &mut [u64])
 // takes it.
 pub fn sheet_crossings(
     permitted: bool,
-    table: Edges,
-    drawn: DrawnBundles,
+    table: &[Edge],
+    drawn: &[DrawnBundle],
     present: PresentRoutes,
     kept: &mut Rows,
 )
-    requires few { (table.count ≤ max_edges) × (drawn.count ≤ max_bundles) }
-    requires each { length present.counts.now ≡ table.count }
+    requires each { length present.counts.now ≡ length table.now }
     ensures same { SameSlices kept.old kept.new }
-    ensures rows { KeptIn (rows_met permitted table drawn present.entry.points.now present.entry.counts.now) kept.new }
+    ensures rows { KeptIn (rows_met permitted table.now drawn.now present.entry.points.now present.entry.counts.now) kept.new }
 {
     kept.count = 0;
     if !permitted {
         return;
     }
-    let mut ids = [0; MAX_EDGES];
-    edge_ids(table, &mut ids[..]);
     let routes = NamedRoutes {
         present,
-        ids: &ids[..table.count],
+        edges: table,
     };
     walk_bundles(drawn, routes, kept);
 }

@@ -9,8 +9,7 @@ use lib.Seq.{get_or-take, length-take-le}
 use lib.Ieee.{Float}
 use Rattle.geometry.specs.Points.{point_at}
 use Rattle.board.specs.declared.Edge.{Edge}
-use Rattle.board.specs.Tables.{Edges}
-use Rattle.board.specs.Tables.{Members}
+use Rattle.board.specs.declared.Member.{Member}
 use Rattle.board.specs.declared.Bundle.{Bundle}
 use Rattle.board.specs.declared.DrawnBundle.{DrawnBundle}
 use Rattle.board.specs.declared.DrawnTap.{DrawnTap}
@@ -35,41 +34,37 @@ use Rattle.answer.specs.SheetTables.{sheet_of}
 use Rattle.job.specs.declared.Job as code
 use Rattle.promise.specs.Stage.{tap_told, bundle_told, bundles_told, page_told, answer_of}
 use Rattle.job_tables.specs.Came.{Sizes, job_in}
-use Rattle.draw_job.specs.JobTables.{TapsOf, MembersOn, OnSheet, finished}
+use Rattle.draw_job.specs.JobTables.{TapsOf, OnSheet, finished}
 
 null_tap : DrawnTap
 null_tap = record { edge = 0; point = point_at [] 0 }
 
-module _ (table : Edges) (members : Members) (edges : List ℕ) (taps : List Float) (t : DrawnTaps) (of : TapsOf table members taps t) (on : MembersOn table members) (kt : members.count ≤ length t.rows)
-    (are : (k : ℕ) → k < members.count → get_or edges k 0 ≡ (member_at members.rows k).edge) where
-  abbrev named : List Edge
-  named = take table.count table.rows
-
+module _ (table : List Edge) (members : List Member) (edges : List ℕ) (taps : List Float) (t : DrawnTaps) (of : TapsOf table members taps t) (kt : length members ≤ length t.rows)
+    (are : (k : ℕ) → get_or edges k 0 ≡ (member_at members k).edge) where
   abbrev listed : List DrawnTap
-  listed = take members.count t.rows
+  listed = take (length members) t.rows
 
-  tap_same : (k : ℕ) → k < members.count → get_or listed k null_tap ≡ tap_told named (record { edge = get_or edges k 0; place = point_at taps k })
+  tap_same : (k : ℕ) → k < length members → get_or listed k null_tap ≡ tap_told table (record { edge = get_or edges k 0; place = point_at taps k })
   tap_same k h =
-      get_or-take members.count t.rows k null_tap h
+      get_or-take (length members) t.rows k null_tap h
       ∙ of.row_is k h null_tap
-      ∙ ap (λ (e : Edge). record { edge = e.id; point = point_at taps k }) (sym (get_or-take table.count table.rows (member_at members.rows k).edge no_edge (on k h)))
-      ∙ ap (λ (e : ℕ). record { edge = (get_or named e no_edge).id; point = point_at taps k }) (sym (are k h))
+      ∙ ap (λ (e : ℕ). record { edge = (get_or table e no_edge).id; point = point_at taps k }) (sym (are k))
 
-  taps_same : (k first : ℕ) → first + k ≤ members.count → window first k listed ≡ map (tap_told named) (taps_from edges taps first k)
+  taps_same : (k first : ℕ) → first + k ≤ length members → window first k listed ≡ map (tap_told table) (taps_from edges taps first k)
   unfolding taps_from
   taps_same zero first h = refl
   taps_same (suc k) first h =
-      rw (window_cons listed first k null_tap (omega (arith, length-take-le members.count t.rows kt)))
+      rw (window_cons listed first k null_tap (omega (arith, length-take-le (length members) t.rows kt)))
       (ap (λ (d : DrawnTap). d ∷ window (suc first) k listed) (tap_same first (omega arith))
-      ∙ ap (λ (l : List DrawnTap). tap_told named (record { edge = get_or edges first 0; place = point_at taps first }) ∷ l) (taps_same k (suc first) (omega arith)))
+      ∙ ap (λ (l : List DrawnTap). tap_told table (record { edge = get_or edges first 0; place = point_at taps first }) ∷ l) (taps_same k (suc first) (omega arith)))
 
-  trunk_same : (u : Bundle) (d : DrawnBundle) → d.id ≡ u.id → d.first + d.count ≤ members.count → trunk_of listed d ≡ bundle_told named u (drawn_of edges taps d)
+  trunk_same : (u : Bundle) (d : DrawnBundle) → d.id ≡ u.id → d.first + d.count ≤ length members → trunk_of listed d ≡ bundle_told table u (drawn_of edges taps d)
   trunk_same u d e h =
       ap (λ (l : List DrawnTap). record { id = d.id; interior = d.interior; collector = d.collector; spine = d.spine; taps = l }) (taps_same d.count d.first h)
-      ∙ ap (λ (i : ℕ). record { id = i; interior = d.interior; collector = d.collector; spine = d.spine; taps = map (tap_told named) (taps_from edges taps d.first d.count) }) e
+      ∙ ap (λ (i : ℕ). record { id = i; interior = d.interior; collector = d.collector; spine = d.spine; taps = map (tap_told table) (taps_from edges taps d.first d.count) }) e
 
-  pub trunks_same : (us : List Bundle) (ds olds : List DrawnBundle) → map heading ds ≡ map heading olds → Rows us olds → ((i : ℕ) → i < length us → (get_or us i no_bundle).first + (get_or us i no_bundle).count ≤ members.count)
-      → map (trunk_of listed) ds ≡ bundles_told named us (map (drawn_of edges taps) ds)
+  pub trunks_same : (us : List Bundle) (ds olds : List DrawnBundle) → map heading ds ≡ map heading olds → Rows us olds → ((i : ℕ) → i < length us → (get_or us i no_bundle).first + (get_or us i no_bundle).count ≤ length members)
+      → map (trunk_of listed) ds ≡ bundles_told table us (map (drawn_of edges taps) ds)
   unfolding bundles_told Rows
   trunks_same [] [] olds e r w = refl
   trunks_same [] (d ∷ ds) [] e r w = let z = ap length e in absurd (omega arith)
@@ -85,7 +80,7 @@ module _ (table : Edges) (members : Members) (edges : List ℕ) (taps : List Flo
       let f : d.first ≡ u.first = ap (λ (x : Heading). x.first) h ∙ r.0.first in
       let n : d.count ≡ u.count = ap (λ (x : Heading). x.count) h ∙ r.0.count in
       ap (λ (t : Trunk). t ∷ map (trunk_of listed) ds) (trunk_same u d i (omega (arith, f, n, w 0 (omega arith))))
-      ∙ ap (λ (l : List Trunk). bundle_told named u (drawn_of edges taps d) ∷ l) (trunks_same us ds olds rest r.1 (λ k m. w (suc k) (omega arith)))
+      ∙ ap (λ (l : List Trunk). bundle_told table u (drawn_of edges taps d) ∷ l) (trunks_same us ds olds rest r.1 (λ k m. w (suc k) (omega arith)))
 
 -- ---- the rows of the drawn bundles
 
@@ -96,26 +91,37 @@ row_at (v ∷ us) [] r i h u d = absurd r
 row_at (v ∷ us) (c ∷ ds) r zero h u d = r.0
 row_at (v ∷ us) (c ∷ ds) r (suc i) h u d = row_at us ds r.1 i (omega arith) u d
 
+rows_alike : (us : List Bundle) (ds : List DrawnBundle) → Rows us ds → length ds ≡ length us
+unfolding Rows
+rows_alike [] [] r = refl
+rows_alike [] (d ∷ ds) r = absurd r
+rows_alike (u ∷ us) [] r = absurd r
+rows_alike (u ∷ us) (d ∷ ds) r = let e = rows_alike us ds r.1 in omega arith
+
 module _ (j : code.Job) (edges : List ℕ) (ds : DrawnBundles) (points : List Float) (counts : List ℕ) (taps : List Float) (on : OnSheet j edges ds points counts taps) (sizes : Sizes j) where
   short : ds.count ≤ length j.bundles.rows
   short = omega (arith, on.all_drawn, on.fits.bundles, sizes.bundles)
 
-  pub windows : Windows ds.count ds.rows j.members.count
-  windows i d h =
-      let r = row_at (take ds.count j.bundles.rows) (take ds.count ds.rows) on.each_row i (omega (arith, h, length-take-le ds.count j.bundles.rows short)) no_bundle d in
-      let f : (get_or ds.rows i d).first ≡ (get_or j.bundles.rows i no_bundle).first =
-      ap (λ (c : DrawnBundle). c.first) (sym (get_or-take ds.count ds.rows i d h)) ∙ r.first ∙ ap (λ (u : Bundle). u.first) (get_or-take ds.count j.bundles.rows i no_bundle h) in
-      let n : (get_or ds.rows i d).count ≡ (get_or j.bundles.rows i no_bundle).count =
-      ap (λ (c : DrawnBundle). c.count) (sym (get_or-take ds.count ds.rows i d h)) ∙ r.count ∙ ap (λ (u : Bundle). u.count) (get_or-take ds.count j.bundles.rows i no_bundle h) in
-      omega (arith, on.windows i h, f, n)
+  pub drawn_long : length (take ds.count ds.rows) ≡ ds.count
+  drawn_long = rows_alike (take ds.count j.bundles.rows) (take ds.count ds.rows) on.each_row ∙ length-take-le ds.count j.bundles.rows short
 
-  bundle_windows : (i : ℕ) → i < length (take ds.count j.bundles.rows) → (get_or (take ds.count j.bundles.rows) i no_bundle).first + (get_or (take ds.count j.bundles.rows) i no_bundle).count ≤ j.members.count
+  pub windows : Windows (take ds.count ds.rows) j.members.count
+  windows i d h =
+      let k : i < ds.count = omega (arith, h, drawn_long) in
+      let r = row_at (take ds.count j.bundles.rows) (take ds.count ds.rows) on.each_row i (omega (arith, k, length-take-le ds.count j.bundles.rows short)) no_bundle d in
+      let u = get_or-take ds.count j.bundles.rows i no_bundle k in
+      omega (arith, on.windows i k, r.first, r.count, ap (λ (u : Bundle). u.first) u, ap (λ (u : Bundle). u.count) u)
+
+  members_long : length (take j.members.count j.members.rows) ≡ j.members.count
+  members_long = length-take-le j.members.count j.members.rows (omega (arith, on.fits.members, sizes.members))
+
+  bundle_windows : (i : ℕ) → i < length (take ds.count j.bundles.rows) → (get_or (take ds.count j.bundles.rows) i no_bundle).first + (get_or (take ds.count j.bundles.rows) i no_bundle).count ≤ length (take j.members.count j.members.rows)
   bundle_windows i h =
       let k : i < ds.count = omega (arith, h, length-take-le ds.count j.bundles.rows short) in
-      subst (λ (u : Bundle). u.first + u.count ≤ j.members.count) (sym (get_or-take ds.count j.bundles.rows i no_bundle k)) (on.windows i k)
+      subst (λ (u : Bundle). u.first + u.count ≤ length (take j.members.count j.members.rows)) (sym (get_or-take ds.count j.bundles.rows i no_bundle k)) (omega (arith, on.windows i k, members_long))
 
-  module _ (buffer : List Float) (p : Planning) (rest : ℕ) (l : Laid) (after shifted : List Float) (t : DrawnTaps) (of : TapsOf j.edges j.members shifted t) (kt : j.members.count ≤ length t.rows)
-      (page : page_in edges l after counts shifted ≡ page_of (sheet_in edges j.nodes ds points counts taps)) (as_many : l.drawn.count ≡ ds.count)
+  module _ (buffer : List Float) (p : Planning) (rest : ℕ) (l : Laid) (after shifted : List Float) (t : DrawnTaps) (of : TapsOf (take j.edges.count j.edges.rows) (take j.members.count j.members.rows) shifted t)
+      (page : page_in edges l after counts shifted ≡ page_of (sheet_in edges (take j.nodes.count j.nodes.rows) (take ds.count ds.rows) points counts taps)) (as_many : l.drawn.count ≡ ds.count)
       (kept : map heading (take l.drawn.count l.drawn.rows) ≡ map heading (take ds.count ds.rows)) where
     abbrev frame : Frame
     frame = record { tap_visits = p.left.0; geometry_visits = rest; width = l.width; height = l.height }
@@ -124,10 +130,10 @@ module _ (j : code.Job) (edges : List ℕ) (ds : DrawnBundles) (points : List Fl
         ≡ bundles_told (take j.edges.count j.edges.rows) (take j.bundles.count j.bundles.rows) (map (drawn_of edges shifted) (take l.drawn.count l.drawn.rows))
     trunks =
         ap (λ (n : ℕ). map (trunk_of (take n t.rows)) (take l.drawn.count l.drawn.rows)) of.count_is
-        ∙ trunks_same j.edges j.members edges shifted t of on.members_on kt on.edges_are (take ds.count j.bundles.rows) (take l.drawn.count l.drawn.rows) (take ds.count ds.rows) kept on.each_row bundle_windows
+        ∙ trunks_same (take j.edges.count j.edges.rows) (take j.members.count j.members.rows) edges shifted t of (omega (arith, of.rows_long, members_long, on.fits.members)) on.edges_are (take ds.count j.bundles.rows) (take l.drawn.count l.drawn.rows) (take ds.count ds.rows) kept on.each_row bundle_windows
         ∙ ap (λ (n : ℕ). bundles_told (take j.edges.count j.edges.rows) (take n j.bundles.rows) (map (drawn_of edges shifted) (take l.drawn.count l.drawn.rows))) on.all_drawn
 
-    pub sheet_same : sheet_of frame l.nodes j.edges after counts l.drawn t ≡ answer_of (finished j buffer p edges ds points counts taps rest)
+    pub sheet_same : sheet_of frame (take l.nodes.count l.nodes.rows) (take j.edges.count j.edges.rows) after counts (take l.drawn.count l.drawn.rows) (take t.count t.rows) ≡ answer_of (finished j buffer p edges ds points counts taps rest)
     unfolding page_told
     sheet_same =
         ap (λ (b : List Trunk). record { tap_visits = p.left.0; geometry_visits = rest; width = l.width; height = l.height; nodes = map spot_of (take l.nodes.count l.nodes.rows); routes = lines_of (take j.edges.count j.edges.rows) (routes_of after counts); bundles = b }) trunks

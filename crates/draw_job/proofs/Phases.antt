@@ -6,16 +6,18 @@ use mathlib.Core.Bool.{Bool, true, false, not, ◌&&◌, cond}
 use mathlib.Core.List.{List, [], map}
 use mathlib.Core.Logic.{◌⊎◌, inl, inr}
 use native.Mathlib.Omega.{arith}
-use lib.ListN.{length, take}
-use lib.Seq.{sets, length-take-le, get_or-take}
+use lib.ListN.{length, take, get_or}
+use lib.Seq.{sets, length-take-le, get_or-take, take-length}
 use Rattle.std.proofs.lemmas.List.{take-take}
 use lib.Ieee.{Float}
 use Rattle.limits.specs.Limits.{max_edges, max_members, answer_room, id_columns, tap_numbers, slot_numbers}
 use Rattle.route.specs.Slots.{routes_of, Held}
-use Rattle.board.specs.Tables.{Nodes}
+use Rattle.board.specs.declared.PlacedNode.{PlacedNode}
+use Rattle.board.specs.declared.DrawnBundle.{DrawnBundle}
+use Rattle.board.specs.declared.DrawnTap.{DrawnTap}
 use Rattle.board.specs.Board.{Board}
 use Rattle.board.specs.declared.Bundle.{Bundle}
-use Rattle.board.specs.declared.Member.{Member}
+use Rattle.board.specs.declared.Edge.{Edge}
 use Rattle.board.specs.Tables.{DrawnBundles}
 use Rattle.board.specs.Tables.{DrawnTaps}
 use Rattle.geometry.specs.Points.{Route}
@@ -29,6 +31,8 @@ use Rattle.plan.specs.Lent.{board_lent, OffsetsLent}
 use Rattle.plan.specs.Tables.{Planning}
 use Rattle.plan.specs.Depths.{offsets_of}
 use Rattle.plan.specs.Prepared.{plan_in, x_of}
+use Rattle.plan.specs.MemberColumns.{edges_of}
+use Rattle.plan.proofs.MemberColumns.{edge_got}
 use Rattle.drawing.specs.declared.GeometryVisits.{GeometryVisits}
 use Rattle.std.specs.Prelude.{Result, Ok, Err, ⊤}
 use Rattle.refusal.specs.declared.Refusal.{Refusal}
@@ -40,13 +44,13 @@ use Rattle.drawing.specs.Build.{Drawn}
 use Rattle.drawing.specs.Sheet.{Outcome, turns_from, sheet_of, blank, after_check}
 use Rattle.drawing.specs.Sheet as drawing
 use Rattle.drawing.specs.Normal.{page_of}
-use Rattle.turns.specs.TurnTables.{ends_as, standing, drawn_in, Full, Room, Listed, Rows}
+use Rattle.turns.specs.TurnTables.{ends_as, standing, drawn_in, Full, Room, Rows}
 use Rattle.normalize.specs.declared.Laid.{Laid}
 use Rattle.normalize.specs.PageTables.{heading, sheet_in, page_in}
 use Rattle.plan.specs.Plan.{plan_of}
 use Rattle.components.specs.declared.NoRoom.{NoRoom}
 use Rattle.components.specs.Settled.{step_in}
-use Rattle.answer.specs.Answer.{Sheet, answer_bytes, notice_bytes}
+use Rattle.answer.specs.Answer.{Sheet, trunk_of, answer_bytes, notice_bytes}
 use Rattle.answer.proofs.Stores.{notice_length}
 use Rattle.answer.specs.declared.Frame.{Frame}
 use Rattle.answer.specs.SheetTables as answer
@@ -62,9 +66,9 @@ use Rattle.outputs.specs.declared.Wants.{Wants}
 use Rattle.crossing_bytes.specs.Bytes.{list_bytes}
 use Rattle.crossing_promise.specs.SheetList.{list_of}
 use Rattle.outputs.specs.Outputs.{Outputs, notice, too_many, after_all, outputs_told}
-use Rattle.job_tables.proofs.Ready.{read_accepted, edges_in, bundles_in, members_in, tables_sound, routes_in, bundles_lent, given_lent}
+use Rattle.job_tables.proofs.Ready.{read_accepted, bundles_in, members_in, tables_sound, routes_in, bundles_lent, given_lent}
 use Rattle.job_tables.specs.Came.{Sizes, job_in, Came}
-use Rattle.draw_job.specs.JobTables.{Writes, TapsOf, OnSheet, Lent, finished}
+use Rattle.draw_job.specs.JobTables.{Writes, Ended, TapsOf, OnSheet, Lent, finished}
 use Rattle.draw_job.proofs.Answers.{sheet_same}
 
 -- ---- what is written
@@ -72,6 +76,16 @@ use Rattle.draw_job.proofs.Answers.{sheet_same}
 -- a refusal's notice, and no other output
 pub notice_writes : (before after : Outputs) (r n : ℕ) (o : Outputs) → o ≡ notice n → after.answer ≡ sets before.answer 0 (notice_bytes n) → after.page ≡ before.page → after.crossings ≡ before.crossings → r ≡ 6 → Writes before after r o
 notice_writes before after r n o e b p l c = subst (Writes before after r) (sym e) (record { answer = b; page = p; crossings = l; count = c ∙ sym (notice_length n) })
+
+-- of a Result: what was written, and the notice of a refusal, which nothing was written before
+pub written : (before after : Outputs) (d : Result ℕ Refusal) (n : ℕ) (o : Outputs) → d ≡ Ok n → Ended before after d o → Writes before after n o
+written before after d n o e w = subst (λ (r : Result ℕ Refusal). Ended before after r o) e w
+
+pub notice_after : (before left : Outputs) (d : Result ℕ Refusal) (e : Refusal) (o : Outputs) → d ≡ Err e → Ended before left d o
+    → (n : ℕ) → n ≡ refusal_number e → (answer : List ℕ) (r : ℕ) → answer ≡ sets left.answer 0 (notice_bytes n) → r ≡ 6 → Writes before (record { answer = answer; page = left.page; crossings = left.crossings }) r o
+notice_after before left d e o is w n h answer r b c =
+    let p : (o ≡ notice (refusal_number e)) × (left ≡ before) = subst (λ (x : Result ℕ Refusal). Ended before left x o) is w in
+    notice_writes before (record { answer = answer; page = left.page; crossings = left.crossings }) r n o (p.0 ∙ ap notice (sym h)) (b ∙ ap (λ (m : Outputs). sets m.answer 0 (notice_bytes n)) p.1) (ap (λ (m : Outputs). m.page) p.1) (ap (λ (m : Outputs). m.crossings) p.1) c
 
 pub writes_as : (before after : Outputs) (r : ℕ) (s t : Outputs) → s ≡ t → Writes before after r s → Writes before after r t
 writes_as before after r s t e w = subst (Writes before after r) e w
@@ -225,32 +239,28 @@ ended_clean r n x e = ap (λ (z : Result ⊤ Refusal). told z n) e
 pub ended_refused : (r : Result ⊤ Refusal) (n m : ℕ) (e : Refusal) → m ≡ refusal_number e → r ≡ Err e → told r n ≡ failed m n
 ended_refused r n m e h is = ap (λ (z : Result ⊤ Refusal). told z n) is ∙ ap (λ (k : ℕ). failed k n) (sym h)
 
--- what was in the slots does not matter
-pub lent_as : (j : code.Job) (edges lanes : List ℕ) (taps points points' : List Float) (counts : List ℕ) (mask : List Bool) (scratch : List Float) → length points' ≡ length points → Lent j edges lanes taps points counts mask scratch → Lent j edges lanes taps points' counts mask scratch
-lent_as j edges lanes taps points points' counts mask scratch e lent = record {
-  edges_long = lent.edges_long;
-  lanes_long = lent.lanes_long;
+-- what was in the slots does not matter, and the taps are cut to those of the members
+pub lent_as : (j : code.Job) (taps points points' : List Float) (counts : List ℕ) (mask : List Bool) (scratch : List Float) → length points' ≡ length points → Lent j taps points counts mask scratch → Lent j (take (2 * j.members.count) taps) points' counts mask scratch
+lent_as j taps points points' counts mask scratch e lent = record {
   counts_long = lent.counts_long;
-  room = record { places = lent.room.places; slots = omega (arith, lent.room.slots, e); masked = lent.room.masked };
+  room = record { places = omega (arith, length-take-le (2 * j.members.count) taps lent.room.places); slots = omega (arith, lent.room.slots, e); masked = lent.room.masked };
   spare = lent.spare;
 }
 
 -- the sheet after the last turn, all bundles drawn
-module _ (j : code.Job) (buffer : List Float) (from : Came j buffer) (sizes : Sizes j) (t : BoardTables) (same : board_lent t ≡ (job_in j buffer).board) (edges lanes : List ℕ) (taps points : List Float) (counts : List ℕ) (mask : List Bool) (scratch : List Float) (lent : Lent j edges lanes taps points counts mask scratch)
-    (v : Verdict) (ds : DrawnBundles) (edges' lanes' : List ℕ) (taps' points' : List Float) (counts' : List ℕ) (taps_kept : length taps' ≡ length taps) (Points-kept : length points' ≡ length points) (counts_kept : length counts' ≡ length counts) where
-  pub on_sheet : (q : GeometryVisits) → v ≡ Clean q → Listed edges' lanes' t.members.now (length t.members.now) → Rows (take ds.count t.bundles.now) (take ds.count ds.rows) → Full v ds.count (length t.bundles.now) → Held counts'
-      → OnSheet j edges' ds points' counts' taps'
-  on_sheet q e listed each full held =
+module _ (j : code.Job) (buffer : List Float) (from : Came j buffer) (sizes : Sizes j) (t : BoardTables) (same : board_lent t ≡ (job_in j buffer).board) (taps points : List Float) (counts : List ℕ) (mask : List Bool) (scratch : List Float) (lent : Lent j taps points counts mask scratch)
+    (v : Verdict) (ds : DrawnBundles) (taps' points' : List Float) (counts' : List ℕ) (taps_kept : length taps' ≡ length taps) (Points-kept : length points' ≡ length points) (counts_kept : length counts' ≡ length counts) where
+  pub on_sheet : (q : GeometryVisits) → v ≡ Clean q → Rows (take ds.count t.bundles.now) (take ds.count ds.rows) → Full v ds.count (length t.bundles.now) → Held counts'
+      → OnSheet j (edges_of t.members.now) ds points' counts' taps'
+  on_sheet q e each full held =
       let all = full_clean v q ds.count (length t.bundles.now) e full ∙ bundles_lent j buffer from sizes t same in
       let bundles = length-take-le j.bundles.count j.bundles.rows (bundles_in j buffer from sizes) in
       let members = length-take-le j.members.count j.members.rows (members_in j buffer from sizes) in
-      let edges = length-take-le j.edges.count j.edges.rows (edges_in j buffer from sizes) in
-      let of_members : Listed edges' lanes' (take j.members.count j.members.rows) (length (take j.members.count j.members.rows)) = subst (λ (b : Board). Listed edges' lanes' b.members (length b.members)) same listed in
       record {
         fits = from.fits;
-        members_on = λ i h. omega (arith, ap (λ (m : Member). m.edge) (get_or-take j.members.count j.members.rows i no_member h), (routes_in j buffer from sizes).members_on i (omega (arith, h, members)), edges);
+        members_on = (routes_in j buffer from sizes).members_on;
         windows = λ i h. omega (arith, ap (λ (u : Bundle). u.first + u.count) (get_or-take j.bundles.count j.bundles.rows i no_bundle (omega (arith, h, all))), ((tables_sound j buffer from sizes).bundles_on i (omega (arith, h, all, bundles))).members_in, members);
-        edges_are = λ k h. (of_members k (omega (arith, h, members))).0 ∙ ap (λ (m : Member). m.edge) (get_or-take j.members.count j.members.rows k no_member h);
+        edges_are = λ k. edge_got t.members.now k ∙ ap (λ (b : Board). (get_or b.members k no_member).edge) same;
         all_drawn = all;
         each_row = subst (λ (us : List Bundle). Rows us (take ds.count ds.rows)) (ap (λ (b : Board). take ds.count b.bundles) same ∙ take-take ds.count j.bundles.count j.bundles.rows (omega (arith, all))) each;
         slots = omega (arith, lent.room.slots, Points-kept, counts_kept);
@@ -286,16 +296,16 @@ module _ (j : code.Job) (buffer : List Float) (from : Came j buffer) (sizes : Si
   all_drawn q e = phase_going j buffer given plan r is p on_going ∙ sheet_clean j buffer from sizes t lent p offsets v (routes_of points counts) (drawn_in edges taps ds) as_offsets ends q e
 
   -- the answer of the tables after the last shift
-  pub all_told : (q : GeometryVisits) → OnSheet j edges ds points counts taps → (l : Laid) (after shifted : List Float) (rows : DrawnTaps) → TapsOf j.edges j.members shifted rows → page_in edges l after counts shifted ≡ page_of (sheet_in edges j.nodes ds points counts taps)
+  pub all_told : (q : GeometryVisits) → OnSheet j edges ds points counts taps → (l : Laid) (after shifted : List Float) (rows : DrawnTaps) → TapsOf (take j.edges.count j.edges.rows) (take j.members.count j.members.rows) shifted rows → page_in edges l after counts shifted ≡ page_of (sheet_in edges (take j.nodes.count j.nodes.rows) (take ds.count ds.rows) points counts taps)
       → l.drawn.count ≡ ds.count → map heading (take l.drawn.count l.drawn.rows) ≡ map heading (take ds.count ds.rows)
-      → answer.sheet_of (record { tap_visits = p.left.0; geometry_visits = q.0; width = l.width; height = l.height }) l.nodes j.edges after counts l.drawn rows ≡ answer_of (finished j buffer p edges ds points counts taps q.0)
-  all_told q on l after shifted rows of page as_many kept = sheet_same j edges ds points counts taps on sizes buffer p q.0 l after shifted rows of (omega (arith, on.fits.members, of.rows_long)) page as_many kept
+      → answer.sheet_of (record { tap_visits = p.left.0; geometry_visits = q.0; width = l.width; height = l.height }) (take l.nodes.count l.nodes.rows) (take j.edges.count j.edges.rows) after counts (take l.drawn.count l.drawn.rows) (take rows.count rows.rows) ≡ answer_of (finished j buffer p edges ds points counts taps q.0)
+  all_told q on l after shifted rows of page as_many kept = sheet_same j edges ds points counts taps on sizes buffer p q.0 l after shifted rows of page as_many kept
 
   -- 16 was looked at: each bundle of the table can be printed
-  pub all_printable : j.flags.on_grid ≡ true → (q : GeometryVisits) → v ≡ Clean q → (a : Frame) (nodes : Nodes) (after : List Float) (b : DrawnBundles) (rows : DrawnTaps)
-      → answer.sheet_of a nodes j.edges after counts b rows ≡ answer_of (finished j buffer p edges ds points counts taps q.0) → b.count ≤ length b.rows → Printables b.count b.rows
-  all_printable on q e a nodes after b rows same h =
+  pub all_printable : j.flags.on_grid ≡ true → (q : GeometryVisits) → v ≡ Clean q → (a : Frame) (nodes : List PlacedNode) (es : List Edge) (after : List Float) (b : List DrawnBundle) (rows : List DrawnTap)
+      → answer.sheet_of a nodes es after counts b rows ≡ answer_of (finished j buffer p edges ds points counts taps q.0) → Printables (length b) b
+  all_printable on q e a nodes es after b rows same =
       let whole = phase_whole given from.bytes plan (job_in j buffer) from.is on (plan_in j.bundles.count p) (phase_taken j buffer given plan r is p on_going) in
       let going = sheet_going j buffer from sizes t lent p offsets v (routes_of points counts) (drawn_in edges taps ds) as_offsets ends q e in
-      printables b.count b.rows (take rows.count rows.rows) h
-      (subst (λ (z : Sheet). PageFits z.bundles) (sym same) (page_fits from.bytes (job_in j buffer) from.is on (plan_in j.bundles.count p) whole (standing (routes_of points counts) (drawn_in edges taps ds) q.0) going))
+      printables (length b) b rows (omega arith)
+      (subst (λ (l : List DrawnBundle). PageFits (map (trunk_of rows) l)) (sym (take-length b)) (subst (λ (z : Sheet). PageFits z.bundles) (sym same) (page_fits from.bytes (job_in j buffer) from.is on (plan_in j.bundles.count p) whole (standing (routes_of points counts) (drawn_in edges taps ds) q.0) going)))

@@ -39,11 +39,9 @@ module _ (j : code.Job) (buffer : List Float) (came : Came j buffer) (sizes : Si
   once_a_role = subst (λ (b : Board). Once b.members b.bundles) (sym lent) (once (job_in j buffer) (good j buffer came sizes))
 
   -- the slices are as long as the tables, and have room
-  module _ (edges lanes : List ℕ) (taps points : List Float) (counts : List ℕ) (mask : List Bool) (scratch : List Float) (work : Lent j edges lanes taps points counts mask scratch) where
-    pub exact : (length edges ≡ length t.members.now) × (length lanes ≡ length t.members.now) × (length counts ≡ length t.edges.now)
-    exact =
-        let members = members_lent j buffer came sizes t lent in
-        (omega (arith, work.edges_long, members), omega (arith, work.lanes_long, members), omega (arith, work.counts_long, edges_lent j buffer came sizes t lent))
+  module _ (taps points : List Float) (counts : List ℕ) (mask : List Bool) (scratch : List Float) (work : Lent j taps points counts mask scratch) where
+    pub exact : length counts ≡ length t.edges.now
+    exact = omega (arith, work.counts_long, edges_lent j buffer came sizes t lent)
 
     pub room : Room (length t.members.now) taps points counts mask
     room = subst (λ (n : ℕ). Room n taps points counts mask) (sym (members_lent j buffer came sizes t lent)) work.room

@@ -7,17 +7,17 @@
 #![tactic(auto)]
 
 ghost use Rattle.std.specs.Prelude.{◌≡◌, false, ℕ, ◌*◌, ◌≤◌, length};
-ghost use Rattle.limits.specs.Limits.{max_edges, max_members, page_room, crossings_room, candidate_room, search_work};
+ghost use Rattle.limits.specs.Limits.{max_members, page_room, crossings_room, candidate_room, search_work};
 ghost use Rattle.components.specs.Settled.{step_in};
 ghost use Rattle.promise.specs.Stage.{told_bytes};
 ghost use Rattle.plan_stage.specs.Entries.{after_search, plan_phase, after_taking};
 ghost use Rattle.plan_reader.specs.Reading.{told_plan};
 ghost use Rattle.outputs.specs.Outputs.{lacks, after_all, outputs_told};
 ghost use Rattle.job_tables.specs.Came.{job_in, Came};
-ghost use Rattle.draw_job.specs.JobTables.{Writes, TapsOf, MembersOn, Lent};
+ghost use Rattle.draw_job.specs.JobTables.{Writes, Ended, TapsOf, MembersOn, Lent};
 
 use answer::Frame;
-use board::{DrawnTap, DrawnTaps, Edges, Members};
+use board::{DrawnTap, DrawnTaps, Edge, Member};
 use components::NoRoom;
 use drawing::GeometryVisits;
 use geometry::Point;
@@ -30,40 +30,32 @@ use route::PresentRoutes;
 use search::TapVisits;
 use turns::TurnWork;
 
-// What a sheet is drawn in, lent, beside the slots of the present routes: of each member its edge, its
-// tap lane and its tap as x and y, of each route how many points it has, and the mask and the scratch of
-// a turn. That scratch has room is asked, and no TurnWork is a field: of a struct that holds a `&mut` the
-// borrow checker covers neither a ghost field, where it is written through in a loop, nor a field lent as
-// `&mut` itself.
+// What a sheet is drawn in, lent, beside the slots of the present routes: of each member its tap as x and y,
+// of each route how many points it has, and the mask and the scratch of a turn. That scratch has room is
+// asked, and no TurnWork is a field: of a struct that holds a `&mut` the borrow checker covers neither a
+// ghost field, where it is written through in a loop, nor a field lent as `&mut` itself.
 #[derive(Drop)]
 pub struct SheetWork<'a> {
-    pub edges: &'a mut [usize],
-    pub lanes: &'a mut [u32],
     pub taps: &'a mut [f64],
     pub counts: &'a mut [usize],
     pub mask: &'a mut [bool],
     pub scratch: &'a mut [f64],
 }
 
-// The same, for a board of so many members and routes.
-pub fn work_for<'a>(work: SheetWork<'a>, members: usize, routes: usize) -> SheetWork<'a>
-    requires { (members ≤ length work.edges.now) × (members ≤ length work.lanes.now) × (routes ≤ length work.counts.now) }
-    ensures members { (length result.edges.now ≡ members) × (length result.lanes.now ≡ members) }
+// The same, for a board of so many routes.
+pub fn work_for<'a>(work: SheetWork<'a>, routes: usize) -> SheetWork<'a>
+    requires { routes ≤ length work.counts.now }
     ensures routes { length result.counts.now ≡ routes }
     ensures taps { length result.taps.now ≡ length work.entry.taps.now }
     ensures turn { (length result.mask.now ≡ length work.entry.mask.now) × (length result.scratch.now ≡ length work.entry.scratch.now) }
 {
     let SheetWork {
-        edges,
-        lanes,
         taps,
         counts,
         mask,
         scratch,
     } = work;
     SheetWork {
-        edges: &mut edges[..members],
-        lanes: &mut lanes[..members],
         taps,
         counts: &mut counts[..routes],
         mask,
@@ -74,22 +66,22 @@ pub fn work_for<'a>(work: SheetWork<'a>, members: usize, routes: usize) -> Sheet
 // ---- the sheet (10, 11, 12, 14) and the answer
 
 // A tap for each member, with the id of its edge.
-pub fn tap_rows(table: Edges, members: Members, taps: &[f64]) -> DrawnTaps
-    requires count_le_max_members { (members.count ≤ max_members) × (table.count ≤ max_edges) × (2 * members.count ≤ length taps.now) }
-    requires members_on { MembersOn table members }
-    ensures { TapsOf table members taps.now result }
+pub fn tap_rows(table: &[Edge], members: &[Member], taps: &[f64]) -> DrawnTaps
+    requires members_le_max_members { (length members.now ≤ max_members) × (2 * length members.now ≤ length taps.now) }
+    requires members_on { MembersOn table.now members.now }
+    ensures { TapsOf table.now members.now taps.now result }
 {
     let p = Point { x: 0.0, y: 0.0 };
     let mut rows = [DrawnTap { edge: 0, point: p }; MAX_MEMBERS];
-    for i in 0..members.count {
+    for (i, m) in members.iter().enumerate() {
         rows[i] = DrawnTap {
-            edge: table.rows[members.rows[i].edge].id,
+            edge: table[m.edge].id,
             point: route_views::point_at(taps, i),
         };
     }
     DrawnTaps {
         rows,
-        count: members.count,
+        count: members.len(),
     }
 }
 
@@ -102,11 +94,12 @@ fn own_plan(s: Result<Planning, NoRoom>) -> Result<Planning, Refusal>
 }
 
 // The plan, one that is given (17, 18) or our own (13), the sheet of it and the last shift, in lent
-// slices; the answer, the page and the list of crossings, or the notice of a refusal. One function for
-// all of it: a table that is handed on by value is copied. The three outputs stay apart: of a struct that
-// lends them each contract would have to say besides that it still lends the same memory. The search
-// keeps its stretches and sorts in the slots of the present routes: nothing is in them before the sheet.
-pub fn draw_in(
+// slices; the answer, the page and the list of crossings, or a refusal, and nothing is written then. One
+// function for all of it: a job that is handed on by value is copied. The three outputs stay apart: of a
+// struct that lends them each contract would have to say besides that it still lends the same memory. The
+// search keeps its stretches and sorts in the slots of the present routes: nothing is in them before the
+// sheet.
+fn drawn_in(
     wants: Wants,
     j: Job,
     plan: &[u8],
@@ -117,12 +110,12 @@ pub fn draw_in(
     answer: &mut [u8],
     page: &mut [u8],
     crossings: &mut [u8],
-) -> usize
-    requires came { Came j given.now × (6 ≤ length answer.old) × (lacks wants.page (length page.old) page_room ≡ false) × (lacks wants.crossings (length crossings.old) crossings_room ≡ false) }
+) -> Result<usize, Refusal>
+    requires came { Came j given.now × (lacks wants.page (length page.old) page_room ≡ false) × (lacks wants.crossings (length crossings.old) crossings_room ≡ false) }
     requires plan_in_bounds { length (told_bytes (after_taking (job_in j given.now) (plan_phase wants.plan (job_in j given.now) plan.now))) ≤ length answer.old }
     requires search_work_in_bounds { (search_work ≤ length points.old) × (length sorted.old ≡ candidate_room) }
-    requires lent { Lent j work.edges.now work.lanes.now work.taps.now points.old work.counts.now work.mask.now work.scratch.now }
-    ensures { Writes (record { answer = answer.old; page = page.old; crossings = crossings.old }) (record { answer = answer.new; page = page.new; crossings = crossings.new }) result (outputs_told wants (after_all wants (after_taking (job_in j given.now) (plan_phase wants.plan (job_in j given.now) plan.now)))) }
+    requires lent { Lent j work.taps.now points.old work.counts.now work.mask.now work.scratch.now }
+    ensures { Ended (record { answer = answer.old; page = page.old; crossings = crossings.old }) (record { answer = answer.new; page = page.new; crossings = crossings.new }) result (outputs_told wants (after_all wants (after_taking (job_in j given.now) (plan_phase wants.plan (job_in j given.now) plan.now)))) }
 {
     let board = job_tables::board_tables(&j);
     let offsets = plan_depths::corridor_depth_offsets(board);
@@ -139,67 +132,59 @@ pub fn draw_in(
             &mut points[..SEARCH_WORK],
         ))
     };
-    let made = match p {
-        Ok(made) => made,
-        Err(r) => return answer::write_notice(answer, u8::from(r)),
-    };
+    let made = p?;
     let mut visits = GeometryVisits(j.grants.geometry_visits);
     let SheetWork {
-        edges,
-        lanes,
         taps,
         counts,
         mask,
         scratch,
     } = work;
+    let taps = &mut taps[..2 * j.members.count];
     let mut turn_work = TurnWork {
         mask: &mut mask[..],
         scratch: &mut scratch[..],
     };
+    // sheet_replay has the same call; see there.
     let d = turns::draw_sheet(
         board,
         j.flags.permits_crossings,
         made.rows,
         offsets,
         given,
-        edges,
-        lanes,
         taps,
         points,
         counts,
         &mut turn_work,
         &mut visits,
     );
-    match d.ended {
-        Ok(()) => (),
-        Err(refusal) => return answer::write_notice(answer, u8::from(refusal)),
-    }
+    d.ended?;
     // Lent anew: the borrow checker covers no struct made of a `&mut` that was moved out of a parameter's field.
     let counts = &mut counts[..];
+    let drawn = d.drawn.as_slice();
     let off_grid = wants.page & !j.flags.on_grid;
     if wants.crossings {
-        match crossing_output::list_crossings(
+        crossing_output::list_crossings(
             j.flags.permits_crossings,
             off_grid,
-            j.edges,
-            d.drawn,
+            board.edges,
+            drawn,
             PresentRoutes {
                 points,
                 counts: &counts[..],
             },
             crossings,
-        ) {
-            Ok(()) => (),
-            Err(r) => return answer::write_notice(answer, u8::from(r)),
-        }
+        )?;
     }
     if off_grid {
-        return answer::write_notice(answer, u8::from(Refusal::PageOffGrid));
+        return Err(Refusal::PageOffGrid);
     }
-    let l = normalize::normalize_layout(j.nodes, d.drawn, points, counts, taps, j.members.count);
-    let t = tap_rows(j.edges, j.members, taps);
+    let l = normalize::normalize_layout(board.nodes, drawn, points, counts, taps);
+    let t = tap_rows(board.edges, board.members, taps);
+    let nodes = l.nodes.as_slice();
+    let shifted = l.drawn.as_slice();
     if wants.page {
-        page_writer::put_page(page, l.drawn);
+        page_writer::put_page(page, shifted);
     }
     let frame = Frame {
         tap_visits: made.left.0,
@@ -211,5 +196,41 @@ pub fn draw_in(
         points,
         counts: &counts[..],
     };
-    answer::write_answer(answer, frame, l.nodes, j.edges, present, l.drawn, t)
+    Ok(answer::write_answer(
+        answer,
+        frame,
+        nodes,
+        board.edges,
+        present,
+        shifted,
+        t.as_slice(),
+    ))
+}
+
+// The same, with the notice of a refusal.
+pub fn draw_in(
+    wants: Wants,
+    j: Job,
+    plan: &[u8],
+    given: &[f64],
+    sorted: &mut [f64],
+    work: SheetWork,
+    points: &mut [f64],
+    answer: &mut [u8],
+    page: &mut [u8],
+    crossings: &mut [u8],
+) -> usize
+    requires came { Came j given.now × (6 ≤ length answer.old) × (lacks wants.page (length page.old) page_room ≡ false) × (lacks wants.crossings (length crossings.old) crossings_room ≡ false) }
+    requires plan_in_bounds { length (told_bytes (after_taking (job_in j given.now) (plan_phase wants.plan (job_in j given.now) plan.now))) ≤ length answer.old }
+    requires search_work_in_bounds { (search_work ≤ length points.old) × (length sorted.old ≡ candidate_room) }
+    requires lent { Lent j work.taps.now points.old work.counts.now work.mask.now work.scratch.now }
+    ensures { Writes (record { answer = answer.old; page = page.old; crossings = crossings.old }) (record { answer = answer.new; page = page.new; crossings = crossings.new }) result (outputs_told wants (after_all wants (after_taking (job_in j given.now) (plan_phase wants.plan (job_in j given.now) plan.now)))) }
+{
+    let ended = drawn_in(
+        wants, j, plan, given, sorted, work, points, answer, page, crossings,
+    );
+    match ended {
+        Ok(length) => length,
+        Err(r) => answer::write_notice(answer, u8::from(r)),
+    }
 }

@@ -72,7 +72,7 @@ pub fn read_bundles<'a>(
     let mut total = 0;
     for i in 0..count {
         let b = job_records::bundle_head_at(s, at, total)?;
-        let role_key = job_records::number_of_role(b.role);
+        let role_key = u64::from(b.role);
         for j in 0..b.count {
             let x = job_records::member_at(s, at + 19 + 6 * j, b.role)?;
             let row = member_row(x, tables);

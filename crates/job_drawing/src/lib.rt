@@ -38,7 +38,7 @@ pub fn read_and_draw(
 ) -> usize
     requires given_len { (length given.old ≡ point_numbers) × (answer_room ≤ length answer.old) × (lacks wants.page (length page.old) page_room ≡ false) × (lacks wants.crossings (length crossings.old) crossings_room ≡ false) }
     requires sorted_len { length sorted.old ≡ candidate_room }
-    requires edges_len { (length work.edges.now ≡ max_members) × (length work.lanes.now ≡ max_members) × (length work.taps.now ≡ tap_numbers) × (length work.counts.now ≡ max_edges) × (max_edges ≤ length work.mask.now) × (slot_numbers ≤ length work.scratch.now) }
+    requires edges_len { (length work.taps.now ≡ tap_numbers) × (length work.counts.now ≡ max_edges) × (max_edges ≤ length work.mask.now) × (slot_numbers ≤ length work.scratch.now) }
     ensures { Writes (record { answer = answer.old; page = page.old; crossings = crossings.old }) (record { answer = answer.new; page = page.new; crossings = crossings.new }) result (outputs_told wants (after_all wants (told_with wants.plan job.now plan.now))) }
 {
     let j = match job_reader::read_job(job, given) {
@@ -46,7 +46,7 @@ pub fn read_and_draw(
         Err(r) => return answer::write_notice(answer, u8::from(r)),
     };
     let n = j.edges.count;
-    let drawn = draw_job::work_for(work, j.members.count, n);
+    let drawn = draw_job::work_for(work, n);
     if n <= FEW_ROUTES {
         let mut few = [0.0; FEW_SLOT_NUMBERS];
         return draw_job::draw_in(

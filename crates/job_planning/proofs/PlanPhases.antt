@@ -33,11 +33,21 @@ use Rattle.job_tables.proofs.Ready.{read_accepted, bundles_lent, given_lent}
 use Rattle.job_tables.specs.Came.{Sizes, job_in, Came}
 use Rattle.promise.specs.Stage.{planned}
 use Rattle.plan_stage.specs.Entries.{after_search, plan_after_reading, plan_told, plan_told_bytes, plan_written, planner_of}
-use Rattle.job_planning.specs.PlanWrites.{PlanWrites}
+use Rattle.job_planning.specs.PlanWrites.{PlanWrites, PlanEnded}
 
 pub notice_writes : (before after : List ℕ) (r n : ℕ) (t : Taken) → t ≡ rejected n → after ≡ sets before 0 (notice_bytes n) → r ≡ 6 → PlanWrites before after r t
 unfolding plan_told_bytes
 notice_writes before after r n t e b c = record { bytes = rw e b; count = rw e (c ∙ sym (notice_length n)) }
+
+-- of a Result: what was written, and the notice of a refusal, which nothing was written before
+pub written : (before after : List ℕ) (d : Result ℕ Refusal) (n : ℕ) (t : Taken) → d ≡ Ok n → PlanEnded before after d t → PlanWrites before after n t
+written before after d n t e w = subst (λ (x : Result ℕ Refusal). PlanEnded before after x t) e w
+
+pub notice_after : (before left : List ℕ) (d : Result ℕ Refusal) (e : Refusal) (t : Taken) → d ≡ Err e → PlanEnded before left d t
+    → (n : ℕ) → n ≡ refusal_number e → (after : List ℕ) (r : ℕ) → after ≡ sets left 0 (notice_bytes n) → r ≡ 6 → PlanWrites before after r t
+notice_after before left d e t is w n h after r b c =
+    let p : (t ≡ rejected (refusal_number e)) × (left ≡ before) = subst (λ (x : Result ℕ Refusal). PlanEnded before left x t) is w in
+    notice_writes before after r n t (p.0 ∙ ap rejected (sym h)) (b ∙ ap (λ (l : List ℕ). sets l 0 (notice_bytes n)) p.1) c
 
 pub plan_writes : (before after : List ℕ) (r : ℕ) (p : planning.Plan) (t : Taken) → t ≡ taken p → after ≡ sets before 0 (plan_bytes p) → r ≡ length (plan_bytes p) → PlanWrites before after r t
 unfolding plan_told_bytes

@@ -11,7 +11,7 @@ ghost use Rattle.limits.specs.Limits.{point_numbers, candidate_room, search_work
 ghost use Rattle.promise.specs.Stage.{planned};
 ghost use Rattle.job_tables.specs.Came.{job_in, Came};
 ghost use Rattle.plan_stage.specs.Entries.{after_search, plan_told};
-ghost use Rattle.job_planning.specs.PlanWrites.{PlanWrites};
+ghost use Rattle.job_planning.specs.PlanWrites.{PlanWrites, PlanEnded};
 
 use job::Job;
 use refusal::Refusal;
@@ -19,15 +19,21 @@ use search::TapVisits;
 
 // That the points are the job's is a fact of the job and the slice that it was read into.
 
-// The plan (13) of a job that was read: its bytes, or the notice of 13.
-fn plan_in(j: Job, given: &[f64], sorted: &mut [f64], work: &mut [f64], plan: &mut [u8]) -> usize
+// The plan (13) of a job that was read: its bytes, or 13 and nothing written.
+fn plan_in(
+    j: Job,
+    given: &[f64],
+    sorted: &mut [f64],
+    work: &mut [f64],
+    plan: &mut [u8],
+) -> Result<usize, Refusal>
     requires came { Came j given.now × (plan_room ≤ length plan.old) }
     requires sorted_len { (length sorted.old ≡ candidate_room) × (length work.old ≡ search_work) }
-    ensures { PlanWrites plan.old plan.new result (after_search (planned (job_in j given.now))) }
+    ensures { PlanEnded plan.old plan.new result (after_search (planned (job_in j given.now))) }
 {
     let t = job_tables::board_tables(&j);
     let offsets = plan_depths::corridor_depth_offsets(t);
-    let s = planner::plan_interior_collectors(
+    let made = planner::plan_interior_collectors(
         t,
         offsets,
         given,
@@ -35,14 +41,11 @@ fn plan_in(j: Job, given: &[f64], sorted: &mut [f64], work: &mut [f64], plan: &m
         TapVisits(j.grants.tap_visits),
         sorted,
         work,
-    );
-    match s {
-        Ok(p) => plan_writer::write_plan(plan, p, j.bundles.count),
-        Err(e) => answer::write_notice(plan, u8::from(Refusal::from(e))),
-    }
+    )?;
+    Ok(plan_writer::write_plan(plan, &made.rows[..j.bundles.count], made.left))
 }
 
-// Reads the job and plans it.
+// Reads the job and plans it. The reader's refusal and the plan's have one notice, at the end.
 pub fn read_and_plan(
     job: &[u8],
     given: &mut [f64],
@@ -54,8 +57,12 @@ pub fn read_and_plan(
     requires sorted_len { (length sorted.old ≡ candidate_room) × (length work.old ≡ search_work) }
     ensures { PlanWrites plan.old plan.new result (plan_told job.now) }
 {
-    match job_reader::read_job(job, given) {
+    let ended = match job_reader::read_job(job, given) {
         Ok(j) => plan_in(j, given, sorted, work, plan),
+        Err(r) => Err(r),
+    };
+    match ended {
+        Ok(length) => length,
         Err(r) => answer::write_notice(plan, u8::from(r)),
     }
 }

@@ -65,10 +65,6 @@ point_numbers = 2 * max_points
 abbrev pub tap_numbers : ℕ
 tap_numbers = 2 * max_members
 
--- a mark for each two bundles, in either order
-abbrev pub bundle_pairs : ℕ
-bundle_pairs = max_bundles * max_bundles
-
 -- ---- present routes
 
 -- "A rewritten route has at most two points more per rewriting", and an edge stands once in one role's bundles

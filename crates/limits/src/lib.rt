@@ -41,17 +41,11 @@ pub const PLAN_ROOM: usize = 4 + 1 + 4 + 9 * MAX_BUNDLES;
 
 // ---- tables
 
-// The keys of a table: as many as the longest has rows.
-pub const KEY_ROOM: usize = MAX_EDGES;
-
 // The coordinates of all given points.
 pub const POINT_NUMBERS: usize = 2 * MAX_POINTS;
 
 // The coordinates of all taps.
 pub const TAP_NUMBERS: usize = 2 * MAX_MEMBERS;
-
-// A mark for each two bundles, in either order.
-pub const BUNDLE_PAIRS: usize = MAX_BUNDLES * MAX_BUNDLES;
 
 // ---- present routes
 
@@ -146,7 +140,7 @@ pub const PAGE_ROOM: usize = MAX_BUNDLES * LINE_BYTES;
 // F-7: "19 when .. there are more than 1,024 crossings".
 pub const MAX_CROSSINGS: usize = 1024;
 
-// The coordinates of that many places; the ids of that many entries.
+// The coordinates of that many places.
 pub const CROSSING_NUMBERS: usize = 2 * MAX_CROSSINGS;
 
 // An entry of the list: a point and two ids.

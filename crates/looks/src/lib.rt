@@ -59,12 +59,12 @@ pub fn clashes(rules: Rules, bus: Segment, tap: Option<Point>, run: Segment) -> 
 }
 
 // A route's tap among those of a bundle.
-#[tactic(auto, using(checks::proofs::TestSteps::tap_here, checks::proofs::TestSteps::tap_next, checks::proofs::TestSteps::tap_none))]
+#[tactic(auto, using(checks::proofs::TestSteps::tap_here, checks::proofs::TestSteps::tap_next, checks::proofs::TestSteps::tap_none, plan::proofs::MemberColumns::edge_there, plan::proofs::MemberColumns::edges_long))]
 pub fn tap_on_route(own: BundleTaps, e: usize) -> Option<Point>
     ensures { result ≡ tap_of (taps_lent own.entry) e }
 {
     for i in own.first..own.first + own.count {
-        if own.table.edges[i] == e {
+        if own.table.members[i].edge == e {
             return Some(route_views::point_at(own.table.taps, i));
         }
     }

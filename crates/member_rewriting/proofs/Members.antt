@@ -18,6 +18,10 @@ use Rattle.geometry.specs.Points.{Route, point_at, points_from}
 use Rattle.route.specs.Window.{points_length}
 use Rattle.route.specs.Slots.{routes_of, Held, Stored, held_set, slot_is}
 use Rattle.route.specs.Contract.{told, left_in, Leaves}
+use Rattle.board.specs.declared.Member.{Member}
+use Rattle.plan.specs.BoardTables.{no_member}
+use Rattle.plan.specs.MemberColumns.{edges_of, lanes_of}
+use Rattle.plan.proofs.MemberColumns.{edge_got, lane_got}
 use Rattle.drawing.specs.Build.{route_at}
 use Rattle.drawing.specs.Rewrite.{rewritten, two_points, corridor_depth, rewrite_one, put_route, then_routes, rewrite_all}
 use Rattle.checks.specs.CheckRows.{taps_from}
@@ -117,6 +121,10 @@ module _ (inside : Bool) (role : Role) (pitch offset : Float) (edges lanes : Lis
   pub all_end : (i : ℕ) (p : List Float) (c : List ℕ) → count ≤ i → routes_in true p c ≡ rest_all i (routes_of p c)
   unfolding rewrite_all taps_from members_from routes_in
   all_end i p c h = let a : count - i ≡ 0 = omega arith in rw a
+
+-- what is made of a member's route, by its row
+pub one_read : (inside : Bool) (role : Role) (pitch offset : Float) (ms : List Member) (taps : List Float) (first i count : ℕ) (rs : List Route) → one_of inside role pitch offset (edges_of ms) (lanes_of ms) taps first count i rs ≡ put_route (rewrite_with inside role pitch (depth_at offset pitch (get_or ms (first + i) no_member).tap_lane) (point_at taps (first + i)) (route_at rs (get_or ms (first + i) no_member).edge)) (get_or ms (first + i) no_member).edge rs
+one_read inside role pitch offset ms taps first i count rs = rw (edge_got ms (first + i), lane_got ms (first + i))
 
 pub roomy_next : (edges : List ℕ) (first i count : ℕ) (p q : List Float) (c d : List ℕ) → Roomy edges first i count p c → CountsKept c d (get_or edges (first + i) 0) → length d ≡ length c → length q ≡ length p → i < count → Roomy edges first (i + 1) count q d
 roomy_next edges first i count p q c d r k x y h =

@@ -13,6 +13,7 @@ ghost use Rattle.refusal.specs.declared.Refusal.TheVariants.{TapUnreachable};
 ghost use Rattle.route.specs.Slots.{routes_of, Held};
 ghost use Rattle.route.specs.Contract.{Leaves};
 ghost use Rattle.plan.specs.Depths.{number};
+ghost use Rattle.plan.specs.MemberColumns.{edges_of, lanes_of};
 ghost use Rattle.drawing.specs.Build.{route_at};
 ghost use Rattle.drawing.specs.Rewrite.{rewritten, put_route, rewrite_all};
 ghost use Rattle.checks.specs.CheckRows.{taps_from};
@@ -101,6 +102,7 @@ fn rewrite_member(
     if n < 2 {
         return Err(Refusal::TapUnreachable);
     }
+    // By hand: slot_of says which route it is, and not that it has n points.
     let given = RouteView {
         points: &points[..],
         start: SLOT_POINTS * e,
@@ -122,6 +124,7 @@ fn rewrite_member(
 }
 
 // Every member's route rewritten. Where one cannot be (10), what the slots hold is not said.
+#[tactic(auto, using(plan::proofs::MemberColumns::edge_got))]
 pub fn rewrite_member_routes(
     lead: Lead,
     offset: f64,
@@ -131,24 +134,24 @@ pub fn rewrite_member_routes(
     counts: &mut [usize],
     scratch: &mut [f64],
 ) -> Result<(), Refusal>
-    requires roomy { Roomy members.table.edges.now members.first 0 members.count points.old counts.old }
-    requires small { (k : ℕ) → get_or members.table.lanes.now k 0 ≤ max_lane }
+    requires roomy { Roomy (edges_of members.rows.now) members.first 0 members.count points.old counts.old }
+    requires small { (k : ℕ) → get_or (lanes_of members.rows.now) k 0 ≤ max_lane }
     requires tapped { 2 * (members.first + members.count) ≤ length taps.now }
     requires scratch { slot_numbers ≤ length scratch.old }
-    ensures told { routes_in (is_ok result) points.new counts.new ≡ rewrite_all lead.inside lead.role lead.pitch offset (taps_from members.entry.table.edges.now taps.now members.entry.first members.entry.count) (rows_lent members.entry) (routes_of points.old counts.old) }
+    ensures told { routes_in (is_ok result) points.new counts.new ≡ rewrite_all lead.inside lead.role lead.pitch offset (taps_from (edges_of members.entry.rows.now) taps.now members.entry.first members.entry.count) (rows_lent members.entry) (routes_of points.old counts.old) }
     ensures refusal { IfErr result (λ r. r ≡ TapUnreachable) }
     ensures hold { Held counts.new }
 {
     for i in 0..members.count {
         let k = members.first + i;
-        let depth = corridor_depth(offset, lead.pitch, members.table.lanes[k]);
+        let m = members.rows[k];
+        let depth = corridor_depth(offset, lead.pitch, m.tap_lane);
         let tap = route_views::point_at(taps, k);
-        let e = members.table.edges[k];
         rewrite_member(
             lead,
             depth,
             tap,
-            e,
+            m.edge,
             &mut points[..],
             &mut counts[..],
             &mut scratch[..],

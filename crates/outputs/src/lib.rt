@@ -15,13 +15,15 @@ pub struct Wants {
     pub crossings: bool,
 }
 
-pub fn wants_of(mask: u32) -> Wants
-    ensures { result ≡ wants_of mask }
-{
-    Wants {
-        plan: mask % 2 == 1,
-        page: mask / 2 % 2 == 1,
-        crossings: mask / 4 % 2 == 1,
+impl From<u32> for Wants {
+    ghost from_gives = { λ mask w. w ≡ wants_of mask };
+
+    fn from(mask: u32) -> Wants {
+        Wants {
+            plan: mask % 2 == 1,
+            page: mask / 2 % 2 == 1,
+            crossings: mask / 4 % 2 == 1,
+        }
     }
 }
 

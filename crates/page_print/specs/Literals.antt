@@ -1,9 +1,9 @@
 -- The numbers that are printed can stand on the page. Assumes nothing.
-use Rattle.std.specs.Prelude.{ℕ, zero, suc, ◌≤◌, ◌≡◌, refl, List, length, take, replicate, set}
+use Rattle.std.specs.Prelude.{ℕ, zero, suc, ◌≤◌, ◌≡◌, refl, List, [], ◌∷◌, length}
 use Rattle.std.proofs.Common.{arith, lit<}
 use Rattle.std.specs.Float.{binary64}
 use Rattle.std.specs.Float.Ieee.{of_bits, lt}
-use Rattle.limits.specs.Limits.{max_bundles, id_columns, page_room}
+use Rattle.limits.specs.Limits.{id_columns, page_room}
 use Rattle.board.specs.declared.DrawnBundle.{DrawnBundle}
 use Rattle.bundle_page.specs.PageTables.{OnPage, page_bytes, Printable, Printables}
 use Rattle.bundle_page.proofs.PartsLaws.{chosen}
@@ -52,16 +52,12 @@ printed b x y z =
     let e = b.collector.end.y in
     record { x = x; low = chosen (lt e s) e s z y; high = chosen (lt s e) e s z y }
 
--- ---- the table of three
-pub three_rows : (a b c : DrawnBundle) → Printable a → Printable b → Printable c → Printables 3 (set (set (replicate max_bundles a) 1 b) 2 c)
-three_rows a b c p q r zero d h = p
-three_rows a b c p q r (suc zero) d h = q
-three_rows a b c p q r (suc (suc zero)) d h = r
-three_rows a b c p q r (suc (suc (suc i))) d h = absurd (omega arith)
+-- ---- the three rows
+pub three_rows : (a b c : DrawnBundle) (rest : List DrawnBundle) → Printable a → Printable b → Printable c → Printables 3 (a ∷ b ∷ c ∷ rest)
+three_rows a b c rest p q r zero d h = p
+three_rows a b c rest p q r (suc zero) d h = q
+three_rows a b c rest p q r (suc (suc zero)) d h = r
+three_rows a b c rest p q r (suc (suc (suc i))) d h = absurd (omega arith)
 
-pub three_room : (a b c : DrawnBundle) (r : ℕ) (last : List ℕ) → r ≡ length (page_bytes id_columns (take 3 (set (set (replicate max_bundles a) 1 b) 2 c))) → length last ≡ page_room → r ≤ length last
-three_room a b c r last e h =
-    let rows = set (set (replicate max_bundles a) 1 b) 2 c in
-    let l : length (take 3 rows) ≡ 3 = refl in
-    let p = page_length id_columns (take 3 rows) in
-    omega arith
+pub three_room : (a b c : DrawnBundle) (r : ℕ) (last : List ℕ) → r ≡ length (page_bytes id_columns (a ∷ b ∷ c ∷ [])) → length last ≡ page_room → r ≤ length last
+three_room a b c r last e h = omega (arith, page_length id_columns (a ∷ b ∷ c ∷ []))

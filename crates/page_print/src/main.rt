@@ -7,9 +7,9 @@
 ghost use Rattle.std.specs.Prelude.{◌<◌, ◌≤◌};
 ghost use Rattle.bundle_page.specs.PageTables.{OnPage, Printable};
 
-use board::{DrawnBundle, DrawnBundles};
+use board::DrawnBundle;
 use geometry::{Point, Segment};
-use limits::{MAX_BUNDLES, PAGE_ROOM};
+use limits::PAGE_ROOM;
 use page_lines::Entry;
 
 fn show(w: usize, id: u64, interior: bool, x: u64, low: u64, high: u64)
@@ -50,12 +50,8 @@ fn show_page() {
     let first = bundle(7, false, 1.5, 3.0, 2.25);
     let second = bundle(4294967295, true, 8589934591.9921875, 0.0, 0.0078125);
     let third = bundle(0, false, 0.0, 4294967296.0, 4294967296.0078125);
-    let mut rows = [first; MAX_BUNDLES];
-    rows[1] = second;
-    rows[2] = third;
-    let t = DrawnBundles { rows, count: 3 };
     let mut page = [0u8; PAGE_ROOM];
-    let n = page_writer::put_page(&mut page[..], t);
+    let n = page_writer::put_page(&mut page[..], &[first, second, third]);
     io::write_all(1, &page[..n]);
 }
 

@@ -1,6 +1,6 @@
 -- The turns of the loop that writes a page. Assumes nothing.
-use Rattle.std.specs.Prelude.{◌≡◌, ℕ, ◌+◌, ◌<◌, ◌≤◌, false, List, length, take, drop, slice_index_or, Float}
-use Rattle.std.proofs.Common.{ap, ◌∙◌, arith, length-take-le}
+use Rattle.std.specs.Prelude.{◌≡◌, ℕ, suc, ◌+◌, ◌<◌, ◌≤◌, false, List, length, drop, slice_index_or, Float}
+use Rattle.std.proofs.Common.{sym, ap, ◌∙◌, arith, add-one, drop-cons, length-append}
 use Rattle.std.specs.Float.{nan}
 use Rattle.std.proofs.lemmas.List.Edits.{sets}
 use Rattle.limits.specs.Limits.{max_bundles, id_columns, page_room}
@@ -8,8 +8,9 @@ use Rattle.binary64.specs.Order.{least, greatest}
 use Rattle.geometry.specs.declared.Point.{Point}
 use Rattle.geometry.specs.declared.Segment.{Segment}
 use Rattle.board.specs.declared.DrawnBundle.{DrawnBundle}
-use Rattle.answer.proofs.Stores.{shorter, written_as}
+use Rattle.answer.proofs.Stores.{sets_then}
 use Rattle.page_text.specs.Listing.{entry_line}
+use Rattle.answer.specs.Answer.{all_bytes}
 use Rattle.bundle_page.specs.Parts.{parts_of}
 use Rattle.bundle_page.specs.PageTables.{bundle_line, page_bytes}
 use Rattle.bundle_page.proofs.Exact.{bundle_line_length, page_length}
@@ -32,15 +33,18 @@ some_bundle =
     let s : Segment = record { start = p; end = p } in
     record { id = 0; interior = false; collector = s; spine = s; first = 0; count = 0 }
 
-pub line_room : (w : ℕ) (rows : List DrawnBundle) (n i : ℕ) → n ≤ length rows → i < n
-    → length (page_bytes w (drop i (take n rows))) ≡ 66 + w + length (page_bytes w (drop (i + 1) (take n rows)))
-line_room w rows n i fr h =
-    shorter (bundle_line w) rows n i some_bundle fr h ∙ ap (λ (z : ℕ). z + length (page_bytes w (drop (i + 1) (take n rows)))) (bundle_line_length w (slice_index_or rows i some_bundle))
+module _ (w : ℕ) (rows : List DrawnBundle) (i : ℕ) where
+  pub line_room : i < length rows → length (page_bytes w (drop i rows)) ≡ 66 + w + length (page_bytes w (drop (i + 1) rows))
+  unfolding all_bytes
+  line_room h = rw (drop-cons rows i some_bundle h, add-one i, length-append, bundle_line_length w (slice_index_or rows i some_bundle))
 
-pub line_written : (w : ℕ) (rows : List DrawnBundle) (n i : ℕ) (d : DrawnBundle) → n ≤ length rows → (o o' : List ℕ) (at next : ℕ) → next ≡ at + (66 + w) → i < n
-    → o' ≡ sets o at (bundle_line w (slice_index_or rows i d)) → sets o' next (page_bytes w (drop (i + 1) (take n rows))) ≡ sets o at (page_bytes w (drop i (take n rows)))
-line_written w rows n i d fr o o' at next q h e = rw q (written_as (bundle_line w) rows n i d fr (66 + w) o o' at (bundle_line_length w (slice_index_or rows i d)) h e)
+  pub line_written : (d : DrawnBundle) (o o' : List ℕ) (at next : ℕ) → next ≡ at + (66 + w) → i < length rows → o' ≡ sets o at (bundle_line w (slice_index_or rows i d))
+      → sets o' next (page_bytes w (drop (i + 1) rows)) ≡ sets o at (page_bytes w (drop i rows))
+  unfolding all_bytes
+  line_written d o o' at next q h e =
+      rw (e, drop-cons rows i d h, add-one i)
+      (sets_then o at next (bundle_line w (slice_index_or rows i d)) (page_bytes w (drop (suc i) rows)) (q ∙ ap (λ (z : ℕ). at + z) (sym (bundle_line_length w (slice_index_or rows i d)))))
 
 -- a page of at most 32 rows has room
-pub table_room : (rows : List DrawnBundle) (n : ℕ) → n ≤ length rows → n ≤ max_bundles → length (page_bytes id_columns (take n rows)) ≤ page_room
-table_room rows n f h = omega (arith, page_length id_columns (take n rows), length-take-le n rows f)
+pub table_room : (rows : List DrawnBundle) → length rows ≤ max_bundles → length (page_bytes id_columns rows) ≤ page_room
+table_room rows f = omega (arith, page_length id_columns rows)

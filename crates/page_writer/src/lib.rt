@@ -3,13 +3,13 @@
 
 #![tactic(auto)]
 
-ghost use Rattle.std.specs.Prelude.{◌≡◌, ◌+◌, ◌*◌, ◌<◌, ◌≤◌, length, take};
+ghost use Rattle.std.specs.Prelude.{◌≡◌, ◌+◌, ◌*◌, ◌<◌, ◌≤◌, length};
 ghost use Rattle.std.proofs.lemmas.List.Edits.{sets};
 ghost use Rattle.limits.specs.Limits.{max_bundles, id_columns, page_room};
 ghost use Rattle.bundle_page.specs.Parts.{parts_of};
 ghost use Rattle.bundle_page.specs.PageTables.{OnPage, bundle_line, page_bytes, Printable, Printables};
 
-use board::{DrawnBundle, DrawnBundles};
+use board::DrawnBundle;
 use limits::ID_COLUMNS;
 use page_lines::Entry;
 
@@ -43,14 +43,15 @@ fn put_entry(out: &mut [u8], at: usize, w: usize, b: DrawnBundle) -> usize
     at + (66 + w)
 }
 
-// The page of a table of drawn bundles, at the front of a buffer; answers how many bytes it has.
-pub fn put_page(out: &mut [u8], t: DrawnBundles) -> usize
-    requires { (t.count ≤ max_bundles) × Printables t.count t.rows × (page_room ≤ length out.old) }
-    ensures bytes { out.new ≡ sets out.old 0 (page_bytes id_columns (take t.count t.rows)) }
-    ensures place { result ≡ length (page_bytes id_columns (take t.count t.rows)) }
+// The page of the drawn bundles, at the front of a buffer; answers how many bytes it has. At most 32: a page
+// has room for so many.
+pub fn put_page(out: &mut [u8], drawn: &[DrawnBundle]) -> usize
+    requires { (length drawn.now ≤ max_bundles) × Printables (length drawn.now) drawn.now × (page_room ≤ length out.old) }
+    ensures bytes { out.new ≡ sets out.old 0 (page_bytes id_columns drawn.now) }
+    ensures place { result ≡ length (page_bytes id_columns drawn.now) }
 {
     let mut at: usize = 0;
-    for b in &t.rows[..t.count] {
+    for b in drawn {
         at = put_entry(out, at, ID_COLUMNS, *b);
     }
     at

@@ -6,32 +6,32 @@
 
 #![tactic(auto)]
 
-ghost use Rattle.std.specs.Prelude.{◌≡◌, ◌≤◌, map, take, length};
-ghost use Rattle.limits.specs.Limits.{max_bundles};
+ghost use Rattle.std.specs.Prelude.{◌≡◌, ◌≤◌, map, length};
+ghost use Rattle.plan.specs.MemberColumns.{edges_of};
 ghost use Rattle.drawing.specs.Check.{walk, over_routes, contact_tests};
 ghost use Rattle.checks.specs.Purse.{told};
 ghost use Rattle.checks.specs.CheckRows.{inside_route, Tabled};
 ghost use Rattle.route.specs.Lent.{routes_lent};
 ghost use Rattle.checks.specs.Lent.{chosen_lent, drawn_lent, RowsLent};
 
-use board::{DrawnBundle, DrawnBundles};
+use board::DrawnBundle;
 use checks::{BoardSlices, ChosenRoutes, MemberTaps, Rules};
 use drawing::GeometryVisits;
 use refusal::Refusal;
 
 // The new bundle against every route, then each earlier one against the changed routes and against
-// the new one.
+// the new one. What it is lent it hands on: parameters and clauses are those of bundle_contacts.
 #[tactic(auto, using(checks::proofs::TestSteps::then_on, checks::proofs::TestSteps::then_off), unfolding(drawing::specs::Check::contact_tests, checks::specs::CheckRows::chosen_by))]
 pub fn verify_new_bundle_route_contacts(
     rules: Rules,
     new: DrawnBundle,
-    priors: DrawnBundles,
+    priors: &[DrawnBundle],
     table: MemberTaps,
     changed: ChosenRoutes,
     visits: &mut GeometryVisits,
 ) -> Result<(), Refusal>
-    requires { (priors.count ≤ max_bundles) × RowsLent table (take priors.count priors.rows) × Tabled new.first new.count table.edges.now table.taps.now }
-    ensures { told result visits.new.0 ≡ walk 11 (contact_tests rules.options rules.permits_crossings (drawn_lent table.entry new) (chosen_lent changed.entry) (map (drawn_lent table.entry) (take priors.count priors.rows)) (routes_lent changed.entry.routes)) visits.old.0 }
+    requires { RowsLent table priors.now × Tabled new.first new.count (edges_of table.members.now) table.taps.now }
+    ensures { told result visits.new.0 ≡ walk 11 (contact_tests rules.options rules.permits_crossings (drawn_lent table.entry new) (chosen_lent changed.entry) (map (drawn_lent table.entry) priors.now) (routes_lent changed.entry.routes)) visits.old.0 }
 {
     let every = ChosenRoutes {
         routes: changed.routes,

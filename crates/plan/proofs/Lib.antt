@@ -14,3 +14,4 @@ pub mod TableReads
 pub mod Through
 pub mod Visits
 pub mod CountedReads
+pub mod MemberColumns

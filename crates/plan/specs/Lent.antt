@@ -12,7 +12,7 @@ use Rattle.plan.specs.declared.Reached.{Reached}
 use Rattle.plan.specs.declared.tables.BoardTables.{BoardTables}
 use Rattle.plan.specs.declared.layout.Setting.{Setting}
 use Rattle.plan.specs.declared.layout.Layout.{Layout}
-use Rattle.plan.specs.declared.columns.Corridors.{Corridors}
+use Rattle.plan.specs.declared.corridors.Corridors.{Corridors}
 use Rattle.plan.specs.BoardTables.{board_of}
 use Rattle.plan.specs.Depths.{offsets_of}
 use Rattle.plan.specs.Prepared.{Windowed, Routed, Tells, AllTell, Cornered}

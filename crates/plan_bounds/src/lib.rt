@@ -13,13 +13,14 @@ ghost use Rattle.geometry.specs.Lent.{route_lent};
 ghost use Rattle.plan.specs.declared.Bound.TheVariants.{None};
 ghost use Rattle.plan.specs.Depths.{members_in};
 ghost use Rattle.plan.specs.Bounds.{reach_all, bounds_of, tighter, reach_x, map_bound, unless_crossed, span_of};
+ghost use Rattle.plan.specs.MemberColumns.{edges_of};
 ghost use Rattle.plan.specs.Prepared.{other, end_x, Below, Rowed, Tells};
 ghost use Rattle.plan.specs.Lent.{RoutesTell, CorridorsTell};
 
-use board::Bundle;
+use board::{Bundle, Member};
 use geometry::{Role, RouteView};
-use plan::columns::{Corridors, MemberPlaces};
-use plan::{Bound, Reached};
+use plan::corridors::Corridors;
+use plan::{Between, Bound, Reached};
 use search::{Bounds, MemberRoutes};
 
 // ---- interior_collector_bounds
@@ -84,19 +85,20 @@ pub fn reach_all(
     role: Role,
     reserve: f64,
     routes: MemberRoutes,
-    places: MemberPlaces,
+    members: &[Member],
     corridors: Corridors,
     u: Bundle,
 ) -> Bound
-    requires below { Below max_edges places.edges.now u }
+    requires below { Below max_edges (edges_of members.now) u }
+    requires inside { u.first + u.count ≤ length members.now }
     requires routed { u.first + u.count ≤ length routes.starts.now }
-    ensures { (b : Board) (given : List Route) (lanes : List ℕ) → reserve ≡ b.options.member_endpoint_reserve → Rowed b places.entry.edges.now lanes → u.first + u.count ≤ length b.members → RoutesTell b given routes.entry → CorridorsTell b corridors.entry → result ≡ reach_all b given role None (members_in b u) }
+    ensures { (b : Board) (given : List Route) (lanes : List ℕ) → reserve ≡ b.options.member_endpoint_reserve → Rowed b (edges_of members.now) lanes → u.first + u.count ≤ length b.members → RoutesTell b given routes.entry → CorridorsTell b corridors.entry → result ≡ reach_all b given role None (members_in b u) }
 {
     let across = other(role);
     let mut d = Bound::None;
     for i in 0..u.count {
         let k = u.first + i;
-        let corridor = plan_corridors::corridor_of(across, corridors, places.edges[k]);
+        let corridor = plan_corridors::corridor_of(across, corridors, members[k].edge);
         let route = search_runs::member_route(routes, k);
         let end = end_x(role, route);
         let Bound::At(x) = member_reach(role, reserve, corridor, end) else {
@@ -121,50 +123,43 @@ fn unless_crossed(low: f64, desired: f64, high: f64) -> Option<Bounds>
 }
 
 // From the port's side to the members' side.
-fn span_of(
-    role: Role,
-    endpoint: f64,
-    rail: f64,
-    pitch: f64,
-    least: Bound,
-    most: Bound,
-    d: f64,
-) -> Option<Bounds>
-    ensures { result ≡ span_of role endpoint rail pitch least most d }
+fn span_of(r: Reached, rail: f64, pitch: f64, between: Between, d: f64) -> Option<Bounds>
+    ensures { result ≡ span_of r.bundle.role r.endpoint rail pitch between.lower between.upper d }
 {
-    match role {
+    match r.bundle.role {
         Role::Input => {
-            let low = plan_numbers::raise(endpoint + rail + pitch, least);
-            let high = plan_numbers::lower(d, most);
+            let nearest = r.endpoint + rail + pitch;
+            let low = plan_numbers::raise(nearest, between.lower);
+            let high = plan_numbers::lower(d, between.upper);
             unless_crossed(low, d, high)
         }
         Role::Output => {
-            let low = plan_numbers::raise(d, least);
-            let high = plan_numbers::lower(endpoint - rail - pitch, most);
+            let nearest = r.endpoint - rail - pitch;
+            let low = plan_numbers::raise(d, between.lower);
+            let high = plan_numbers::lower(nearest, between.upper);
             unless_crossed(low, d, high)
         }
     }
 }
 
-// The bounds of a bundle's collector, between a lower and an upper bound.
+// The bounds of a bundle's collector, between a lower and an upper bound. Rail and pitch by themselves: a
+// Setting would ask of the caller's routes what is not needed here.
 pub fn interior_collector_bounds(
     r: Reached,
     rail: f64,
     pitch: f64,
-    lower: Bound,
-    upper: Bound,
+    between: Between,
 ) -> Option<Bounds>
-    ensures { (b : Board) (given : List Route) (points : List Float) (starts counts : List ℕ) → Tells b given points starts counts rail pitch r → result ≡ bounds_of b given r.bundle lower upper }
+    ensures { (b : Board) (given : List Route) (points : List Float) (starts counts : List ℕ) → Tells b given points starts counts rail pitch r → result ≡ bounds_of b given r.bundle between.lower between.upper }
 {
-    let u = r.bundle;
-    if u.width <= 1 {
+    if r.bundle.width <= 1 {
         return None;
     }
-    if u.count <= 1 {
+    if r.bundle.count <= 1 {
         return None;
     }
     match r.reached {
         Bound::None => None,
-        Bound::At(d) => span_of(u.role, r.endpoint, rail, pitch, lower, upper, d),
+        Bound::At(d) => span_of(r, rail, pitch, between, d),
     }
 }

@@ -21,12 +21,13 @@ use Rattle.plan.specs.Plan.{Plan}
 use Rattle.plan.specs.Prepared.{x_of}
 use Rattle.plan_bytes.specs.PlanBytes.{marked, entry, versioned, body, rejected, taken, every_planned, plannable, settled, length_fits, read_plan}
 use Rattle.refusal.specs.declared.Refusal.{Refusal}
-use Rattle.refusal.specs.declared.Refusal.TheVariants.{PlanMismatch}
+use Rattle.refusal.specs.declared.Refusal.TheVariants.{PlanMismatch, PlannedNumber}
 use Rattle.refusal.specs.Refusal.{refusal_number}
 use Rattle.std.specs.Prelude.{Result, Ok, Err, Option}
 use Rattle.std.specs.Prelude as std
-use Rattle.plan_reader.specs.declared.Entries.{Entries}
-use Rattle.plan_reader.specs.Reading.{as_17, told_number, told_entry, judged, prefixed, SoFar, EntriesTold}
+use Rattle.std.specs.Bool.{then_some}
+use Rattle.std.specs.Option.{ok_or}
+use Rattle.plan_reader.specs.Reading.{as_17, told_number, told_entry, judged, prefixed, SoFar, RowsTold, EntriesTold}
 
 -- ---- one entry
 
@@ -237,47 +238,47 @@ module _ (grid : Bool) (s : List ℕ) (n grant : ℕ) (long : 9 ≤ length s) (s
       let c : 5 + 4 ≤ length s = omega (arith, long) in
       rw (le-leb 4 (length s) a, field_at 1 4 s b, number_one s 4 (omega (arith, long)), field_at 4 5 s c, is_size, is_version, is_left)
 
-  module _ (e : Entries) (told : EntriesTold grid s 9 n (Ok e)) where
+  module _ (end : ℕ) (passes : Bool) (xs : List Bound) (told : SoFar grid s 9 n end n passes xs) where
     -- the entries that were read
-    entries_are : (l : List Bound) × (list_of n entry (drop 9 s) ≡ got l (drop e.at s)) × (e.passes ≡ every_planned (plannable grid) l) × (e.passes ≡ true → l ≡ map x_of (take n e.rows))
+    entries_are : (l : List Bound) × (list_of n entry (drop 9 s) ≡ got l (drop end s)) × (passes ≡ every_planned (plannable grid) l) × (passes ≡ true → l ≡ xs)
     unfolding prefixed as_17 list_of
     entries_are =
         let z : n - n ≡ 0 = omega arith in
-        let g : as_17 (prefixed told.list (list_of 0 entry (drop e.at s))) ≡ as_17 (list_of n entry (drop 9 s)) = subst (λ (k : ℕ). as_17 (prefixed told.list (list_of k entry (drop e.at s))) ≡ as_17 (list_of n entry (drop 9 s))) z told.goes in
-        let w : got told.list (drop e.at s) ≡ as_17 (list_of n entry (drop 9 s)) = ap (λ (k : List Bound). got k (drop e.at s)) (sym (append-nil told.list)) ∙ g in
-        (told.list, as_got (list_of n entry (drop 9 s)) told.list (drop e.at s) w, told.passed, told.stands)
+        let g : as_17 (prefixed told.list (list_of 0 entry (drop end s))) ≡ as_17 (list_of n entry (drop 9 s)) = subst (λ (k : ℕ). as_17 (prefixed told.list (list_of k entry (drop end s))) ≡ as_17 (list_of n entry (drop 9 s))) z told.goes in
+        let w : got told.list (drop end s) ≡ as_17 (list_of n entry (drop 9 s)) = ap (λ (k : List Bound). got k (drop end s)) (sym (append-nil told.list)) ∙ g in
+        (told.list, as_got (list_of n entry (drop 9 s)) told.list (drop end s) w, told.passed, told.stands)
 
-    left_over : leb (length s) e.at ≡ eqb (length (drop e.at s)) 0
-    left_over = go (leb (length s) e.at) refl
+    left_over : leb (length s) end ≡ eqb (length (drop end s)) 0
+    left_over = go (leb (length s) end) refl
       where
-        go : (t : Bool) → leb (length s) e.at ≡ t → t ≡ eqb (length (drop e.at s)) 0
-        go true q = let k = leb-true (length s) e.at q in let d = length-drop e.at s in sym (eq-eqb (length (drop e.at s)) 0 (omega (arith, k, d)))
-        go false q = let k = leb-false (length s) e.at q in let d = length-drop e.at s in sym (ne_eqb (length (drop e.at s)) 0 (λ z. omega (arith, k, d, z)))
+        go : (t : Bool) → leb (length s) end ≡ t → t ≡ eqb (length (drop end s)) 0
+        go true q = let k = leb-true (length s) end q in let d = length-drop end s in sym (eq-eqb (length (drop end s)) 0 (omega (arith, k, d)))
+        go false q = let k = leb-false (length s) end q in let d = length-drop end s in sym (ne_eqb (length (drop end s)) 0 (λ z. omega (arith, k, d, z)))
 
     settled_is : settled grid grant (after (list_of n entry (drop 9 s)) (λ xs. give (record { xs = xs; left = left })))
-        ≡ cond (leb (length s) e.at && leb left grant) (cond e.passes (taken (with_left (map x_of (take n e.rows)))) (rejected 18)) (rejected 17)
+        ≡ cond (leb (length s) end && leb left grant) (cond passes (taken (with_left xs)) (rejected 18)) (rejected 17)
     unfolding settled after as_17
     settled_is =
         let r = entries_are in
-        rw (r.1, sym left_over) (pass (leb (length s) e.at && leb left grant) e.passes refl (every_planned (plannable grid) r.0) refl r.2 r.3)
+        rw (r.1, sym left_over) (pass (leb (length s) end && leb left grant) passes refl (every_planned (plannable grid) r.0) refl r.2 r.3)
       where
-        pass : {l : List Bound} (c p : Bool) → e.passes ≡ p → (v : Bool) → every_planned (plannable grid) l ≡ v → e.passes ≡ every_planned (plannable grid) l → (e.passes ≡ true → l ≡ map x_of (take n e.rows))
-            → cond c (cond v (taken (with_left l)) (rejected 18)) (rejected 17) ≡ cond c (cond p (taken (with_left (map x_of (take n e.rows)))) (rejected 18)) (rejected 17)
+        pass : {l : List Bound} (c p : Bool) → passes ≡ p → (v : Bool) → every_planned (plannable grid) l ≡ v → passes ≡ every_planned (plannable grid) l → (passes ≡ true → l ≡ xs)
+            → cond c (cond v (taken (with_left l)) (rejected 18)) (rejected 17) ≡ cond c (cond p (taken (with_left xs)) (rejected 18)) (rejected 17)
         pass c true a true b f g = ap (λ (k : List Bound). cond c (taken (with_left k)) (rejected 17)) (g a)
         pass c true a false b f g = absurd (true≢false (sym a ∙ f ∙ b))
         pass c false a true b f g = absurd (true≢false (sym b ∙ sym f ∙ a))
         pass c false a false b f g = refl
 
     abbrev fits_all : Bool
-    fits_all = ((eqb size (length s - 4) && eqb version 1) && leb (length s) e.at) && leb left grant
+    fits_all = ((eqb size (length s - 4) && eqb version 1) && leb (length s) end) && leb left grant
 
     -- the tests in the order in which the code joins them
-    whole : read_plan grid n grant s ≡ cond fits_all (cond e.passes (taken (with_left (map x_of (take n e.rows)))) (rejected 18)) (rejected 17)
+    whole : read_plan grid n grant s ≡ cond fits_all (cond passes (taken (with_left xs)) (rejected 18)) (rejected 17)
     unfolding settled
     whole = read_long ∙ go (eqb size (length s - 4)) (eqb version 1)
       where
         go : (a b : Bool) → cond a (settled grid grant (cond b (after (list_of n entry (drop 9 s)) (λ xs. give (record { xs = xs; left = left }))) (refused 17))) (rejected 17)
-            ≡ cond (((a && b) && leb (length s) e.at) && leb left grant) (cond e.passes (taken (with_left (map x_of (take n e.rows)))) (rejected 18)) (rejected 17)
+            ≡ cond (((a && b) && leb (length s) end) && leb left grant) (cond passes (taken (with_left xs)) (rejected 18)) (rejected 17)
         go true true = settled_is
         go true false = refl
         go false b = refl
@@ -285,11 +286,28 @@ module _ (grid : Bool) (s : List ℕ) (n grant : ℕ) (long : 9 ≤ length s) (s
     pub whole_17 : fits_all ≡ false → read_plan grid n grant s ≡ rejected 17
     whole_17 h = whole ∙ rw h
 
-    pub whole_18 : fits_all ≡ true → e.passes ≡ false → read_plan grid n grant s ≡ rejected 18
+    pub whole_18 : fits_all ≡ true → passes ≡ false → read_plan grid n grant s ≡ rejected 18
     whole_18 h k = whole ∙ rw (h, k)
 
-    pub whole_0 : fits_all ≡ true → e.passes ≡ true → read_plan grid n grant s ≡ taken (record { xs = map x_of (take n e.rows); left = left })
+    pub whole_0 : fits_all ≡ true → passes ≡ true → read_plan grid n grant s ≡ taken (record { xs = xs; left = left })
     whole_0 h k = whole ∙ rw (h, k)
+
+  module _ (end : ℕ) where
+    -- whether the rows passed or not, the length, the version or the grant does not fit
+    pub plan_17 : (rows : Option (List Planned)) → RowsTold grid s 9 n end rows → (((eqb size (length s - 4) && eqb version 1) && leb (length s) end) && leb left grant) ≡ false → read_plan grid n grant s ≡ rejected 17
+    plan_17 std.None told h = whole_17 end false [] told h
+    plan_17 (std.Some rows) told h = whole_17 end true (map x_of (take n rows)) told h
+
+    pub plan_18 : (rows : Option (List Planned)) (r : Refusal) → RowsTold grid s 9 n end rows → (((eqb size (length s - 4) && eqb version 1) && leb (length s) end) && leb left grant) ≡ true
+        → rows ≡ std.None → ◌≡◌ {A = Result (List Planned) Refusal} (Err r) (ok_or rows PlannedNumber) → read_plan grid n grant s ≡ rejected (refusal_number r)
+    plan_18 rows r told h e w = whole_18 end false [] (subst (RowsTold grid s 9 n end) e told) h refl ∙ ap (λ (k : Refusal). rejected (refusal_number k)) (sym (why rows e w))
+      where
+        why : (rows : Option (List Planned)) → rows ≡ std.None → ◌≡◌ {A = Result (List Planned) Refusal} (Err r) (ok_or rows PlannedNumber) → r ≡ PlannedNumber
+        why std.None e w = cc
+        why (std.Some l) e w = cc
+
+    pub plan_0 : (rows : Option (List Planned)) (ps : List Planned) → RowsTold grid s 9 n end rows → (((eqb size (length s - 4) && eqb version 1) && leb (length s) end) && leb left grant) ≡ true → rows ≡ std.Some ps → read_plan grid n grant s ≡ taken (record { xs = map x_of (take n ps); left = left })
+    plan_0 rows ps told h e = whole_0 end true (map x_of (take n ps)) (subst (RowsTold grid s 9 n end) e told) h refl
 
   -- an entry was refused
   pub broken : (r : Refusal) → EntriesTold grid s 9 n (Err r) → read_plan grid n grant s ≡ rejected (refusal_number r)
@@ -303,3 +321,10 @@ module _ (grid : Bool) (s : List ℕ) (n grant : ℕ) (long : 9 ≤ length s) (s
       go r true true = refl
       go r true false = refl
       go r false b = refl
+
+-- the rows at the end, if all passed
+pub ended : (grid : Bool) (s : List ℕ) (from n at : ℕ) (passes : Bool) (rows : List Planned) (kept : Option (List Planned)) → SoFar grid s from n at n passes (map x_of (take n rows))
+    → kept ≡ then_some passes rows → RowsTold grid s from n at kept
+ended grid s from n at true rows kept f e = subst (RowsTold grid s from n at) (sym e) f
+ended grid s from n at false rows kept f e =
+    subst (RowsTold grid s from n at) (sym e) (record { list = f.list; goes = f.goes; passed = f.passed; stands = λ h. absurd (true≢false (sym h)) })

@@ -1,6 +1,6 @@
 -- What the functions that read a plan hand to one another. Definitions of inner contracts.
 -- Assumes nothing.
-use Rattle.std.specs.Prelude.{ℕ, ◌+◌, ◌-◌, ◌≡◌, Bool, true, cond, List, ◌++◌, map, take, drop, Float, Result, Ok, Err, Option}
+use Rattle.std.specs.Prelude.{ℕ, ◌+◌, ◌-◌, ◌≡◌, Bool, true, false, cond, List, [], ◌++◌, map, take, drop, Float, Result, Ok, Err, Option}
 use Rattle.std.specs.Prelude as std
 use Rattle.std.specs.Float.{binary64}
 use Rattle.std.specs.Float.Ieee.{of_bits}
@@ -9,6 +9,7 @@ use Rattle.refusal.specs.declared.Refusal.{Refusal}
 use Rattle.refusal.specs.Refusal.{refusal_number}
 use Rattle.plan.specs.declared.Bound.{Bound}
 use Rattle.plan.specs.declared.Bound.TheVariants.{None, At}
+use Rattle.plan.specs.declared.Planned.{Planned}
 use Rattle.plan.specs.Tables.{Planning}
 use Rattle.plan.specs.Prepared.{plan_in, x_of}
 use Rattle.plan_bytes.specs.PlanBytes.{entry, every_planned, plannable, Taken, rejected, taken}
@@ -47,9 +48,14 @@ pub record SoFar (grid : Bool) (s : List ℕ) (from n at i : ℕ) (passes : Bool
   pub passed : passes ≡ every_planned (plannable grid) list
   pub stands : passes ≡ true → list ≡ xs
 
+-- the rows of the code, if every number passed
+abbrev pub RowsTold : Bool → List ℕ → ℕ → ℕ → ℕ → Option (List Planned) → Type 0
+RowsTold grid s from n at std.None = SoFar grid s from n at n false []
+RowsTold grid s from n at (std.Some rows) = SoFar grid s from n at n true (map x_of (take n rows))
+
 -- the entries of the code
 abbrev pub EntriesTold : Bool → List ℕ → ℕ → ℕ → Result Entries Refusal → Type 0
-EntriesTold grid s from n (Ok r) = SoFar grid s from n r.at n r.passes (map x_of (take n r.rows))
+EntriesTold grid s from n (Ok r) = RowsTold grid s from n r.at r.rows
 EntriesTold grid s from n (Err r) = as_17 (list_of n entry (drop from s)) ≡ refused (refusal_number r)
 
 -- a pattern's number, where it passes

@@ -57,12 +57,11 @@ fn judged_number(b: u64, grid: bool) -> Option<f64>
     (small & (other & grid::is_on(Grid::Plan, x))).then_some(x)
 }
 
-// The entries of some bundles, all with their marks and their bytes: whether every number passes, where
-// they end.
+// The entries of some bundles, all with their marks and their bytes: where they end, and their rows if every
+// number passes.
 struct Entries {
-    passes: bool,
     at: usize,
-    rows: [Planned; MAX_BUNDLES],
+    rows: Option<[Planned; MAX_BUNDLES]>,
 }
 
 // The entries of n bundles from a place on. All are read also where a number does not pass, as 17 is
@@ -86,7 +85,10 @@ fn read_entries(s: &[u8], from: usize, n: usize, grid: bool) -> Result<Entries, 
         rows[i] = Planned { x };
         at += 1;
     }
-    Ok(Entries { passes, at, rows })
+    Ok(Entries {
+        at,
+        rows: passes.then_some(rows),
+    })
 }
 
 // The plan that some bytes are, for a job with n bundles and such a grant of tap visits, its numbers on
@@ -100,20 +102,13 @@ pub fn read_plan(s: &[u8], n: usize, grant: u32, grid: bool) -> Result<Planning,
     }
     let size = wire::be32(s, 0);
     let left = wire::be32(s, 5);
-    let Entries {
-        passes,
-        at: end,
-        rows,
-    } = read_entries(s, 9, n, grid)?;
+    let Entries { at: end, rows } = read_entries(s, 9, n, grid)?;
     let fits = (size as usize == s.len() - 4) & (s[4] == 1) & (s.len() <= end) & (left <= grant);
     if !fits {
         return Err(Refusal::PlanMismatch);
     }
-    if !passes {
-        return Err(Refusal::PlannedNumber);
-    }
     Ok(Planning {
-        rows,
+        rows: rows.ok_or(Refusal::PlannedNumber)?,
         left: TapVisits(left),
     })
 }

@@ -1,10 +1,11 @@
 // The result of 37: what inputs ask of the outputs.
 
-ghost use Rattle.std.specs.Prelude.{◌≤◌, ◌+◌, length, take};
+ghost use Rattle.std.specs.Prelude.{◌≤◌, ◌+◌, length};
 ghost use Rattle.limits.specs.Limits.{max_bundles};
 ghost use Rattle.plan.specs.Prepared.{Listing};
 
 use crate::fields::Written;
+use arrayvec::ArrayVec;
 use board::Bundle;
 use components::Places;
 use geometry::Role;
@@ -52,24 +53,20 @@ fn put_divergences(layout: Layout, p: Planning, out: &mut Written) {
 // The places of the inputs, in job order.
 fn inputs_of(reaches: &[Reached]) -> Places
     requires { length reaches.now ≤ max_bundles }
-    ensures few { result.count ≤ max_bundles }
-    ensures listed { Listing (take result.count result.rows) (length reaches.now) }
+    ensures { Listing result.items (length reaches.now) }
 {
-    let mut rows = [0; MAX_BUNDLES];
-    let mut count = 0;
+    let mut inputs = ArrayVec::new();
     for (i, r) in reaches.iter().enumerate() {
         if r.bundle.role == Role::Input {
-            rows[count] = i;
-            count += 1;
+            inputs.push(i);
         }
     }
-    Places { rows, count }
+    inputs
 }
 
 pub(crate) fn put_asked(layout: Layout, p: Planning, out: &mut Written) {
     put_divergences(layout, p, out);
     let inputs = inputs_of(layout.reaches);
-    let which = &inputs.rows[..inputs.count];
-    let r = plan_outputs::required_output_collector_x(layout, which, p);
+    let r = plan_outputs::required_output_collector_x(layout, inputs.as_slice(), p);
     out.put_bound(r);
 }

@@ -3,13 +3,11 @@
 ghost use Rattle.std.specs.Prelude.{ℕ, ◌+◌, ◌≤◌, ◌<◌, length, get_or};
 ghost use Rattle.limits.specs.Limits.{max_edges};
 ghost use Rattle.plan.specs.BoardTables.{no_member};
-ghost use Rattle.planner.specs.Members.{MembersIn};
 
 use crate::fields::Written;
 use board::{Bundle, Member};
-use geometry::Role;
 use limits::MAX_EDGES;
-use plan::columns::{Corridors, MemberPlaces};
+use plan::corridors::Corridors;
 use plan::tables::BoardTables;
 use plan::{Bound, Offsets};
 
@@ -48,36 +46,11 @@ fn put_bundles(t: BoardTables, c: Corridors, out: &mut Written) {
     }
 }
 
-// The steps of planner::reach_bundles, since what lies between them is printed.
-pub(crate) fn put_corridors(
-    t: BoardTables,
-    offsets: Offsets,
-    places: MemberPlaces,
-    out: &mut Written,
-)
-    requires { MembersIn t.members.now places.edges.now places.lanes.now }
-{
+pub(crate) fn put_corridors(t: BoardTables, offsets: Offsets, out: &mut Written) {
     let ends = planner::bundle_ends(t.nodes, t.ports, t.bundles);
     let mut inputs = [Bound::None; MAX_EDGES];
     let mut outputs = [Bound::None; MAX_EDGES];
-    plan_corridors::fallback_corridors_by_edge(
-        Role::Input,
-        t.options,
-        t.bundles,
-        ends,
-        places,
-        offsets,
-        &mut inputs,
-    );
-    plan_corridors::fallback_corridors_by_edge(
-        Role::Output,
-        t.options,
-        t.bundles,
-        ends,
-        places,
-        offsets,
-        &mut outputs,
-    );
+    planner::add_all_corridors(t, ends, offsets, &mut inputs, &mut outputs);
     let c = Corridors {
         inputs: &inputs,
         outputs: &outputs,

@@ -8,7 +8,6 @@ ghost use Rattle.std.specs.Prelude.{◌≡◌, ◌≤◌, length};
 ghost use Rattle.limits.specs.Limits.{max_members};
 ghost use Rattle.plan.specs.Lent.{OffsetsLent};
 ghost use Rattle.plan.specs.Prepared.{Short};
-ghost use Rattle.planner.specs.Members.{MembersIn};
 ghost use Rattle.job_tables.specs.Came.{Came};
 
 use asked::{plan_at, put_asked};
@@ -16,11 +15,10 @@ use corridors::{put_corridors, put_offsets};
 use fields::{OUT_ROOM, Written};
 use job::Job;
 use limits::{CANDIDATE_ROOM, JOB_ROOM, MAX_MEMBERS, POINT_NUMBERS, SEARCH_WORK};
-use operations::{Between, Operation, Record, Request, start_of};
-use plan::columns::MemberPlaces;
+use operations::{Operation, Record, Request, start_of};
 use plan::layout::{Layout, Setting};
 use plan::search_work::SearchWork;
-use plan::{Bound, Offsets};
+use plan::{Between, Bound, Offsets};
 use plans::put_plan;
 use search::{MemberRoutes, TapVisits};
 use searches::{put_all_bounds, put_searches};
@@ -67,15 +65,13 @@ fn put_reached(
     q: Request,
     offsets: Offsets,
     routes: MemberRoutes,
-    places: MemberPlaces,
     work: &mut SearchWork,
     out: &mut Written,
 )
     requires offsets_of { OffsetsLent q.tables offsets.rows }
-    requires placed { MembersIn q.tables.members.now places.edges.now places.lanes.now }
     requires routed { (length routes.starts.now ≡ max_members) × Short routes.counts.now }
 {
-    let reaches = planner::reach_bundles(q.tables, offsets, routes, places);
+    let reaches = planner::reach_bundles(q.tables, offsets, routes);
     let setting = Setting {
         routes,
         rail: board::boundary_bundle_rail_depth(q.tables.options),
@@ -88,7 +84,7 @@ fn put_reached(
     put_layout(q, layout, work, out);
 }
 
-// The calls that need the members' rows. 3B is offsets, corridors, bounds and the plan in one. The steps of
+// The calls that need the members' routes. 3B is offsets, corridors, bounds and the plan in one. The steps of
 // planner::plan_interior_collectors, since what lies between them is printed.
 #[tactic(auto, using(planner::proofs::MemberTurns::clear))]
 fn put_routed(q: Request, offsets: Offsets, work: &mut SearchWork, out: &mut Written)
@@ -97,34 +93,21 @@ fn put_routed(q: Request, offsets: Offsets, work: &mut SearchWork, out: &mut Wri
     let t = q.tables;
     let mut starts = [0; MAX_MEMBERS];
     let mut counts = [0; MAX_MEMBERS];
-    let mut edges = [0; MAX_MEMBERS];
-    let mut lanes = [0; MAX_MEMBERS];
-    planner::member_rows(
-        t.edges,
-        t.members,
-        &mut starts,
-        &mut counts,
-        &mut edges,
-        &mut lanes,
-    );
+    planner::member_windows(t.edges, t.members, &mut starts, &mut counts);
     let routes = MemberRoutes {
         points: q.points,
         starts: &starts,
         counts: &counts,
     };
-    let places = MemberPlaces {
-        edges: &edges,
-        lanes: &lanes,
-    };
     match q.record.operation {
-        Operation::Corridors => put_corridors(t, offsets, places, out),
+        Operation::Corridors => put_corridors(t, offsets, out),
         Operation::All => {
             put_offsets(t, offsets, out);
-            put_corridors(t, offsets, places, out);
-            put_reached(q, offsets, routes, places, work, out);
+            put_corridors(t, offsets, out);
+            put_reached(q, offsets, routes, work, out);
             put_plan(q, offsets, work, out);
         }
-        _ => put_reached(q, offsets, routes, places, work, out),
+        _ => put_reached(q, offsets, routes, work, out),
     }
 }
 
@@ -169,13 +152,7 @@ fn size_of(record: &[u8], op: Operation, from: usize, rest: usize) -> usize
     ensures { result ≤ rest }
 {
     match op {
-        Operation::Asked => {
-            let size = records::plus(records::u32_at(record, from) as usize, 4);
-            if size > rest {
-                return rest;
-            }
-            size
-        }
+        Operation::Asked => records::job_size(record, from, rest),
         _ => rest,
     }
 }

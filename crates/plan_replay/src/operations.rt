@@ -3,7 +3,6 @@
 ghost use Rattle.std.proofs.Props.{props};
 ghost use Rattle.plan.specs.BoardTables.{RoutesIn};
 
-use plan::Bound;
 use plan::tables::BoardTables;
 use search::TapVisits;
 
@@ -61,11 +60,4 @@ pub(crate) struct Request<'a, 'b> {
     pub(crate) separates: bool,
     pub(crate) granted: TapVisits,
     pub(crate) ghost routes_in: { RoutesIn points.now tables.edges.now tables.members.now } by { Prim.hlevel props },
-}
-
-// The lower and the upper bound of a search.
-#[derive(Clone, Copy)]
-pub(crate) struct Between {
-    pub(crate) lower: Bound,
-    pub(crate) upper: Bound,
 }

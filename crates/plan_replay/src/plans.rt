@@ -1,23 +1,20 @@
 // The result of 35: the plan.
 
-ghost use Rattle.std.specs.Prelude.{◌≤◌};
-ghost use Rattle.limits.specs.Limits.{max_bundles};
 ghost use Rattle.plan.specs.Lent.{OffsetsLent};
 
 use crate::fields::Written;
 use crate::operations::Request;
 use plan::search_work::SearchWork;
-use plan::{Offsets, Planning};
+use plan::{Offsets, Planned};
 use refusal::Refusal;
+use search::TapVisits;
 
-fn put_planned(p: Planning, n: usize, out: &mut Written)
-    requires { n ≤ max_bundles }
-{
-    out.put_count(n);
-    for row in &p.rows[..n] {
+fn put_planned(rows: &[Planned], left: TapVisits, out: &mut Written) {
+    out.put_count(rows.len());
+    for row in rows {
         out.put_bound(row.x);
     }
-    out.put_visits(p.left);
+    out.put_visits(left);
 }
 
 // That the offsets are those of the tables is a fact of two values.
@@ -37,7 +34,7 @@ pub(crate) fn put_plan(q: Request, offsets: Offsets, work: &mut SearchWork, out:
     match r {
         Ok(p) => {
             out.put_mark(0);
-            put_planned(p, q.tables.bundles.len(), out);
+            put_planned(&p.rows[..q.tables.bundles.len()], p.left, out);
         }
         Err(e) => out.put_mark(u8::from(Refusal::from(e)) as u64),
     }

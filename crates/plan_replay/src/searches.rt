@@ -1,21 +1,21 @@
 // The results of 33 and 34: bounds, and searches between them.
 
 use crate::fields::Written;
-use crate::operations::Between;
 use plan::layout::Layout;
 use plan::search_work::SearchWork;
+use plan::{Between, Reached};
 use search::{Bounds, Outcome, TapVisits};
+
+// The bounds of a bundle's collector between two others.
+fn bounds_of(layout: Layout, r: Reached, between: Between) -> Option<Bounds> {
+    let s = layout.setting;
+    plan_bounds::interior_collector_bounds(r, s.rail, s.pitch, between)
+}
 
 pub(crate) fn put_all_bounds(layout: Layout, between: Between, out: &mut Written) {
     out.put_count(layout.reaches.len());
     for &r in layout.reaches {
-        let b = plan_bounds::interior_collector_bounds(
-            r,
-            layout.setting.rail,
-            layout.setting.pitch,
-            between.lower,
-            between.upper,
-        );
+        let b = bounds_of(layout, r, between);
         out.put_between(b);
     }
 }
@@ -43,13 +43,7 @@ pub(crate) fn put_searches(
     let mut left = granted;
     out.put_count(layout.reaches.len());
     for &r in layout.reaches {
-        let b = plan_bounds::interior_collector_bounds(
-            r,
-            layout.setting.rail,
-            layout.setting.pitch,
-            between.lower,
-            between.upper,
-        );
+        let b = bounds_of(layout, r, between);
         let s = plan_searches::search_between(layout.setting, r.bundle, b, left, work);
         put_search(out, b, s.outcome);
         left = s.left;

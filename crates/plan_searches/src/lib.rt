@@ -5,7 +5,7 @@
 
 #![tactic(auto)]
 
-ghost use Rattle.std.specs.Prelude.{◌≡◌, List, length};
+ghost use Rattle.std.specs.Prelude.{◌≡◌, List, length, take};
 ghost use Rattle.plan.specs.Depths.{pitch_of};
 ghost use Rattle.board.specs.Board.{Board};
 ghost use Rattle.geometry.specs.Points.{Route};
@@ -18,7 +18,7 @@ use board::{Bundle, NO_BUNDLE};
 use limits::MAX_BUNDLES;
 use plan::layout::{Layout, Setting};
 use plan::search_work::SearchWork;
-use plan::{Bound, Planned, Planning, Range, Ranges, Ranging, Reached, Upper};
+use plan::{Between, Bound, Planned, Planning, Range, Ranges, Ranging, Reached, Upper};
 use search::{Bounds, MemberRoutes, Outcome, Searched, Sought, TapVisits};
 
 // ---- interior_collector_bounds
@@ -61,21 +61,14 @@ pub fn search_between(
 pub fn interior_collector_range_bounded(
     setting: Setting,
     r: Reached,
-    lower: Bound,
-    upper: Bound,
+    between: Between,
     granted: TapVisits,
     work: &mut SearchWork,
 ) -> Searched
     requires among { Among setting.routes.starts.now r.bundle }
-    ensures { (b : Board) (given : List Route) → ReachTells b given setting.entry r → result ≡ seek search_of b given r.bundle lower upper granted.0 }
+    ensures { (b : Board) (given : List Route) → ReachTells b given setting.entry r → result ≡ seek search_of b given r.bundle between.lower between.upper granted.0 }
 {
-    let bounds = plan_bounds::interior_collector_bounds(
-        r,
-        setting.rail,
-        setting.pitch,
-        lower,
-        upper,
-    );
+    let bounds = plan_bounds::interior_collector_bounds(r, setting.rail, setting.pitch, between);
     search_between(setting, r.bundle, bounds, granted, work)
 }
 
@@ -103,13 +96,11 @@ fn interior_collector_range(
     ensures told { (b : Board) (given : List Route) → ReachTells b given setting.entry r → RangedBy b given r.bundle granted.0 result }
     ensures same { result.range.bundle ≡ r.bundle }
 {
-    let bounds = plan_bounds::interior_collector_bounds(
-        r,
-        setting.rail,
-        setting.pitch,
-        Bound::None,
-        Bound::None,
-    );
+    let free = Between {
+        lower: Bound::None,
+        upper: Bound::None,
+    };
+    let bounds = plan_bounds::interior_collector_bounds(r, setting.rail, setting.pitch, free);
     let u = r.bundle;
     let s = search_between(setting, u, bounds, granted, work);
     Ranging {
@@ -124,7 +115,7 @@ fn interior_collector_range(
 // The first search of each bundle, in order.
 pub fn first_pass(layout: Layout, granted: TapVisits, work: &mut SearchWork) -> Ranges
     ensures told { (b : Board) (given : List Route) → LayoutTells b given layout.entry → passed (length layout.entry.reaches.now) result ≡ first_pass search_of b given b.bundles granted.0 }
-    ensures same { SameRows result layout.entry.reaches.now }
+    ensures same { SameRows (take (length layout.entry.reaches.now) result.rows) layout.entry.reaches.now }
 {
     let mut rows = [Range {
         bundle: NO_BUNDLE,
@@ -174,10 +165,14 @@ pub fn search_again(
     let mut left = p.left;
     for &i in which {
         let r = layout.reaches[i];
-        let most = upper_at(layout.setting.pitch, upper, rows[i].x);
-        let s = interior_collector_range_bounded(layout.setting, r, lower, most, left, work);
-        let x = plan_numbers::found_x(s.outcome);
-        rows[i] = Planned { x };
+        let between = Between {
+            lower,
+            upper: upper_at(layout.setting.pitch, upper, rows[i].x),
+        };
+        let s = interior_collector_range_bounded(layout.setting, r, between, left, work);
+        rows[i] = Planned {
+            x: Bound::from(s.outcome),
+        };
         left = s.left;
     }
     Planning { rows, left }

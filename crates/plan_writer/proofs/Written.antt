@@ -3,18 +3,18 @@ use Prim.Native.Nat.{ℕ, ◌+◌, ◌-◌, ◌*◌, ◌≤◌, ◌<◌}
 use mathlib.Core.Path.{◌≡◌, sym, ap, ◌∙◌, subst}
 use mathlib.Core.List.{List, [], ◌∷◌, ◌++◌, map}
 use native.Mathlib.Omega.{arith}
-use lib.ListN.{length, get_or, take, drop, length-append, length-take}
+use lib.ListN.{length, get_or, drop, length-append}
 use lib.Seq.{sets}
 use lib.Ieee.{Float}
 use Rattle.wire.specs.Bytes.{bytes, number_bytes}
 use Rattle.wire.proofs.BytesLaws.{bytes_length}
 use Rattle.answer.specs.Answer.{all_bytes}
-use Rattle.answer.proofs.Stores.{sets_then, sets_before, number_length, all_map, shorter, written}
+use Rattle.answer.proofs.Stores.{sets_then, sets_before, number_length, all_map}
 use Rattle.plan.specs.declared.Bound.{Bound}
 use Rattle.plan.specs.declared.Bound.TheVariants.{None, At}
 use Rattle.plan.specs.declared.Planned.{Planned}
-use Rattle.plan.specs.Tables.{Planning}
-use Rattle.plan.specs.Prepared.{plan_in, x_of}
+use Rattle.plan.specs.Prepared.{x_of}
+use Rattle.plan.proofs.TableReads.{rest_cons, rest_none}
 use Rattle.plan_bytes.specs.PlanBytes.{entry_bytes, body_bytes, plan_bytes}
 use Rattle.plan_writer.specs.Rows.{row_bytes}
 
@@ -39,18 +39,18 @@ entry_most None = let h = bytes_length 1 0 in omega (arith, h)
 entry_most (At y) = let h = length-append (bytes 1 1) (number_bytes y) in let k = bytes_length 1 1 in let l = number_length y in omega (arith, h, k, l)
 
 -- the whole: version and visits, the entries, then the length in front
-pub plan_put : (o o1 o2 o3 o4 : List ℕ) (n end : ℕ) (p : Planning) → o1 ≡ sets o 4 (bytes 1 1) → o2 ≡ sets o1 5 (bytes 4 p.left.0) → o3 ≡ sets o2 9 (all_bytes row_bytes (take n p.rows)) → end ≡ 9 + length (all_bytes row_bytes (take n p.rows)) → o4 ≡ sets o3 0 (bytes 4 (end - 4))
-    → (o4 ≡ sets o 0 (plan_bytes (plan_in n p))) × (end ≡ length (plan_bytes (plan_in n p)))
+pub plan_put : (o o1 o2 o3 o4 : List ℕ) (end : ℕ) (l : List Planned) (left : ℕ) → o1 ≡ sets o 4 (bytes 1 1) → o2 ≡ sets o1 5 (bytes 4 left) → o3 ≡ sets o2 9 (all_bytes row_bytes l) → end ≡ 9 + length (all_bytes row_bytes l) → o4 ≡ sets o3 0 (bytes 4 (end - 4))
+    → (o4 ≡ sets o 0 (plan_bytes (record { xs = map x_of l; left = left }))) × (end ≡ length (plan_bytes (record { xs = map x_of l; left = left })))
 unfolding plan_bytes body_bytes
-plan_put o o1 o2 o3 o4 n end p a b c d e =
-    let rows = all_bytes row_bytes (take n p.rows) in
-    let same : all_bytes entry_bytes (map x_of (take n p.rows)) ≡ rows = all_map entry_bytes x_of (take n p.rows) in
-    let body = bytes 1 1 ++ (bytes 4 p.left.0 ++ rows) in
+plan_put o o1 o2 o3 o4 end l left a b c d e =
+    let rows = all_bytes row_bytes l in
+    let same : all_bytes entry_bytes (map x_of l) ≡ rows = all_map entry_bytes x_of l in
+    let body = bytes 1 1 ++ (bytes 4 left ++ rows) in
     let l1 = bytes_length 1 1 in
-    let l4 = bytes_length 4 p.left.0 in
-    let bl : length body ≡ 5 + length rows = length-append (bytes 1 1) (bytes 4 p.left.0 ++ rows) ∙ ap (λ (k : ℕ). length (bytes 1 1) + k) (length-append (bytes 4 p.left.0) rows) ∙ omega (arith, l1, l4) in
-    let s2 : o3 ≡ sets o1 5 (bytes 4 p.left.0 ++ rows) = c ∙ ap (λ (l : List ℕ). sets l 9 rows) b ∙ sets_then o1 5 9 (bytes 4 p.left.0) rows (omega (arith, l4)) in
-    let s1 : o3 ≡ sets o 4 body = s2 ∙ ap (λ (l : List ℕ). sets l 5 (bytes 4 p.left.0 ++ rows)) a ∙ sets_then o 4 5 (bytes 1 1) (bytes 4 p.left.0 ++ rows) (omega (arith, l1)) in
+    let l4 = bytes_length 4 left in
+    let bl : length body ≡ 5 + length rows = length-append (bytes 1 1) (bytes 4 left ++ rows) ∙ ap (λ (k : ℕ). length (bytes 1 1) + k) (length-append (bytes 4 left) rows) ∙ omega (arith, l1, l4) in
+    let s2 : o3 ≡ sets o1 5 (bytes 4 left ++ rows) = c ∙ ap (λ (l : List ℕ). sets l 9 rows) b ∙ sets_then o1 5 9 (bytes 4 left) rows (omega (arith, l4)) in
+    let s1 : o3 ≡ sets o 4 body = s2 ∙ ap (λ (l : List ℕ). sets l 5 (bytes 4 left ++ rows)) a ∙ sets_then o 4 5 (bytes 1 1) (bytes 4 left ++ rows) (omega (arith, l1)) in
     let m : end - 4 ≡ length body = omega (arith, d, bl) in
     let h : o4 ≡ sets (sets o 4 body) 0 (bytes 4 (length body)) = e ∙ ap (λ (l : List ℕ). sets l 0 (bytes 4 (end - 4))) s1 ∙ ap (λ (k : ℕ). sets (sets o 4 body) 0 (bytes 4 k)) m in
     let f = bytes_length 4 (length body) in
@@ -59,28 +59,34 @@ plan_put o o1 o2 o3 o4 n end p a b c d e =
     rw same (w, omega (arith, d, bl, f, g))
 
 -- nine bytes a row at most
-rows_length : (l : List Planned) → length (all_bytes row_bytes l) ≤ 9 * length l
+pub rows_length : (l : List Planned) → length (all_bytes row_bytes l) ≤ 9 * length l
 unfolding all_bytes
 rows_length [] = omega arith
 rows_length (p ∷ l) = let h = rows_length l in let k = entry_most p.x in let a = length-append (entry_bytes p.x) (all_bytes row_bytes l) in omega (arith, h, k, a)
 
-pub rows_most : (n : ℕ) (l : List Planned) → length (all_bytes row_bytes (take n l)) ≤ 9 * n
-rows_most n l = let h = rows_length (take n l) in let k = length-take n l in omega (arith, h, k)
-
 pub entry_moves : (r at : ℕ) (x : Bound) → r ≡ at + length (entry_bytes x) → r ≤ at + 9
 entry_moves r at x e = let k = entry_most x in omega (arith, e, k)
 
-pub rows_move : (r at n : ℕ) (l : List Planned) → r ≡ at + length (all_bytes row_bytes (take n l)) → r ≤ at + 9 * n
-rows_move r at n l e = let k = rows_most n l in omega (arith, e, k)
+pub rows_move : (r at : ℕ) (l : List Planned) → r ≡ at + length (all_bytes row_bytes l) → r ≤ at + 9 * length l
+rows_move r at l e = let k = rows_length l in omega (arith, e, k)
 
 -- a turn of the loop over rows
-module _ (rows : List Planned) (n i : ℕ) (d : Planned) (fits : n ≤ length rows) (before : i < n) where
+module _ (rows : List Planned) (i : ℕ) (d : Planned) (before : i < length rows) where
   abbrev rest : ℕ → List ℕ
-  rest k = all_bytes row_bytes (drop k (take n rows))
+  rest k = all_bytes row_bytes (drop k rows)
+
+  next : rest i ≡ row_bytes (get_or rows i d) ++ rest (i + 1)
+  unfolding all_bytes
+  next = ap (all_bytes row_bytes) (rest_cons rows i d before)
 
   pub turn : (o o' whole : List ℕ) (from at at' total : ℕ) → o' ≡ sets o at (row_bytes (get_or rows i d)) → at' ≡ at + length (row_bytes (get_or rows i d)) → at ≤ from + 9 * i
       → at + length (rest i) ≡ total → sets o at (rest i) ≡ whole → (at' ≤ from + 9 * (i + 1)) × (at' + length (rest (i + 1)) ≡ total) × (sets o' at' (rest (i + 1)) ≡ whole)
   turn o o' whole from at at' total b e h t w =
       let m = entry_moves at' at (get_or rows i d).x e in
-      let s = shorter row_bytes rows n i d fits before in
-      (omega (arith, m, h), omega (arith, e, s, t), ap (λ (z : ℕ). sets o' z (rest (i + 1))) e ∙ written row_bytes rows n i d fits o o' at before b ∙ w)
+      let s = ap length next ∙ length-append (row_bytes (get_or rows i d)) (rest (i + 1)) in
+      let put = sets_then o at at' (row_bytes (get_or rows i d)) (rest (i + 1)) e in
+      (omega (arith, m, h), omega (arith, e, s, t), ap (λ (z : List ℕ). sets z at' (rest (i + 1))) b ∙ put ∙ ap (sets o at) (sym next) ∙ w)
+
+pub rows_done : (rows : List Planned) (i : ℕ) → length rows ≤ i → all_bytes row_bytes (drop i rows) ≡ []
+unfolding all_bytes
+rows_done rows i h = ap (all_bytes row_bytes) (rest_none rows i h)

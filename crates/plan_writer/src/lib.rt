@@ -2,15 +2,16 @@
 
 #![tactic(auto)]
 
-ghost use Rattle.std.specs.Prelude.{◌≡◌, ◌+◌, ◌*◌, ◌≤◌, length, take};
+ghost use Rattle.std.specs.Prelude.{◌≡◌, ◌+◌, ◌*◌, ◌≤◌, length, map};
 ghost use Rattle.std.proofs.lemmas.List.Edits.{sets};
 ghost use Rattle.limits.specs.Limits.{max_bundles, plan_room};
 ghost use Rattle.answer.specs.Answer.{all_bytes};
-ghost use Rattle.plan.specs.Prepared.{plan_in};
+ghost use Rattle.plan.specs.Prepared.{x_of};
 ghost use Rattle.plan_bytes.specs.PlanBytes.{entry_bytes, plan_bytes};
 ghost use Rattle.plan_writer.specs.Rows.{row_bytes};
 
-use plan::{Bound, Planning};
+use plan::{Bound, Planned};
+use search::TapVisits;
 
 // One entry; answers where the next one stands.
 fn put_entry(out: &mut [u8], at: usize, x: Bound) -> usize
@@ -31,31 +32,28 @@ fn put_entry(out: &mut [u8], at: usize, x: Bound) -> usize
     }
 }
 
-// That n is at most the limit is asked by each function: it is a count of rows in tables that are given
-// whole, with no type of its own.
-
-// The entries of the first n bundles.
-fn put_entries(out: &mut [u8], from: usize, p: Planning, n: usize) -> usize
-    requires { (n ≤ max_bundles) × (from + 9 * n ≤ length out.old) }
-    ensures bytes { out.new ≡ sets out.old from (all_bytes row_bytes (take n p.rows)) }
-    ensures place { result ≡ from + length (all_bytes row_bytes (take n p.rows)) }
+// The entries of some bundles.
+fn put_entries(out: &mut [u8], from: usize, rows: &[Planned]) -> usize
+    requires { from + 9 * length rows.now ≤ length out.old }
+    ensures bytes { out.new ≡ sets out.old from (all_bytes row_bytes rows.now) }
+    ensures place { result ≡ from + length (all_bytes row_bytes rows.now) }
 {
     let mut at = from;
-    for row in &p.rows[..n] {
+    for row in rows {
         at = put_entry(out, at, row.x);
     }
     at
 }
 
-// The plan of the first n bundles, at the front of a buffer; answers how many bytes it has.
-pub fn write_plan(out: &mut [u8], p: Planning, n: usize) -> usize
-    requires { (n ≤ max_bundles) × (plan_room ≤ length out.old) }
-    ensures bytes { out.new ≡ sets out.old 0 (plan_bytes (plan_in n p)) }
-    ensures place { result ≡ length (plan_bytes (plan_in n p)) }
+// The plan of some bundles and the visits left, at the front of a buffer; answers how many bytes it has.
+pub fn write_plan(out: &mut [u8], rows: &[Planned], left: TapVisits) -> usize
+    requires { (length rows.now ≤ max_bundles) × (plan_room ≤ length out.old) }
+    ensures bytes { out.new ≡ sets out.old 0 (plan_bytes (record { xs = map x_of rows.now; left = left.0 })) }
+    ensures place { result ≡ length (plan_bytes (record { xs = map x_of rows.now; left = left.0 })) }
 {
     wire::put8(out, 4, 1);
-    wire::put32(out, 5, p.left.0);
-    let end = put_entries(out, 9, p, n);
+    wire::put32(out, 5, left.0);
+    let end = put_entries(out, 9, rows);
     wire::put32(out, 0, (end - 4) as u32);
     end
 }

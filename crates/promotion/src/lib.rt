@@ -11,7 +11,7 @@ ghost use Rattle.search.specs.Stretches.{runs_in};
 ghost use Rattle.search.specs.Lent.{sought_lent};
 ghost use Rattle.search.specs.Promotion.{with_adjacent, promotion_xs, Promotes};
 
-use search::{Bounds, Listed, Promoted, Sought, TapVisits};
+use search::{Bounds, Promoted, SearchSpent, Sought, TapVisits};
 
 // ---- promotion_collector_candidates
 
@@ -30,7 +30,7 @@ fn add_adjacent<'a>(
 {
     let lane = search_runs::adjacent_lane(sought.role, sought.pitch, sought.bounds.desired);
     if !search_runs::is_between(sought.bounds, lane) {
-        return Promoted::All(n, left);
+        return Ok((n, left));
     }
     let second = Sought {
         bounds: Bounds {
@@ -39,15 +39,14 @@ fn add_adjacent<'a>(
         },
         ..sought
     };
-    let g = collector_xs::common_horizontal_collector_xs(second, left, &mut xs[n..], scratch);
-    match g {
-        Listed::Spent => Promoted::SecondSpent(n),
-        Listed::All(m, rest) => {
-            let both = n + m;
-            let k = search_lists::put_in_order(sought.role, &mut xs[..both], scratch);
-            Promoted::All(k, rest)
-        }
-    }
+    let listed = collector_xs::common_horizontal_collector_xs(second, left, &mut xs[n..], scratch);
+    // No `map_err`: its closure would need a contract of its own.
+    let Ok((m, rest)) = listed else {
+        return Err(SearchSpent::Second(n));
+    };
+    let both = n + m;
+    let k = search_lists::put_in_order(sought.role, &mut xs[..both], scratch);
+    Ok((k, rest))
 }
 
 // The candidates of both searches, at the front of xs. What the rest of xs and scratch hold
@@ -62,9 +61,6 @@ pub fn promotion_candidates<'a>(
     requires scratch_room { length xs.old + 2 * runs_in (sought_lent sought) ≤ length scratch.old }
     ensures { Promotes result xs.new (length xs.old) (promotion_xs sought.entry.role sought.entry.pitch sought.entry.bounds (sought_lent sought.entry) granted.0) }
 {
-    let g = collector_xs::common_horizontal_collector_xs(sought, granted, xs, scratch);
-    match g {
-        Listed::Spent => Promoted::Spent,
-        Listed::All(n, left) => add_adjacent(sought, n, left, xs, scratch),
-    }
+    let (n, left) = collector_xs::common_horizontal_collector_xs(sought, granted, xs, scratch)?;
+    add_adjacent(sought, n, left, xs, scratch)
 }

@@ -19,7 +19,8 @@ use geometry::{Point, Role, RouteView, Segment};
 // ---- intersections
 
 // first_met and last_met stay two: one goes forward over the runs and the other backward, and each
-// stops at its first hit.
+// stops at its first hit. As find_map over the places of the runs the closure has a clause of its own, that
+// the run is there, and the proof did not close with it.
 
 // The first run that is met, by its place: .enumerate().find_map(..).
 #[tactic(auto, using(route::proofs::WindowSteps::first_hit, route::proofs::WindowSteps::first_miss, route::proofs::WindowSteps::first_end))]

@@ -34,15 +34,14 @@ pub fn slot_of(present: PresentRoutes, e: usize) -> RouteView
 // its references stay the same.
 
 // The points of a route, written into another slice from point at on.
-#[tactic(auto, using(route::proofs::WindowSteps::copy_step, route::proofs::WindowSteps::copy_end))]
+#[tactic(auto, using(route::proofs::PointCopies::points_copied))]
 fn copy_points(route: RouteView, out: &mut [f64], at: usize)
     requires { 2 * (at + route.count) ≤ length out.old }
     ensures { out.new ≡ put_points out.old at (route_lent route.entry) }
 {
-    for i in 0..route.count {
-        let p = route_views::view_point(route, i);
-        route_views::put_point(&mut out[..], at + i, p);
-    }
+    let n = 2 * route.count;
+    let from = 2 * route.start;
+    out[2 * at..2 * at + n].copy_from_slice(&route.points[from..from + n]);
 }
 
 // The route of edge e becomes another one: a rewritten route of the scratch, or a given one of the

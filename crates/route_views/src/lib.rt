@@ -35,47 +35,21 @@ pub fn put_point(out: &mut [f64], i: usize, p: Point)
 }
 
 // ---- a route as a view over points
-//
-// A route as a caller lends it. It has the fields of a RouteView and is a type of its own, since it says
-// nothing yet: that its points are there is a field of a RouteView, which view_within makes of it.
-#[derive(Clone, Copy)]
-pub struct LentRoute<'a> {
-    pub points: &'a [f64],
-    pub start: usize,
-    pub count: usize,
-}
 
-// A route as it is lent.
-pub fn view<'a>(points: &'a [f64], start: usize, count: usize) -> LentRoute<'a>
-    ensures { (result.points ≡ points.entry) × (result.start ≡ start) × (result.count ≡ count) }
+// The route of count points from point start on, where they are there. Numbers that would wrap are no
+// route.
+pub fn view_within<'a>(points: &'a [f64], start: usize, count: usize) -> Option<RouteView<'a>>
+    ensures there { is_some result ≡ leb (2 * (start + count)) (length points.now) }
+    ensures same { IfSome result (λ r. (r.points ≡ points.entry) × (r.start ≡ start) × (r.count ≡ count)) }
 {
-    LentRoute {
-        points,
-        start,
-        count,
-    }
-}
-
-// How many points the route has.
-pub fn view_count<'a>(v: LentRoute<'a>) -> usize
-    ensures { result ≡ v.entry.count }
-{
-    v.count
-}
-
-// The same route, where its points are there. Numbers that would wrap are no route.
-pub fn view_within<'a>(v: LentRoute<'a>) -> Option<RouteView<'a>>
-    ensures there { is_some result ≡ leb (2 * (v.entry.start + v.entry.count)) (length v.entry.points.now) }
-    ensures same { IfSome result (λ r. (r.points ≡ v.entry.points) × (r.start ≡ v.entry.start) × (r.count ≡ v.entry.count)) }
-{
-    let n = v.points.len() / 2;
-    if v.start > n || v.count > n - v.start {
+    let n = points.len() / 2;
+    if start > n || count > n - start {
         return None;
     }
     Some(RouteView {
-        points: v.points,
-        start: v.start,
-        count: v.count,
+        points,
+        start,
+        count,
     })
 }
 
@@ -87,7 +61,8 @@ pub fn view_point<'a>(v: RouteView<'a>, i: usize) -> Point
     point_at(v.points, v.start + i)
 }
 
-// Run i of the route: from its point i to the next.
+// Run i of the route: from its point i to the next. That the run is there is asked: a place is a number, and
+// a type for it would be made and taken apart at each step.
 pub fn view_run<'a>(v: RouteView<'a>, i: usize) -> Segment
     requires { i + 1 < v.count }
     ensures { result ≡ run_at v.entry.points.now (v.entry.start + i) }
@@ -106,10 +81,8 @@ pub fn view_last<'a>(v: RouteView<'a>) -> Point
     view_point(v, v.count - 1)
 }
 
-// The next three are for callers that have the slice and the numbers apart, and so ask what a view has as
-// its field.
-
-// Point i of the route of count points from point start on.
+// Point i of the route of count points from point start on, for callers that have the slice and the
+// numbers apart, and so ask what a view has as its field.
 pub fn route_point(points: &[f64], start: usize, count: usize, i: usize) -> Point
     requires { (i < count) × (2 * (start + count) ≤ length points.now) }
     ensures { result ≡ point_at points.now (start + i) }
@@ -122,31 +95,4 @@ pub fn route_point(points: &[f64], start: usize, count: usize, i: usize) -> Poin
         },
         i,
     )
-}
-
-// Run i of that route.
-pub fn route_run(points: &[f64], start: usize, count: usize, i: usize) -> Segment
-    requires { (i + 1 < count) × (2 * (start + count) ≤ length points.now) }
-    ensures { result ≡ run_at points.now (start + i) }
-{
-    view_run(
-        RouteView {
-            points,
-            start,
-            count,
-        },
-        i,
-    )
-}
-
-// The last point of that route, which has one.
-pub fn route_last(points: &[f64], start: usize, count: usize) -> Point
-    requires { (0 < count) × (2 * (start + count) ≤ length points.now) }
-    ensures { result ≡ point_at points.now (start + (count - 1)) }
-{
-    view_last(RouteView {
-        points,
-        start,
-        count,
-    })
 }

@@ -2,7 +2,7 @@
 -- Assumes nothing.
 use Rattle.std.specs.Prelude.{◌≡◌, Bool, true, false, ◌&&◌, ℕ, zero, suc, ◌+◌, ◌-◌, ◌*◌, ◌≤◌, ◌<◌, get_or, take, drop, T, Float, Option, Some, None}
 use Rattle.std.proofs.Math.Path.{refl, ap}
-use Rattle.std.proofs.Common.{sym, ◌∙◌, subst, arith, length-append, length-take-le, get_or-take, take_at, drop_at}
+use Rattle.std.proofs.Common.{sym, ◌∙◌, arith, length-append, length-take-le, get_or-take, take_at, drop_at}
 use mathlib.Core.List.{List, [], ◌∷◌, ◌++◌, map, append_assoc, append-nil, map-append, map-map}
 use Rattle.std.proofs.Math.ListN.{length}
 use Rattle.std.proofs.lemmas.List.{length-map}
@@ -14,13 +14,10 @@ use Rattle.geometry.specs.declared.Role.{Role}
 use Rattle.geometry.specs.Stretch.{holds}
 use Rattle.geometry.specs.Points.{points_from, runs, point_at, put_point}
 use Rattle.route.specs.Window.{points_take, points_drop, points_same, point_same, points_length, runs_length, put_after}
-use Rattle.search.specs.declared.TapVisits.{TapVisits}
-use Rattle.search.specs.declared.Listed.{Listed}
-use Rattle.search.specs.declared.Listed.TheVariants as listed
 use Rattle.search.specs.Stretches.{stretches, members, all_runs, runs_in, routes}
 use Rattle.search.specs.Search.{Tried, after, held, lacked, unpaid, spent, tried_on, tried_on_all, tried}
 use Rattle.search.proofs.Cost.{stretches_length}
-use Rattle.search.specs.Kept.{kept, spanned, members_from, Keeps}
+use Rattle.search.specs.Kept.{kept, spanned, members_from}
 
 -- ---- a kept pair holds what the stretch holds
 abbrev again : Option (Float × Float) → Option (Float × Float)
@@ -92,10 +89,9 @@ kept_whole ks k ss e =
     ap (points_from ks 0) n ∙ sym f
 
 -- a slice of which the front stays
-pub keeps_front : (r : Listed) (ks more : List Float) (ss : List (Option (Float × Float))) (n : ℕ) → n ≤ length ks → 2 * length ss ≤ n → Keeps r ks ss → Keeps r (take n ks ++ more) ss
+pub keeps_front : (ks more : List Float) (ss : List (Option (Float × Float))) (n : ℕ) → n ≤ length ks → 2 * length ss ≤ n → points_from ks 0 (length ss) ≡ map kept ss → points_from (take n ks ++ more) 0 (length ss) ≡ map kept ss
 unfolding point_at
-keeps_front listed.Spent ks more ss n h f k = tt
-keeps_front (listed.All m v) ks more ss n h f k =
+keeps_front ks more ss n h f k =
     points_same (take n ks ++ more) ks 0 0 (length ss) (λ i q. point_same (take n ks ++ more) ks (0 + i) (0 + i) (at (2 * (0 + i)) (omega arith)) (at (2 * (0 + i) + 1) (omega arith))) ∙ k
   where
     at : (j : ℕ) → j < n → get_or (take n ks ++ more) j nan ≡ get_or ks j nan
@@ -143,9 +139,9 @@ module _ (role : Role) (pitch : Float) (points ks : List Float) (starts counts :
   abbrev theirs : List (List (Option (Float × Float)))
   theirs = members role pitch (routes points starts counts)
 
-  module _ (r : Listed) (n : ℕ) (v : TapVisits) (e : r ≡ listed.All n v) (k : Keeps r ks (all_runs theirs)) where
+  module _ (k : points_from ks 0 (runs_in theirs) ≡ map kept (all_runs theirs)) where
     are_again : members_from ks 0 counts ≡ again_all theirs
-    are_again = members_kept role pitch points ks 0 starts counts paired (subst (λ (q : Listed). Keeps q ks (all_runs theirs)) e k)
+    are_again = members_kept role pitch points ks 0 starts counts paired k
 
     -- the room that the trial asks for
     pub kept_room : runs_in (members_from ks 0 counts) ≡ runs_in theirs

@@ -1,6 +1,6 @@
 -- The steps of the refusals' definitions, by place in the lists; what an accepted call may count on; and what is written for a list.
 -- Assumes nothing.
-use Rattle.std.specs.Prelude.{◌≡◌, refl, Bool, true, false, not, ◌&&◌, ◌||◌, cond, List, [], ◌∷◌, ◌++◌, leb, ltb, eqb, get_or, take, drop, Float, Option, Some, None}
+use Rattle.std.specs.Prelude.{◌≡◌, refl, Bool, true, false, not, ◌&&◌, ◌||◌, cond, List, [], ◌∷◌, ◌++◌, leb, ltb, eqb, get_or, take, drop, Float, Option, Some, None, Ok, Err}
 use Rattle.std.proofs.Common.{sym, ◌∙◌, subst, true≢false, add-one, length-append, take-take, take_all, length-take-le, leb-true, ltb-true, ltb-false, ne_eqb}
 use Rattle.std.proofs.Math.Nat.{min-eq_left, min-eq_right}
 use Rattle.std.proofs.Math.Path.{ap}
@@ -17,13 +17,11 @@ use Rattle.geometry.specs.declared.Role.{Role}
 use Rattle.geometry.specs.Points.{point_at, points_from}
 use Rattle.search.specs.declared.TapVisits.{TapVisits}
 use Rattle.search.specs.declared.Bounds.{Bounds}
-use Rattle.search.specs.declared.Listed.{Listed}
-use Rattle.search.specs.declared.Listed.TheVariants as listed
-use Rattle.search.specs.declared.Promoted.{Promoted}
-use Rattle.search.specs.declared.Promoted.TheVariants as promoted_as
+use Rattle.search.specs.declared.TapVisitsSpent.{TapVisitsSpent}
+use Rattle.search.specs.declared.SearchSpent.TheVariants.{First, Second}
 use Rattle.search.specs.Stretches.{members, routes, runs_in, Windows}
-use Rattle.search.specs.Search.{Listing, first, mark, told, Fits, Lists}
-use Rattle.search.specs.Promotion.{Promotion, promotion_xs, shortened, promotion_told, PromotionFits, Promotes}
+use Rattle.search.specs.Search.{Listed, Listing, first, mark, told, Fits, Lists}
+use Rattle.search.specs.Promotion.{Promoted, Promotion, promotion_xs, shortened, promotion_told, PromotionFits, Promotes}
 use Rattle.search.proofs.Parts.{fits_in, told_front, promotion_fits_in, promotion_front, take_head}
 use Rattle.search_calls.specs.declared.SearchAnswer.{SearchAnswer}
 use Rattle.search_calls.specs.Entry.{places_fit, counts_fit, points_fit, routes_fit, refusal, Said, said, promotion_said, answer_of, refused, bounds_fit, collector_bounds_fit, promoted, Replied, Untouched}
@@ -148,10 +146,10 @@ pub mark_some : (n : ℕ) (list : List Float) → 0 < n → n ≤ length list �
 mark_some n list some within = rw (take_head list n some within)
 
 -- ---- what the search's list says
-pub spent_said : (g : Listed) (list : List Float) → g ≡ listed.Spent → record { mark = 2; list = []; left = 0 } ≡ said (told g list)
-spent_said g list e = rw e
+pub spent_said : (g : Listed) (list : List Float) (s : TapVisitsSpent) → g ≡ Err s → record { mark = 2; list = []; left = 0 } ≡ said (told g list)
+spent_said g list s e = rw e
 
-pub listed_said : (g : Listed) (list : List Float) (k n : ℕ) (v : TapVisits) → g ≡ listed.All n v → k ≡ mark (first (take n list)) → record { mark = k; list = take n list; left = v.0 } ≡ said (told g list)
+pub listed_said : (g : Listed) (list : List Float) (k n : ℕ) (v : TapVisits) → g ≡ Ok (n, v) → k ≡ mark (first (take n list)) → record { mark = k; list = take n list; left = v.0 } ≡ said (told g list)
 listed_said g list k n v e h = rw (e, h)
 
 -- ---- what a promotion's list says: its first numbers, as many as are kept
@@ -181,24 +179,24 @@ front n list within = go (ltb n most_kept) refl
     go false e = sym (take-take most_kept n list (omega (arith, ltb-false)))
 
 module _ (p : Promoted) (list : List Float) where
-  pub first_spent_said : p ≡ promoted_as.Spent → record { mark = 2; list = []; left = 0 } ≡ promotion_said (shortened (promotion_told p list))
+  pub first_spent_said : p ≡ Err First → record { mark = 2; list = []; left = 0 } ≡ promotion_said (shortened (promotion_told p list))
   first_spent_said e = rw e
 
   module _ (j n : ℕ) (h : j ≡ few n) (within : n ≤ length list) where
     list_is : take j list ≡ take most_kept (take n list)
     list_is = ap (λ (i : ℕ). take i list) h ∙ front n list within
 
-    pub second_spent_said : p ≡ promoted_as.SecondSpent n → record { mark = 4; list = take j list; left = 0 } ≡ promotion_said (shortened (promotion_told p list))
-    second_spent_said e = rw (e, list_is)
+    pub second_spent_said : (k : ℕ) → k ≡ 4 → p ≡ Err (Second n) → record { mark = k; list = take j list; left = 0 } ≡ promotion_said (shortened (promotion_told p list))
+    second_spent_said k m e = rw (e, m, list_is)
 
-    pub kept_said : (k : ℕ) (v : TapVisits) → p ≡ promoted_as.All n v → k ≡ mark (first (take j list)) → record { mark = k; list = take j list; left = v.0 } ≡ promotion_said (shortened (promotion_told p list))
+    pub kept_said : (k : ℕ) (v : TapVisits) → p ≡ Ok (n, v) → k ≡ mark (first (take j list)) → record { mark = k; list = take j list; left = v.0 } ≡ promotion_said (shortened (promotion_told p list))
     kept_said k v e m = rw (e, m, list_is)
 
 -- the count that an answer carries
-pub second_within : (p : Promoted) (n size : ℕ) → p ≡ promoted_as.SecondSpent n → PromotionFits p size → n ≤ size
+pub second_within : (p : Promoted) (n size : ℕ) → p ≡ Err (Second n) → PromotionFits p size → n ≤ size
 second_within p n size e f = subst (λ (r : Promoted). PromotionFits r size) e f
 
-pub kept_within : (p : Promoted) (n : ℕ) (v : TapVisits) (size : ℕ) → p ≡ promoted_as.All n v → PromotionFits p size → n ≤ size
+pub kept_within : (p : Promoted) (n : ℕ) (v : TapVisits) (size : ℕ) → p ≡ Ok (n, v) → PromotionFits p size → n ≤ size
 kept_within p n v size e f = subst (λ (r : Promoted). PromotionFits r size) e f
 
 -- ---- the entries

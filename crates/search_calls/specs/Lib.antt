@@ -1,3 +1,4 @@
 pub mod Entry
 pub mod Copied
 pub mod Lent
+pub mod Marks

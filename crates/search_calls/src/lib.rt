@@ -3,6 +3,9 @@
 
 #![tactic(auto)]
 
+ghost use Rattle.std.specs.Prelude.{◌≡◌};
+ghost use Rattle.search_calls.specs.Marks.{mark_number};
+
 // The members' routes as a caller lends them, route m being counts[m] points from point starts[m] on:
 // nothing says yet that the points are there.
 #[derive(Clone, Copy)]
@@ -22,10 +25,28 @@ pub struct Call<'a> {
     pub granted: u32,
 }
 
-// What a public entry says, a struct for C: document 01's number of a refusal, or 0; the mark of the outcome (0
-// nothing common, 1 found or kept, 2 spent, 3 bounds absent, 4 the second search of a promotion
-// spent), which is a number for C; the visits left; how many numbers stand at the front of the output,
-// and the first of them.
+// What the mark of an answer says; specs/Marks.antt has the number of each.
+#[derive(Clone, Copy, Debug, PartialEq, Eq)]
+pub enum Mark {
+    Nothing,
+    Found,
+    Spent,
+    Absent,
+    SecondSpent,
+}
+
+// A mark's number.
+impl From<Mark> for u8 {
+    ghost from_gives = { λ m n. n ≡ mark_number m };
+
+    fn from(m: Mark) -> u8 {
+        m as u8
+    }
+}
+
+// What a public entry says, a struct for C: document 01's number of a refusal, or 0; the number of a
+// mark, and 0 beside a refusal; the visits left; how many numbers stand at the front of the output, and
+// the first of them.
 #[repr(C)]
 #[derive(Clone, Copy)]
 pub struct SearchAnswer {

@@ -3,9 +3,10 @@
 
 #![tactic(auto)]
 
-ghost use Rattle.std.specs.Prelude.{◌≡◌, ◌+◌, ◌≤◌, length};
+ghost use Rattle.std.specs.Prelude.{◌≡◌, length};
 ghost use Rattle.limits.specs.Limits.{max_bundle_members, member_numbers};
-ghost use Rattle.search_calls.specs.Copied.{Fitting, Put, Copied};
+ghost use Rattle.search_calls.specs.Entry.{plus_zeros};
+ghost use Rattle.search_calls.specs.Copied.{Fitting, Copied};
 ghost use Rattle.search_calls.specs.Lent.{lent_windows_fit, PlainFor};
 
 use limits::{MAX_BUNDLE_MEMBERS, MAX_ROUTE_POINTS, ROUTE_NUMBERS};
@@ -22,13 +23,14 @@ pub fn windows_fit<'a>(lent: LentRoutes<'a>) -> bool
         && search_refusals::counts_fit(lent.counts)
 }
 
-// n numbers of points, from place `from` on, into copy from place `at` on.
-pub fn copy_numbers(points: &[f64], from: usize, n: usize, copy: &mut [f64], at: usize)
-    requires { (from + n ≤ length points.now) × (at + n ≤ length copy.old) }
-    ensures { Put points.now from n copy.old copy.new at }
+// The numbers of points, plus zeros for minus zeros, over copy.
+#[tactic(auto, using(crate::proofs::Parts::copied_next, crate::proofs::Parts::copied_whole))]
+pub fn copy_numbers(points: &[f64], copy: &mut [f64])
+    requires { length points.now ≡ length copy.old }
+    ensures { copy.new ≡ plus_zeros points.now }
 {
-    for i in 0..n {
-        copy[at + i] = binary64::plus_zero(points[from + i]);
+    for (i, x) in points.iter().enumerate() {
+        copy[i] = binary64::plus_zero(*x);
     }
 }
 
@@ -42,8 +44,9 @@ pub fn copy_routes<'a>(lent: LentRoutes<'a>, copy: &mut [f64], rows: &mut [usize
 {
     for m in 0..lent.starts.len() {
         let from = 2 * lent.starts[m];
+        let at = ROUTE_NUMBERS * m;
         let n = 2 * lent.counts[m];
-        copy_numbers(lent.points, from, n, &mut copy[..], ROUTE_NUMBERS * m);
+        copy_numbers(&lent.points[from..from + n], &mut copy[at..at + n]);
         rows[m] = MAX_ROUTE_POINTS * m;
     }
 }

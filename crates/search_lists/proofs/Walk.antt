@@ -73,9 +73,9 @@ module _ (role : Role) (b : Bounds) (xs : List Float) where
     unfolding gathered_onto
     gather_spent e = rw e
 
-    pub gather_step : (c : Option Float) → 0 < v → candidate role b s ≡ c → gathered_onto role b xs (s ∷ ss) v ≡ gathered_onto role b (onto xs c) ss (v - 1)
+    pub gather_step : (c : Option Float) (w : ℕ) → v ≡ w + 1 → candidate role b s ≡ c → gathered_onto role b xs (s ∷ ss) v ≡ gathered_onto role b (onto xs c) ss w
     unfolding gathered_onto
-    gather_step c h e = let p : v ≡ suc (v - 1) = omega arith in ap (gathered_onto role b xs (s ∷ ss)) p ∙ rw e
+    gather_step c w p e = ap (gathered_onto role b xs (s ∷ ss)) (p ∙ add-one w) ∙ rw e
 
   pub gather_end : (v : ℕ) → gathered_onto role b xs [] v ≡ listing xs v
   unfolding gathered_onto
@@ -130,9 +130,9 @@ module _ (x : Float) where
     unfolding tried_on
     try_unpaid e = rw e
 
-    pub try_look : (t : Bool) → 0 < v → holds x s ≡ t → tried_on x (s ∷ ss) v ≡ or_else t (v - 1) (tried_on x ss (v - 1))
+    pub try_look : (t : Bool) (w : ℕ) → v ≡ w + 1 → holds x s ≡ t → tried_on x (s ∷ ss) v ≡ or_else t w (tried_on x ss w)
     unfolding tried_on
-    try_look t h e = let p : v ≡ suc (v - 1) = omega arith in ap (tried_on x (s ∷ ss)) p ∙ rw e
+    try_look t w p e = ap (tried_on x (s ∷ ss)) (p ∙ add-one w) ∙ rw e
 
   pub try_member : (m : List (Option (Float × Float))) (ms : List (List (Option (Float × Float)))) (v : ℕ) → tried_on_all x (m ∷ ms) v ≡ after (tried_on x m v) (tried_on_all x ms) lacked unpaid
   unfolding tried_on_all

@@ -6,14 +6,25 @@
 
 #![tactic(auto)]
 
-ghost use Rattle.std.specs.Prelude.{[], ◌*◌, ◌≤◌, ◌<◌, length};
+ghost use Rattle.std.specs.Prelude.{[], ◌*◌, ◌≤◌, ◌<◌, ◌≡◌, ◌+◌, length, MatchResult};
 ghost use Rattle.search.specs.Stretches.{all_runs, runs_in};
 ghost use Rattle.search.specs.Lent.{sought_lent};
 ghost use Rattle.search.specs.Search.{gathered, tried, Lists, InOrder};
 ghost use Rattle.search.specs.Kept.{members_from, Keeps};
 
 use geometry::Role;
-use search::{Listed, Sought, TapVisits};
+use search::{Listed, Sought, TapVisits, TapVisitsSpent};
+
+// One visit is paid before each look, if one is left.
+fn charge(left: &mut TapVisits) -> Result<(), TapVisitsSpent>
+    ensures { MatchResult result (λ _. left.old.0 ≡ left.new.0 + 1) (λ _. left.old.0 ≡ 0) }
+{
+    if left.0 == 0 {
+        return Err(TapVisitsSpent);
+    }
+    left.0 -= 1;
+    Ok(())
+}
 
 // The first pass: the desired x and a candidate of each run that has one, one visit paid before
 // each run. Each run's stretch, or that it has none, is kept as a pair at the front of kept.
@@ -31,14 +42,11 @@ pub fn gather<'a>(
     xs[0] = sought.bounds.desired;
     let mut n = 1;
     let mut k = 0;
-    let mut left = granted.0;
+    let mut left = granted;
     for m in 0..sought.routes.starts.len() {
         let route = search_runs::member_route(sought.routes, m);
         for i in 0..route.count.saturating_sub(1) {
-            if left == 0 {
-                return Listed::Spent;
-            }
-            left -= 1;
+            charge(&mut left)?;
             let s = search_runs::run_stretch(route, i, sought.role, sought.pitch);
             route_views::put_point(kept, k, search_runs::kept_of(s));
             k += 1;
@@ -49,7 +57,7 @@ pub fn gather<'a>(
             }
         }
     }
-    Listed::All(n, TapVisits(left))
+    Ok((n, left))
 }
 
 // The second pass: each candidate is tried on the members in order, one visit paid before each run
@@ -60,13 +68,13 @@ pub fn try_candidates(kept: &[f64], counts: &[usize], granted: TapVisits, xs: &m
     requires { 2 * runs_in (members_from kept.now 0 counts.now) ≤ length kept.now }
     ensures { Lists result xs.new (length xs.old) (tried (members_from kept.now 0 counts.now) xs.old [] granted.0) }
 {
-    let mut left = granted.0;
+    let mut left = granted;
     let mut n = 0;
     let mut i = 0;
-    // No `for`: document 01 has the loop left by its label, and a `for` that ends comes there too.
+    // No `for` and no `?`: document 01 has the loop left by its label, and a `for` that ends comes there too.
     'candidates: loop {
         if i == xs.len() {
-            return Listed::All(n, TapVisits(left));
+            return Ok((n, left));
         }
         let x = xs[i];
         i += 1;
@@ -77,10 +85,9 @@ pub fn try_candidates(kept: &[f64], counts: &[usize], granted: TapVisits, xs: &m
             }
             let end = at + (count - 1);
             for j in at..end {
-                if left == 0 {
+                let Ok(()) = charge(&mut left) else {
                     break 'candidates;
-                }
-                left -= 1;
+                };
                 if search_runs::kept_holds(kept, j, x) {
                     at = end;
                     continue 'members;
@@ -91,7 +98,7 @@ pub fn try_candidates(kept: &[f64], counts: &[usize], granted: TapVisits, xs: &m
         xs[n] = x;
         n += 1;
     }
-    Listed::Spent
+    Err(TapVisitsSpent)
 }
 
 // The numbers in the order in which they are tried, equal bits kept once, at the front of xs; the

@@ -19,6 +19,9 @@ use search_calls::{Call, LentRoutes};
 
 // ---- what the public entries refuse
 
+// Loops and no `all`: tried for routes_fit, it did not prove, since what `all` says of a range of places
+// would need laws of its own beside the steps.
+
 // Every member's points are within the points lent.
 #[tactic(auto, using(search_calls::proofs::RefusalSteps::places_differ, search_calls::proofs::RefusalSteps::places_next, search_calls::proofs::RefusalSteps::places_end))]
 pub fn places_fit<'a>(lent: LentRoutes<'a>) -> bool
@@ -28,8 +31,7 @@ pub fn places_fit<'a>(lent: LentRoutes<'a>) -> bool
         return false;
     }
     for m in 0..lent.starts.len() {
-        let route = route_views::view(lent.points, lent.starts[m], lent.counts[m]);
-        if route_views::view_within(route).is_none() {
+        if route_views::view_within(lent.points, lent.starts[m], lent.counts[m]).is_none() {
             return false;
         }
     }
@@ -89,12 +91,17 @@ pub fn is_bounds(b: Bounds) -> bool
         & binary64::is_coordinate(b.maximum)
 }
 
-// The refusal of a call, in the order of document 01's numbers. `room` says that every lent output
-// and scratch is long enough, `bounds` that the bounds are accepted.
+// The routes and the role of a call that is accepted, or its refusal, in the order of document 01's
+// numbers. `room` says that every lent output and scratch is long enough, `bounds` that the bounds are
+// accepted.
 #[tactic(auto, using(search_calls::proofs::RefusalSteps::windows))]
-pub fn refusal_of<'a>(room: bool, call: Call<'a>, bounds: bool) -> Result<(), Refusal>
+pub fn accepted<'a>(
+    room: bool,
+    call: Call<'a>,
+    bounds: bool,
+) -> Result<(MemberRoutes<'a>, Role), Refusal>
     ensures { MatchResult result
-        (λ _. call_refusal room call.entry bounds ≡ 0)
+        (λ a. (call_refusal room call.entry bounds ≡ 0) × (a.0.points ≡ call.entry.routes.points) × (a.0.starts ≡ call.entry.routes.starts) × (a.0.counts ≡ call.entry.routes.counts) × (a.1 ≡ role_of call.entry.role))
         (λ r. call_refusal room call.entry bounds ≡ refusal_number r) }
 {
     let lent = call.routes;
@@ -110,9 +117,12 @@ pub fn refusal_of<'a>(room: bool, call: Call<'a>, bounds: bool) -> Result<(), Re
     {
         return Err(Refusal::LimitExceeded);
     }
-    if call.role > 1 {
-        return Err(Refusal::ValueNotListed);
-    }
+    // No `TryFrom`: the impl would stand in geometry, below the definition that says what it gives.
+    let role = match call.role {
+        0 => Role::Input,
+        1 => Role::Output,
+        _ => return Err(Refusal::ValueNotListed),
+    };
     let routes = MemberRoutes {
         points: lent.points,
         starts: lent.starts,
@@ -121,14 +131,5 @@ pub fn refusal_of<'a>(room: bool, call: Call<'a>, bounds: bool) -> Result<(), Re
     if !routes_fit(routes) || !binary64::is_option(call.pitch) || !bounds {
         return Err(Refusal::NumberOutOfRange);
     }
-    Ok(())
-}
-
-// ---- the public entries
-
-// No `From`: the impl would stand in geometry, below the definition that says what it gives.
-pub fn role_from(role: u8) -> Role
-    ensures { result ≡ role_of role }
-{
-    if role == 0 { Role::Input } else { Role::Output }
+    Ok((routes, role))
 }

@@ -14,27 +14,25 @@ ghost use Rattle.plan.specs.Depths.{pitch_of};
 ghost use Rattle.plan.specs.Plan.{clear, moved, cut_to, if_clear, lanes_of, add_lane, beside, separated};
 ghost use Rattle.plan.specs.Prepared.{Among, ranged_from, x_of, plan_in};
 ghost use Rattle.plan.specs.Lent.{BundleTells};
-ghost use Rattle.separation.specs.Taken.{taken, lanes_in, outmost, cut_past, none_taken, RangesTell, RangesFit};
+ghost use Rattle.separation.specs.Taken.{lanes_in, outmost, cut_past, none_taken, RangesTell, RangesFit};
 
-use board::Table;
+use arrayvec::ArrayVec;
 use geometry::Role;
 use limits::MAX_BUNDLES;
 use plan::layout::Setting;
 use plan::search_work::SearchWork;
-use plan::{Bound, Planned, Planning, Range, Ranges};
+use plan::{Bound, Planned, Planning, Range};
 use search::{Bounds, Outcome, Searched, TapVisits};
 
-// The x taken so far by bundles of one role.
-pub type Taken = Table<f64, MAX_BUNDLES>;
-
-// The same of both roles.
-#[derive(Clone, Copy)]
+// The x taken so far by the bundles of each role. No one type with plan::Used (see there).
+#[derive(Drop)]
 pub struct Lanes {
-    pub input: Taken,
-    pub output: Taken,
+    pub input: ArrayVec<f64, MAX_BUNDLES>,
+    pub output: ArrayVec<f64, MAX_BUNDLES>,
 }
 
-// Whether x is a pitch away from each of those taken.
+// Whether x is a pitch away from each of those taken. A loop and no `all`, with which it was proved, but an
+// edit was refused by a search that finds nothing, and at no fact.
 pub fn collector_has_lane_separation(pitch: f64, x: f64, used: &[f64]) -> bool
     ensures { result ≡ clear pitch x used.now }
 {
@@ -136,79 +134,49 @@ fn if_clear(pitch: f64, x: Bound, used: &[f64]) -> Bound
     }
 }
 
-fn lanes_of(role: Role, l: Lanes) -> Taken
-    ensures told { taken result ≡ lanes_of role (lanes_in l) }
-    ensures few { (n : ℕ) → l.input.count ≤ n → l.output.count ≤ n → result.count ≤ n }
-    ensures size { length result.rows ≡ max_bundles }
+fn lanes_of(role: Role, l: &Lanes) -> &[f64]
+    ensures { result.now ≡ lanes_of role (lanes_in l.now) }
 {
     match role {
-        Role::Input => l.input,
-        Role::Output => l.output,
+        Role::Input => l.input.as_slice(),
+        Role::Output => l.output.as_slice(),
     }
 }
 
-// An x more among those taken.
-fn taken_with(mut t: Taken, x: f64) -> Taken
-    requires { t.count < max_bundles }
-    ensures told { taken result ≡ taken t ++ (x ∷ []) }
-    ensures one { result.count ≡ t.count + 1 }
-{
-    t.rows[t.count] = x;
-    t.count += 1;
-    t
-}
-
-fn add_lane(role: Role, x: Bound, l: Lanes) -> Lanes
-    requires { (l.input.count < max_bundles) × (l.output.count < max_bundles) }
-    ensures told { lanes_in result ≡ add_lane role x (lanes_in l) }
-    ensures few { (result.input.count ≤ l.input.count + 1) × (result.output.count ≤ l.output.count + 1) }
+// The x of a bundle, if it has one, is taken among those of its role.
+fn add_lane(role: Role, x: Bound, l: &mut Lanes)
+    requires { (length l.old.input.items < max_bundles) × (length l.old.output.items < max_bundles) }
+    ensures told { lanes_in l.new ≡ add_lane role x (lanes_in l.old) }
+    ensures few { (length l.new.input.items ≤ length l.old.input.items + 1) × (length l.new.output.items ≤ length l.old.output.items + 1) }
 {
     match x {
-        Bound::None => l,
+        Bound::None => {}
         Bound::At(y) => match role {
-            Role::Input => Lanes {
-                input: taken_with(l.input, y),
-                ..l
-            },
-            Role::Output => Lanes {
-                output: taken_with(l.output, y),
-                ..l
-            },
+            Role::Input => l.input.push(y),
+            Role::Output => l.output.push(y),
         },
     }
 }
 
 // Each bundle of the plan in order, clear of those of its role before it.
-pub fn separate(
-    setting: Setting,
-    t: Ranges,
-    n: usize,
-    p: Planning,
-    work: &mut SearchWork,
-) -> Planning
-    requires ranges_fit { RangesFit setting.routes.starts.now t n }
-    ensures { (b : Board) (given : List Route) → RangesTell b given setting.entry t n → plan_in n result ≡ separated search_of b given (map ranged_from (take n t.rows)) (map x_of (take n p.rows)) none_taken p.left.0 }
+pub fn separate(setting: Setting, ranges: &[Range], p: Planning, work: &mut SearchWork) -> Planning
+    requires ranges_fit { RangesFit setting.routes.starts.now ranges.now }
+    ensures { (b : Board) (given : List Route) → RangesTell b given setting.entry ranges.now → plan_in (length ranges.now) result ≡ separated search_of b given (map ranged_from ranges.now) (map x_of (take (length ranges.now) p.rows)) none_taken p.left.0 }
 {
-    let none = Taken {
-        rows: [0.0; MAX_BUNDLES],
-        count: 0,
-    };
     let mut lanes = Lanes {
-        input: none,
-        output: none,
+        input: ArrayVec::new(),
+        output: ArrayVec::new(),
     };
     let mut rows = p.rows;
     let mut left = p.left;
-    for i in 0..n {
-        let s = t.rows[i];
+    for (i, s) in ranges.iter().enumerate() {
         let role = s.bundle.role;
-        let taken = lanes_of(role, lanes);
-        let used = &taken.rows[..taken.count];
-        let r = beside(setting, s, rows[i].x, used, left, work);
-        let found = plan_numbers::found_x(r.outcome);
+        let used = lanes_of(role, &lanes);
+        let r = beside(setting, *s, rows[i].x, used, left, work);
+        let found = Bound::from(r.outcome);
         let x = if_clear(setting.pitch, found, used);
         rows[i] = Planned { x };
-        lanes = add_lane(role, x, lanes);
+        add_lane(role, x, &mut lanes);
         left = r.left;
     }
     Planning { rows, left }

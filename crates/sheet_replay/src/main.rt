@@ -5,20 +5,22 @@
 #![tactic(auto)]
 
 ghost use Rattle.std.specs.Prelude.{◌≡◌, ◌*◌, ◌≤◌, length};
-ghost use Rattle.limits.specs.Limits.{max_nodes, max_edges, max_bundles, max_members};
+ghost use Rattle.limits.specs.Limits.{max_nodes, max_edges, max_bundles, max_members, slot_numbers};
+ghost use Rattle.route.specs.Slots.{Held};
 ghost use Rattle.answer.specs.SheetTables.{Windows};
 ghost use Rattle.job_tables.specs.Came.{Came};
-ghost use Rattle.draw_job.specs.JobTables.{MembersOn, OnSheet, Lent};
+ghost use Rattle.draw_job.specs.JobTables.{MembersOn, Lent};
 
 use answer::Frame;
-use board::{DrawnBundles, Nodes};
+use board::{DrawnBundle, Edge, Member, PlacedNode};
 use draw_job::SheetWork;
 use drawing::GeometryVisits;
 use job::Job;
 use limits::{
-    ALL_SLOT_NUMBERS, ANY_ANSWER_ROOM, JOB_ROOM, MAX_BUNDLES, MAX_EDGES, MAX_MEMBERS,
-    POINT_NUMBERS, SLOT_NUMBERS, TAP_NUMBERS,
+    ALL_SLOT_NUMBERS, ANY_ANSWER_ROOM, JOB_ROOM, MAX_BUNDLES, MAX_EDGES, POINT_NUMBERS,
+    SLOT_NUMBERS, TAP_NUMBERS,
 };
+use plan::tables::BoardTables;
 use plan::{Bound, Planned, Planning};
 use route::PresentRoutes;
 use search::TapVisits;
@@ -61,8 +63,10 @@ fn put_verdict(out: &mut [u8; OUT_ROOM], number: u64, bundle: usize, left: Geome
 // other.
 #[derive(Clone, Copy)]
 struct WrittenSheet<'a> {
-    nodes: Nodes,
-    drawn: DrawnBundles,
+    nodes: &'a [PlacedNode],
+    edges: &'a [Edge],
+    members: &'a [Member],
+    drawn: &'a [DrawnBundle],
     present: PresentRoutes<'a>,
     taps: &'a [f64],
 }
@@ -71,42 +75,45 @@ struct WrittenSheet<'a> {
 fn put_page(
     page: &mut [u8; ANY_ANSWER_ROOM],
     f: Frame,
-    j: Job,
     s: WrittenSheet,
     out: &mut [u8; OUT_ROOM],
     at: usize,
 ) -> usize
-    requires count_le_max_nodes { (s.nodes.count ≤ max_nodes) × (j.edges.count ≤ max_edges) × (s.drawn.count ≤ max_bundles) × (j.members.count ≤ max_members) }
-    requires count_in_bounds { j.edges.count ≤ length s.present.counts.now }
-    requires windows { Windows s.drawn.count s.drawn.rows j.members.count × (2 * j.members.count ≤ length s.taps.now) }
-    requires members_on { MembersOn j.edges j.members }
+    requires nodes_le_max_nodes { (length s.nodes.now ≤ max_nodes) × (length s.edges.now ≤ max_edges) × (length s.drawn.now ≤ max_bundles) × (length s.members.now ≤ max_members) }
+    requires edges_in_bounds { length s.edges.now ≤ length s.present.counts.now }
+    requires windows { Windows s.drawn.now (length s.members.now) × (2 * length s.members.now ≤ length s.taps.now) }
+    requires members_on { MembersOn s.edges.now s.members.now }
 {
-    let t = draw_job::tap_rows(j.edges, j.members, s.taps);
-    let n = answer::write_answer(page, f, s.nodes, j.edges, s.present, s.drawn, t);
+    let t = draw_job::tap_rows(s.edges, s.members, s.taps);
+    let n = answer::write_answer(page, f, s.nodes, s.edges, s.present, s.drawn, t.as_slice());
     records::put(out, at, &page[..n]);
     records::plus(at, n)
 }
 
 // The sheet before the last shift, its width and height 0, and after it. Taps and points are slices of
 // their own: as fields of one lent struct, lent on at a time and told of afterwards, they did not prove.
-fn put_pages(
-    j: Job,
-    edges: &[usize],
-    drawn: DrawnBundles,
+fn put_pages<'a>(
+    board: BoardTables<'a>,
+    drawn: &'a [DrawnBundle],
     left: TapVisits,
     rest: GeometryVisits,
     points: &mut [f64],
-    counts: &[usize],
+    counts: &'a [usize],
     taps: &mut [f64],
     page: &mut [u8; ANY_ANSWER_ROOM],
     out: &mut [u8; OUT_ROOM],
 ) -> usize
-    requires { OnSheet j edges.now drawn points.old counts.now taps.old }
+    requires few { (length board.edges.now ≤ max_edges) × (length drawn.now ≤ max_bundles) }
+    requires counted { (length counts.now ≡ length board.edges.now) × Held counts.now × (slot_numbers * length counts.now ≤ length points.old) }
+    requires windows { Windows drawn.now (length board.members.now) × (2 * length board.members.now ≤ length taps.old) }
+    requires members_on { MembersOn board.edges.now board.members.now }
 {
-    let start = put_verdict(out, 0, drawn.count, rest);
+    let start = put_verdict(out, 0, drawn.len(), rest);
     let present = PresentRoutes { points, counts };
     let before = WrittenSheet {
-        nodes: j.nodes,
+        nodes: board.nodes,
+        edges: board.edges,
+        members: board.members,
         drawn,
         present,
         taps,
@@ -117,12 +124,14 @@ fn put_pages(
         width: 0.0,
         height: 0.0,
     };
-    let next = put_page(page, unsized_frame, j, before, out, start);
-    let l = normalize::normalize_layout(j.nodes, drawn, points, counts, taps, j.members.count);
+    let next = put_page(page, unsized_frame, before, out, start);
+    let l = normalize::normalize_layout(board.nodes, drawn, points, counts, taps);
     let present = PresentRoutes { points, counts };
     let after = WrittenSheet {
-        nodes: l.nodes,
-        drawn: l.drawn,
+        nodes: l.nodes.as_slice(),
+        edges: board.edges,
+        members: board.members,
+        drawn: l.drawn.as_slice(),
         present,
         taps,
     };
@@ -132,10 +141,11 @@ fn put_pages(
         width: l.width,
         height: l.height,
     };
-    put_page(page, frame, j, after, out, next)
+    put_page(page, frame, after, out, next)
 }
 
-// The sheet of a plan in lent slices.
+// The sheet of a plan in lent slices. draw_job::draw_in has the same call and what goes into it: a function of
+// both would be lent nine slices and tables, and hand the drawing and the visits back.
 fn draw_in(
     j: Job,
     given: &[f64],
@@ -146,18 +156,17 @@ fn draw_in(
     out: &mut [u8; OUT_ROOM],
 ) -> usize
     requires came { Came j given.now }
-    requires lent { Lent j work.edges.now work.lanes.now work.taps.now points.old work.counts.now work.mask.now work.scratch.now }
+    requires lent { Lent j work.taps.now points.old work.counts.now work.mask.now work.scratch.now }
 {
     let board = job_tables::board_tables(&j);
     let offsets = plan_depths::corridor_depth_offsets(board);
     let SheetWork {
-        edges,
-        lanes,
         taps,
         counts,
         mask,
         scratch,
     } = work;
+    let taps = &mut taps[..2 * j.members.count];
     let mut turn_work = TurnWork {
         mask: &mut mask[..],
         scratch: &mut scratch[..],
@@ -169,8 +178,6 @@ fn draw_in(
         p.rows,
         offsets,
         given,
-        edges,
-        lanes,
         taps,
         points,
         counts,
@@ -180,7 +187,15 @@ fn draw_in(
     match d.ended {
         Err(r) => put_verdict(out, u8::from(r) as u64, d.drawn.count, visits),
         Ok(()) => put_pages(
-            j, edges, d.drawn, p.left, visits, points, counts, taps, page, out,
+            board,
+            d.drawn.as_slice(),
+            p.left,
+            visits,
+            points,
+            counts,
+            taps,
+            page,
+            out,
         ),
     }
 }
@@ -195,16 +210,12 @@ fn draw(
 ) -> usize
     requires { Came j given.now }
 {
-    let mut edges = [0; MAX_MEMBERS];
-    let mut lanes = [0; MAX_MEMBERS];
     let mut taps = [0.0; TAP_NUMBERS];
     let mut points = [0.0; ALL_SLOT_NUMBERS];
     let mut counts = [0; MAX_EDGES];
     let mut mask = [false; MAX_EDGES];
     let mut scratch = [0.0; SLOT_NUMBERS];
     let work = SheetWork {
-        edges: &mut edges[..j.members.count],
-        lanes: &mut lanes[..j.members.count],
         taps: &mut taps[..],
         counts: &mut counts[..j.edges.count],
         mask: &mut mask[..],
@@ -214,17 +225,6 @@ fn draw(
 }
 
 // ---- the records
-
-// How many of the bytes after the operation the job has.
-fn size_of(record: &[u8], rest: usize) -> usize
-    ensures { result ≤ rest }
-{
-    let size = records::plus(records::u32_at(record, 1) as usize, 4);
-    if size > rest {
-        return rest;
-    }
-    size
-}
 
 // The result of one record; answers its length. A record of another operation has an empty one.
 fn answer(
@@ -239,7 +239,7 @@ fn answer(
     if records::u8_at(record, 0) != SHEET_OF_A_PLAN {
         return 0;
     }
-    let size = size_of(record, record.len() - 1);
+    let size = records::job_size(record, 1, record.len() - 1);
     let end = 1 + size;
     match job_reader::read_job(&record[1..end], given) {
         Ok(j) => {

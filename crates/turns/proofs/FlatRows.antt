@@ -1,12 +1,12 @@
--- The columns of numbers that the turns filled before they were lent the rows: of the nodes, of the ends of edges, and of where each bundle's port stands. What is filled place after place holds them all, and the checks read the board in them. No function's proof cites these laws now.
+-- The columns of numbers that the turns filled before they were lent the rows: of the nodes, of the ends of edges, of where each bundle's port stands, and of the members' edges and lanes. What is filled place after place holds them all, and the checks read the board in them. No function's proof cites these laws now.
 -- Assumes nothing.
 use Rattle.std.specs.Prelude.{◌≡◌, refl, ℕ, zero, suc, ◌+◌, ◌*◌, ◌/◌, ◌≤◌, ◌<◌, List, map, Bool, true, false, get_or, length, take, drop, set, Float}
-use Rattle.std.proofs.Common.{sym, ap, ◌∙◌, arith, drop-cons, length-set, get_or-set_same, get_or-set_other, get_or-take, length-take-le, take_all}
+use Rattle.std.proofs.Common.{sym, ap, ◌∙◌, subst, arith, drop-cons, length-set, get_or-set_same, get_or-set_other, get_or-take, length-take-le, take_all}
 use borrow.Author.Tests.{ltb-true, ltb-false}
 use lib.Dec.{ltb}
 use lib.ListN.{get_or-eq_default}
 use Rattle.std.specs.Float.{nan}
-use Rattle.limits.specs.Limits.{max_ports, max_bundles}
+use Rattle.limits.specs.Limits.{max_ports, max_bundles, max_lane}
 use Rattle.geometry.specs.declared.Point.{Point}
 use Rattle.geometry.specs.Points.{point_at, put_point}
 use Rattle.route.specs.Window.{point_same, length_put, put_other, put_here}
@@ -18,8 +18,10 @@ use Rattle.board.specs.declared.Member.{Member}
 use Rattle.board.specs.declared.Bundle.{Bundle}
 use Rattle.board.specs.Board.{Board, endpoint}
 use Rattle.plan.specs.Depths.{no_port, no_node, endpoint_of}
-use Rattle.plan.specs.BoardTables.{board_of, no_edge, no_bundle, Sound}
+use Rattle.plan.specs.BoardTables.{board_of, no_edge, no_bundle, no_member, Sound}
+use Rattle.checks.specs.MemberSlices.{members_from}
 use Rattle.looks.proofs.FlatRows.{box_at, boxes_from, nodes_in, edge_at, bare_node, bare_edge, Sliced, size_of, box_same, box_is, end_is, end_same}
+use Rattle.turns.specs.TurnTables.{Lists, Follow, Once, members_all}
 use Rattle.turns.proofs.Filling.{upto_next}
 
 -- the first n nodes
@@ -146,3 +148,58 @@ module _ (o : Options) (nodes : List PlacedNode) (ports : List Port) (edges : Li
       let p = get_or ports (get_or bundles i no_bundle).port no_port in
       let hn = sound.ports_on (get_or bundles i no_bundle).port (sound.bundles_on i h).port_in in
       sym (ap (λ (n : PlacedNode). endpoint n p) (boxed p.node hn)) ∙ sym (spotted i h)
+
+-- ---- the members' edges and lanes
+
+-- the edges and lanes of the first n members
+abbrev pub Listed : List ℕ → List ℕ → List Member → ℕ → Type 0
+Listed edges lanes rows n = (k : ℕ) → k < n → (get_or edges k 0 ≡ (get_or rows k no_member).edge) × (get_or lanes k 0 ≡ (get_or rows k no_member).tap_lane)
+
+abbrev listed_at : List ℕ → List ℕ → List Member → ℕ → Type 0
+listed_at edges lanes rows k = (get_or edges k 0 ≡ (get_or rows k no_member).edge) × (get_or lanes k 0 ≡ (get_or rows k no_member).tap_lane)
+
+pub listed_next : (edges lanes : List ℕ) (rows : List Member) (i : ℕ) (m : Member) → m ≡ get_or rows i no_member → i < length edges → i < length lanes → Listed edges lanes rows i → Listed (set edges i m.edge) (set lanes i m.tap_lane) rows (i + 1)
+listed_next edges lanes rows i m e h k =
+    upto_next (listed_at edges lanes rows) (listed_at (set edges i m.edge) (set lanes i m.tap_lane) rows) i
+    (λ j b w.
+    let z : j ≡ i → ⊥ = λ y. omega arith in
+    (get_or-set_other edges i j m.edge 0 z ∙ w.0, get_or-set_other lanes i j m.tap_lane 0 z ∙ w.1))
+    (get_or-set_same edges i m.edge 0 h ∙ ap (λ (x : Member). x.edge) e, get_or-set_same lanes i m.tap_lane 0 k ∙ ap (λ (x : Member). x.tap_lane) e)
+
+-- the members that are listed
+pub listed_are : (edges lanes : List ℕ) (rows : List Member) (n s : ℕ) → s + n ≤ length rows → ((k : ℕ) → k < s + n → (get_or edges k 0 ≡ (get_or rows k no_member).edge) × (get_or lanes k 0 ≡ (get_or rows k no_member).tap_lane)) → members_from edges lanes s n ≡ take n (drop s rows)
+unfolding members_from
+listed_are edges lanes rows zero s h l = refl
+listed_are edges lanes rows (suc n) s h l =
+    let a = l s (omega arith) in
+    let d = drop-cons rows s no_member (omega arith) in
+    let w = listed_are edges lanes rows n (suc s) (omega arith) (λ k b. l k (omega arith)) in
+    rw (d, a.0, a.1, w)
+
+module _ (edges lanes : List ℕ) (members : List Member) (exact : length edges ≡ length members) (listed : Listed edges lanes members (length members)) where
+  pub members_are : members ≡ members_all edges lanes
+  members_are =
+      sym (ap (members_from edges lanes 0) exact
+      ∙ listed_are edges lanes members (length members) 0 (omega arith) (λ k h. listed k (omega arith))
+      ∙ take_all (length members) members (omega arith))
+
+  pub lists : (us : List Bundle) (m : ℕ) → length lanes ≡ length members → ((i : ℕ) → i < length members → (get_or members i no_member).edge < m) → ((i : ℕ) → i < length members → (get_or members i no_member).tap_lane ≤ max_lane) → Follow 0 (length members) us → Once members us → Lists us edges lanes m
+  lists us m long known small follow once =
+      record {
+        follow = subst (λ (k : ℕ). Follow 0 k us) (sym exact) follow;
+        once = subst (λ (ms : List Member). Once ms us) members_are once;
+        known = λ k h. let e = (listed k (omega arith)).0 in let w = known k (omega arith) in omega arith;
+        laned = omega arith;
+        small = λ k. go k (ltb k (length members)) refl;
+      }
+    where
+      go : (k : ℕ) (x : Bool) → ltb k (length members) ≡ x → get_or lanes k 0 ≤ max_lane
+      go k true q =
+          let h : k < length members = omega (arith, ltb-true) in
+          let e = (listed k h).1 in
+          let w = small k h in
+          omega arith
+      go k false q =
+          let h : length lanes ≤ k = omega (arith, ltb-false) in
+          let e = get_or-eq_default lanes 0 h in
+          omega arith

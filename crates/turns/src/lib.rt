@@ -3,8 +3,8 @@
 //
 // Ported from cachanova/schemweave, commit c4a1a2c60a, crates/schemweave/src/boundary_bundles.rs
 // (Apache-2.0, see NOTICE). The present routes are in slots (crate route). The slices that are written,
-// edges, lanes, taps, points and counts, are in no struct: with several fields of one lent struct lent on
-// at a time, and told of afterwards, the proofs did not close.
+// taps, points and counts, are in no struct: with several fields of one lent struct lent on at a time, and
+// told of afterwards, the proofs did not close.
 
 #![tactic(auto)]
 
@@ -15,13 +15,15 @@ ghost use Rattle.board.specs.Board.{Board};
 ghost use Rattle.plan.specs.BoardTables.{given_routes, RoutesIn};
 ghost use Rattle.plan.specs.Lent.{board_lent};
 ghost use Rattle.plan.specs.Prepared.{x_of};
+ghost use Rattle.plan.specs.MemberColumns.{edges_of, lanes_of};
 ghost use Rattle.drawing.specs.Sheet.{turn, turns_from, sheet_of, blank};
 ghost use Rattle.checks.specs.Purse.{told};
+ghost use Rattle.checks.specs.CheckRows.{drawn_of};
 ghost use Rattle.checks.specs.MemberSlices.{members_from, Row};
-ghost use Rattle.turns.specs.TurnTables.{turn_of, standing, ends_as, drawn_in, row_drawn, Faced, Ready, Longer, Lists, Room, Short, Rows, Full, members_all, GivenIn, Listed, Follow, Once};
+ghost use Rattle.turns.specs.TurnTables.{turn_of, standing, ends_as, drawn_in, row_drawn, Faced, Ready, Longer, Lists, Room, Short, Rows, Full, GivenIn, Follow, Once};
 
 use board::{Bundle, DrawnBundle, DrawnBundles, Edge, Member};
-use checks::{BoardSlices, BundleRows, MemberRows, MemberTaps, Rules};
+use checks::{BoardSlices, BundleRows, MemberTaps, Rules};
 use drawing::GeometryVisits;
 use geometry::{Point, RouteView, Segment};
 use limits::MAX_BUNDLES;
@@ -39,7 +41,8 @@ pub struct TurnWork<'a> {
     pub ghost spare: { slot_numbers ≤ length scratch.now },
 }
 
-// The bundles drawn, and how the last turn ended.
+// The bundles drawn, and how the last turn ended. No Result of both: after a refusal too it is told which
+// bundles were drawn before it (sheet_replay writes how many).
 #[derive(Clone, Copy)]
 pub struct Drawing {
     pub ended: Result<(), Refusal>,
@@ -63,19 +66,19 @@ fn draw_bundle(
     rules: Rules,
     board: BoardSlices,
     t: BundleTurn,
-    priors: DrawnBundles,
-    table: MemberRows,
+    priors: &[DrawnBundle],
+    members: &[Member],
     taps: &mut [f64],
     points: &mut [f64],
     counts: &mut [usize],
     work: &mut TurnWork,
     visits: &mut GeometryVisits,
 ) -> Result<DrawnBundle, Refusal>
-    requires { (length counts.old ≤ length board.edges.now) × Ready t.bundle priors table.edges.now table.lanes.now taps.old points.old counts.old work.old.mask.now }
-    ensures told { (b : Board) → Faced b rules.options board.entry.nodes.now board.entry.edges.now t.bundle t.end (members_from table.entry.edges.now table.entry.lanes.now t.bundle.first t.bundle.count) → ends_as (told result visits.new.0) (routes_of points.new counts.new) (drawn_in table.entry.edges.now taps.new priors ++ row_drawn table.entry.edges.now taps.new result) ≡ turn b rules.permits_crossings (turn_of t.bundle t.planned t.offset) (standing (routes_of points.old counts.old) (drawn_in table.entry.edges.now taps.old priors) visits.old.0) }
+    requires { (length counts.old ≤ length board.edges.now) × Ready t.bundle priors.now (edges_of members.now) (lanes_of members.now) taps.old points.old counts.old work.old.mask.now }
+    ensures told { (b : Board) → Faced b rules.options board.entry.nodes.now board.entry.edges.now t.bundle t.end (members_from (edges_of members.now) (lanes_of members.now) t.bundle.first t.bundle.count) → ends_as (told result visits.new.0) (routes_of points.new counts.new) (map (drawn_of (edges_of members.now) taps.new) priors.now ++ row_drawn (edges_of members.now) taps.new result) ≡ turn b rules.permits_crossings (turn_of t.bundle t.planned t.offset) (standing (routes_of points.old counts.old) (map (drawn_of (edges_of members.now) taps.old) priors.now) visits.old.0) }
     ensures row { IfOk result (λ d. Row t.bundle d) }
     ensures hold { Held counts.new }
-    ensures longer { Longer (told result visits.new.0) counts.old counts.new (members_from table.entry.edges.now table.entry.lanes.now t.bundle.first t.bundle.count) }
+    ensures longer { Longer (told result visits.new.0) counts.old counts.new (members_from (edges_of members.now) (lanes_of members.now) t.bundle.first t.bundle.count) }
     ensures mask { length work.new.mask.now ≡ length work.old.mask.now }
 {
     let u = t.bundle;
@@ -85,7 +88,7 @@ fn draw_bundle(
         t.end,
         u,
         t.planned,
-        table,
+        members,
         before,
         taps,
     );
@@ -94,24 +97,21 @@ fn draw_bundle(
         role: u.role,
         pitch: board::pitch_of_bundle(rules.options, u),
     };
-    let members = BundleRows {
-        table,
+    let own = BundleRows {
+        rows: members,
         first: u.first,
         count: u.count,
     };
     member_rewriting::rewrite_member_routes(
         lead,
         t.offset,
-        members,
+        own,
         taps,
         points,
         counts,
         work.scratch,
     )?;
-    let tapped = MemberTaps {
-        edges: table.edges,
-        taps,
-    };
+    let tapped = MemberTaps { members, taps };
     let present = PresentRoutes { points, counts };
     bundle_checks::verify_bundle(rules, board, d, priors, tapped, present, work.mask, visits)?;
     Ok(d)
@@ -132,17 +132,6 @@ fn store_edges(table: &[Edge], given: &[f64], points: &mut [f64], counts: &mut [
             count: e.count,
         };
         route_slots::store_route(route, points, counts, i);
-    }
-}
-
-// The edge and the tap lane of each member.
-fn member_rows(members: &[Member], edges: &mut [usize], lanes: &mut [u32])
-    requires { (length edges.old ≡ length members.now) × (length lanes.old ≡ length members.now) }
-    ensures { Listed edges.new lanes.new members.now (length members.now) }
-{
-    for (i, m) in members.iter().enumerate() {
-        edges[i] = m.edge;
-        lanes[i] = m.tap_lane;
     }
 }
 
@@ -181,7 +170,6 @@ struct Turns<'a> {
 // Every bundle in job order; after a refusal, those drawn before it.
 fn draw_bundles(
     turns: Turns,
-    table: MemberRows,
     taps: &mut [f64],
     points: &mut [f64],
     counts: &mut [usize],
@@ -189,10 +177,9 @@ fn draw_bundles(
     visits: &mut GeometryVisits,
 ) -> Drawing
     requires edges { length counts.old ≤ length turns.board.edges.now }
-    requires members { turns.board.members.now ≡ members_all table.edges.now table.lanes.now }
-    requires lists { Lists turns.board.bundles.now table.edges.now table.lanes.now (length counts.old) }
-    requires room { Room (length table.edges.now) taps.old points.old counts.old work.old.mask.now × Short counts.old }
-    ensures told { ends_as (told result.ended visits.new.0) (routes_of points.new counts.new) (drawn_in table.entry.edges.now taps.new result.drawn) ≡ sheet_of (board_lent turns.entry.board) turns.entry.permits_crossings (turns_from turns.entry.board.bundles.now (map x_of (take (length turns.entry.board.bundles.now) turns.entry.plan.now)) (take (length turns.entry.board.bundles.now) turns.entry.offsets.now)) (blank (routes_of points.old counts.old) visits.old.0) }
+    requires lists { Lists turns.board.bundles.now (edges_of turns.board.members.now) (lanes_of turns.board.members.now) (length counts.old) }
+    requires room { Room (length turns.board.members.now) taps.old points.old counts.old work.old.mask.now × Short counts.old }
+    ensures told { ends_as (told result.ended visits.new.0) (routes_of points.new counts.new) (drawn_in (edges_of turns.entry.board.members.now) taps.new result.drawn) ≡ sheet_of (board_lent turns.entry.board) turns.entry.permits_crossings (turns_from turns.entry.board.bundles.now (map x_of (take (length turns.entry.board.bundles.now) turns.entry.plan.now)) (take (length turns.entry.board.bundles.now) turns.entry.offsets.now)) (blank (routes_of points.old counts.old) visits.old.0) }
     ensures rows { Rows (take result.drawn.count turns.entry.board.bundles.now) (take result.drawn.count result.drawn.rows) }
     ensures full { Full (told result.ended visits.new.0) result.drawn.count (length turns.entry.board.bundles.now) }
     ensures hold { Held counts.new }
@@ -216,12 +203,18 @@ fn draw_bundles(
             offset: turns.offsets[i],
         };
         match draw_bundle(
-            rules, slices, t, drawn, table, taps, points, counts, work, visits,
+            rules,
+            slices,
+            t,
+            drawn.as_slice(),
+            board.members,
+            taps,
+            points,
+            counts,
+            work,
+            visits,
         ) {
-            Ok(row) => {
-                drawn.rows[i] = row;
-                drawn.count = i + 1;
-            }
+            Ok(row) => drawn.push(row),
             Err(r) => {
                 return Drawing {
                     ended: Err(r),
@@ -238,16 +231,15 @@ fn draw_bundles(
 
 // ---- the sheet before the last shift
 
-// Every bundle in job order, from the given routes on: what points, counts, edges and taps hold then
-// is the sheet before the last shift. After a refusal they hold anything.
+// Every bundle in job order, from the given routes on: what points, counts and taps hold then is the
+// sheet before the last shift. After a refusal they hold anything. plan and offsets are arrays: of slices
+// their lengths would be asked.
 pub fn draw_sheet(
     board: BoardTables,
     permits_crossings: bool,
     plan: [Planned; MAX_BUNDLES],
     offsets: Offsets,
     given: &[f64],
-    edges: &mut [usize],
-    lanes: &mut [u32],
     taps: &mut [f64],
     points: &mut [f64],
     counts: &mut [usize],
@@ -256,15 +248,13 @@ pub fn draw_sheet(
 ) -> Drawing
     requires tables { RoutesIn given.now board.edges.now board.members.now }
     requires once { Follow 0 (length board.members.now) board.bundles.now × Once board.members.now board.bundles.now }
-    requires exact { (length edges.old ≡ length board.members.now) × (length lanes.old ≡ length board.members.now) × (length counts.old ≡ length board.edges.now) }
+    requires exact { length counts.old ≡ length board.edges.now }
     requires room { Room (length board.members.now) taps.old points.old counts.old work.old.mask.now }
-    ensures told { ends_as (told result.ended visits.new.0) (routes_of points.new counts.new) (drawn_in edges.new taps.new result.drawn) ≡ sheet_of (board_lent board.entry) permits_crossings (turns_from board.entry.bundles.now (map x_of (take (length board.entry.bundles.now) plan)) (take (length board.entry.bundles.now) offsets.rows)) (blank (given_routes given.now board.entry.edges.now) visits.old.0) }
-    ensures members { Listed edges.new lanes.new board.entry.members.now (length board.entry.members.now) }
+    ensures told { ends_as (told result.ended visits.new.0) (routes_of points.new counts.new) (drawn_in (edges_of board.entry.members.now) taps.new result.drawn) ≡ sheet_of (board_lent board.entry) permits_crossings (turns_from board.entry.bundles.now (map x_of (take (length board.entry.bundles.now) plan)) (take (length board.entry.bundles.now) offsets.rows)) (blank (given_routes given.now board.entry.edges.now) visits.old.0) }
     ensures rows { Rows (take result.drawn.count board.entry.bundles.now) (take result.drawn.count result.drawn.rows) }
     ensures full { Full (told result.ended visits.new.0) result.drawn.count (length board.entry.bundles.now) }
     ensures hold { Held counts.new }
 {
-    member_rows(board.members, edges, lanes);
     store_edges(board.edges, given, points, counts);
     let turns = Turns {
         board,
@@ -272,6 +262,5 @@ pub fn draw_sheet(
         plan: &plan,
         offsets: &offsets.rows,
     };
-    let table = MemberRows { edges, lanes };
-    draw_bundles(turns, table, taps, points, counts, work, visits)
+    draw_bundles(turns, taps, points, counts, work, visits)
 }

@@ -7,6 +7,6 @@ use Rattle.answer.proofs.put_points.Given as goal
 
 abbrev pub invariant-loop-i : goal.invariant-loop-i
 invariant-loop-i l = record {
-  place : l.at ≡ l.from + 16 * (l.i - l.first);
-  bytes : sets l.out l.at (all_bytes point_bytes (points_from l.s l.i (l.end - l.i))) ≡ sets l.initial.out l.from (all_bytes point_bytes (points_from l.s l.first (l.end - l.first)));
+  place : l.at ≡ l.from + 16 * l.i;
+  bytes : sets l.out l.at (all_bytes point_bytes (points_from l.route.points.now (l.route.start + l.i) (l.route.count - l.i))) ≡ sets l.initial.out l.from (all_bytes point_bytes (points_from l.route.points.now l.route.start l.route.count));
 }

@@ -15,4 +15,4 @@ unfolding drawn_row
 returns c =
     let a = c.args in
     let e = rw (c.pitch_of_bundle-pitch.ensures, c.boundary_bundle_rail_depth-depth.ensures) at c.counts_interior-interior.ensures in
-    ap (λ (i : Bool). marked a.u (seg (pt a.corner.x a.reach.low) (pt a.corner.x a.reach.high)) (seg a.end a.corner) i) e
+    ap (λ (i : Bool). marked a.b.bundle (seg (pt a.corner.x a.reach.low) (pt a.corner.x a.reach.high)) (seg a.b.end a.corner) i) e

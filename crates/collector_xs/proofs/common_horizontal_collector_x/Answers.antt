@@ -1,8 +1,7 @@
 -- `collector_xs::common_horizontal_collector_x` meets its contract. Assumes nothing.
-use Rattle.search.proofs.Parts as parts
+use mathlib.Core.Path.{ap}
+use Rattle.search.specs.Search.{searched}
 use Rattle.collector_xs.proofs.common_horizontal_collector_x.Goals as goal
 
-pub returns-in-Spent : goal.returns-in-Spent
-returns-in-Spent c =
-    let x = c.common_horizontal_collector_xs-g in
-    parts.says_spent x.result x.new.xs _ x.ensures.are c.in-Spent.is
+pub returns-in_default : goal.returns-in_default
+returns-in_default c = ap searched c.in_default.ensures.are

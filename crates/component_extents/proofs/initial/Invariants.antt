@@ -10,5 +10,5 @@ use Rattle.component_extents.proofs.initial.Given as goal
 abbrev pub invariant-loop-at : goal.invariant-loop-at
 invariant-loop-at l = record {
   rows_length : length l.rows ≡ max_bundles;
-  xs_are : map x_of (take l.at l.rows) ≡ map initial_x (ranges_in l.at l.fn.t);
+  xs_are : map x_of (take l.at l.rows) ≡ map initial_x (ranges_in (take l.at l.ranges));
 }

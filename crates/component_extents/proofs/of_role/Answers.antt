@@ -1,8 +1,10 @@
 -- `component_extents::of_role` meets its contract. Assumes nothing.
 use mathlib.Core.Path.{sym, ◌∙◌, ap, subst}
-use Prim.Native.Nat.{ℕ, ◌≤◌, ◌<◌}
+use Prim.Native.Nat.{ℕ}
 use native.Mathlib.Omega.{arith}
-use lib.ListN.{length, get_or, take, length-set}
+use Rattle.std.specs.Prelude.{List, ◌++◌, ◌+◌, drop}
+use Rattle.plan.specs.Plan.{of_role}
+use lib.ListN.{length, get_or}
 use Rattle.plan.specs.Plan.{Ranged}
 use Rattle.plan.specs.Prepared.{range_at}
 use Rattle.plan.proofs.TableReads as rows
@@ -19,23 +21,22 @@ loop-i-preserved c =
     let l = c.loop-i in
     let h = c.loop-i-test.true in
     let i : ℕ = get_or a.order.now l.i-index 0 in
-    let g : l.count < length l.rows = omega (arith, h, c.requires.0, l.invariant.few, l.invariant.rows_length) in
+    let role = ap (λ (z : Ranged). z.bundle.role) (laws.range_read a.ranges.now i) in
     elim c.if-eq.branch [
-      | then-eq v ↦ rw (v.rows-is, v.count-is) (record {
-        few = omega (arith, l.invariant.few);
-        rows_length = length-set l.rows l.count i ∙ l.invariant.rows_length;
-        rows_are = λ m e.
-            laws.role_turn a.role (ranges_in m a.t.now) l.rows l.count i _ _ (rows.rest_cons a.order.now l.i-index 0 h) (range_at a.t.now i).bundle.role c.eq.result
-            (ap (λ (z : Ranged). z.bundle.role) (laws.range_read a.t.now.rows m i (e.each l.i-index h))) (c.eq.ensures ∙ equal _ _) g v.if-eq.true
-            ∙ l.invariant.rows_are m e;
+      | then-eq v ↦ rw v.chosen-is (record {
+        few = omega (arith, l.invariant.few, v.push.ensures.len);
+        chosen_are =
+            ap (λ (z : List ℕ). z ++ of_role a.role (ranges_in a.ranges.now) (drop (l.i-index + 1) a.order.now)) v.push.ensures.items
+            ∙ laws.role_turn a.role (ranges_in a.ranges.now) l.chosen.items i _ _ (rows.rest_cons a.order.now l.i-index 0 h) (range_at a.ranges.now i).bundle.role c.eq.result
+            role (c.eq.ensures ∙ equal _ _) v.if-eq.true
+            ∙ l.invariant.chosen_are;
       })
-      | else-eq v ↦ rw (v.rows-is, v.count-is) (record {
+      | else-eq v ↦ rw v.chosen-is (record {
         few = omega (arith, l.invariant.few);
-        rows_length = l.invariant.rows_length;
-        rows_are = λ m e.
-            laws.role_skip a.role (ranges_in m a.t.now) l.rows l.count i _ _ (rows.rest_cons a.order.now l.i-index 0 h) (range_at a.t.now i).bundle.role c.eq.result
-            (ap (λ (z : Ranged). z.bundle.role) (laws.range_read a.t.now.rows m i (e.each l.i-index h))) (c.eq.ensures ∙ equal _ _) v.if-eq.false
-            ∙ l.invariant.rows_are m e;
+        chosen_are =
+            laws.role_skip a.role (ranges_in a.ranges.now) l.chosen.items i _ _ (rows.rest_cons a.order.now l.i-index 0 h) (range_at a.ranges.now i).bundle.role c.eq.result
+            role (c.eq.ensures ∙ equal _ _) v.if-eq.false
+            ∙ l.invariant.chosen_are;
       })
     ]
 
@@ -43,10 +44,7 @@ pub returns : goal.returns
 returns c =
     let a = c.args in
     let l = c.loop-i in
-    let q : l.count ≤ length l.rows = omega (arith, c.requires.0, l.invariant.few, l.invariant.rows_length) in
-    λ m e.
-    let are =
-    laws.role_end a.role (ranges_in m a.t.now) (take l.count l.rows) _ (rows.rest_none a.order.now l.i-index c.loop-i-test.false)
-    ∙ l.invariant.rows_are m e in
-    let all = laws.of_role_below m a.role (ranges_in m a.t.now) a.order.now (laws.listing_below a.order.now m e) in
-    record { count_in = q; are = are; listed = laws.below_listing (take l.count l.rows) m (subst (Below m) (sym are) all) }
+    let n = length a.ranges.now in
+    let are = laws.role_end a.role (ranges_in a.ranges.now) l.chosen.items _ (rows.rest_none a.order.now l.i-index c.loop-i-test.false) ∙ l.invariant.chosen_are in
+    let all = laws.of_role_below n a.role (ranges_in a.ranges.now) a.order.now (laws.listing_below a.order.now n c.requires.1) in
+    record { are = are; listed = laws.below_listing l.chosen.items n (subst (Below n) (sym are) all) }

@@ -13,7 +13,7 @@ use Rattle.component_plan.proofs.components.Given as goal
 abbrev pub invariant-loop-i : goal.invariant-loop-i
 invariant-loop-i l = record {
   seen_length : length l.seen ≡ max_bundles;
-  plan_is : (b : Board) (given : List Route) → Known b given l.layout (ranges_in l.n l.ranges) → Neighboured b given (ranges_in l.n l.ranges) l.n l.adjacent
-      → components search_of b given (ranges_in l.n l.ranges) (drop l.i (indices_from 0 (ranges_in l.n l.ranges))) (take l.n l.seen) (plan_in l.n l.p)
-      ≡ components search_of b given (ranges_in l.n l.ranges) (indices_from 0 (ranges_in l.n l.ranges)) (take l.n l.initial.seen) (plan_in l.n l.initial.p);
+  plan_is : (b : Board) (given : List Route) → Known b given l.layout (ranges_in l.ranges) → Neighboured b given (ranges_in l.ranges) (length l.ranges) l.adjacent.rows
+      → components search_of b given (ranges_in l.ranges) (drop l.i (indices_from 0 (ranges_in l.ranges))) (take (length l.ranges) l.seen) (plan_in (length l.ranges) l.p)
+      ≡ components search_of b given (ranges_in l.ranges) (indices_from 0 (ranges_in l.ranges)) (take (length l.ranges) l.initial.seen) (plan_in (length l.ranges) l.initial.p);
 }

@@ -7,4 +7,4 @@ use Rattle.draw_job.proofs.tap_rows.Given as goal
 
 abbrev pub invariant-loop-i : goal.invariant-loop-i
 invariant-loop-i l =
-    (length l.rows ≡ max_members) × ((k : ℕ) → k < l.i → (d : DrawnTap) → get_or l.rows k d ≡ record { edge = (edge_row l.table.rows l.members.rows k).id; point = point_at l.taps k })
+    (length l.rows ≡ max_members) × ((k : ℕ) → k < l.i → (d : DrawnTap) → get_or l.rows k d ≡ record { edge = (edge_row l.table l.members k).id; point = point_at l.taps k })

@@ -71,7 +71,7 @@ loop-j-preserved c =
       y.invariant.2,
       one_more_read member_key _ _ _ y.total (take y.total y.member_keys) _ y.members_known _ (take y.total y.member_rows) _ w _ _
           (one_more y.member_keys y.total _ (omega arith)
-          ∙ ap (λ (k : Key). take y.total y.member_keys ++ (k ∷ [])) (member-keys _ _ _ _ (member_role _ (drop place s) _ (drop (place + 6) s) one) c.number_of_role-role_key.ensures))
+          ∙ ap (λ (k : Key). take y.total y.member_keys ++ (k ∷ [])) (member-keys _ _ _ _ (member_role _ (drop place s) _ (drop (place + 6) s) one) c.from-role_key.ensures))
           (looked_up _ _ _ _ c.is_some-members_known.ensures c.unwrap_or.ensures c.member_row-row.ensures)
           (one_more y.member_rows y.total _ (omega arith))
           (record { earlier = w.left.earlier; rest = rw z (pushed (member _) _ y.j w.raw (drop place s) _ _ (drop (place + 6) s) c.loop-j-test.true one refl ∙ w.left.rest) }),

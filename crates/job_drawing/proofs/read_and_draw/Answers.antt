@@ -21,8 +21,7 @@ returns-in-Err c =
 
 pub work_for-drawn-requires : goal.work_for-drawn-requires
 work_for-drawn-requires c =
-    let p = c.requires.edges_len in
-    (omega (arith, c.in-Ok.ensures.fits.members, p.0), omega (arith, c.in-Ok.ensures.fits.members, p.1), omega (arith, c.in-Ok.ensures.fits.edges, p.3))
+    omega (arith, c.in-Ok.ensures.fits.edges, c.requires.edges_len.1)
 
 pub draw_in-requires : goal.draw_in-requires
 draw_in-requires c =
@@ -35,11 +34,9 @@ draw_in-requires c =
       plan_in_bounds = laws.phase_room c.in-Ok.j _ a.job.now c.in-Ok.ensures a.wants.plan a.plan.now (length a.answer.now) c.requires.given_len.1;
       search_work_in_bounds = (omega arith, c.requires.sorted_len);
       lent = record {
-        edges_long = w.members.0;
-        lanes_long = w.members.1;
         counts_long = w.routes;
-        room = laws.room_for _ _ _ _ _ _ fits.members fits.edges (w.taps ∙ p.2) (omega (arith, c.if-n-le-FEW_ROUTES.true)) w.routes (omega (arith, w.turn.0, p.4));
-        spare = omega (arith, w.turn.1, p.5);
+        room = laws.room_for _ _ _ _ _ _ fits.members fits.edges (w.taps ∙ p.0) (omega arith) w.routes (omega (arith, w.turn.0, p.2));
+        spare = omega (arith, w.turn.1, p.3);
       };
     }
 
@@ -62,11 +59,9 @@ draw_in-requires-2 c =
       plan_in_bounds = laws.phase_room c.in-Ok.j _ a.job.now c.in-Ok.ensures a.wants.plan a.plan.now (length a.answer.now) c.requires.given_len.1;
       search_work_in_bounds = (omega arith, c.requires.sorted_len);
       lent = record {
-        edges_long = w.members.0;
-        lanes_long = w.members.1;
         counts_long = w.routes;
-        room = laws.room_for _ _ _ _ _ _ fits.members fits.edges (w.taps ∙ p.2) (omega (arith, fits.edges)) w.routes (omega (arith, w.turn.0, p.4));
-        spare = omega (arith, w.turn.1, p.5);
+        room = laws.room_for _ _ _ _ _ _ fits.members fits.edges (w.taps ∙ p.0) (omega (arith, fits.edges)) w.routes (omega (arith, w.turn.0, p.2));
+        spare = omega (arith, w.turn.1, p.3);
       };
     }
 

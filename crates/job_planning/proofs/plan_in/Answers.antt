@@ -1,6 +1,7 @@
 -- `job_planning::plan_in` meets its contract. Assumes nothing.
 use native.Mathlib.Omega.{arith}
-use Rattle.std.proofs.Common.{sym, ap, ◌∙◌}
+use Rattle.std.proofs.Common.{refl, sym, ap, ◌∙◌}
+use Rattle.std.proofs.lemmas.Result.{err_from_is_err_and}
 use Rattle.plan_bytes.specs.PlanBytes.{rejected}
 use Rattle.plan.proofs.TableReads as rows
 use Rattle.job_tables.specs.Came.{Sizes}
@@ -20,26 +21,26 @@ sizes s = record {
   members = let g = s.well_formed.0.1.1.1.1.1.1.1.1.1.0 in search (rules, rows.length_mapped, g);
 }
 
-pub plan_interior_collectors-s-requires : goal.plan_interior_collectors-s-requires
-plan_interior_collectors-s-requires c =
+pub plan_interior_collectors-requires : goal.plan_interior_collectors-requires
+plan_interior_collectors-requires c =
     let a = c.args in
     let t = c.board_tables-t in
     record {
-      routes_in = routes_lent a.j a.given.now c.requires.came.0 (sizes (goal.at.plan_interior_collectors-s-requires c).Start) t.result (t.ensures a.given.now);
+      routes_in = routes_lent a.j a.given.now c.requires.came.0 (sizes (goal.at.plan_interior_collectors-requires c).Start) t.result (t.ensures a.given.now);
       search_room = (omega (arith, c.requires.sorted_len.0), omega (arith, c.requires.sorted_len.0, c.requires.sorted_len.1));
       offsets_of = c.corridor_depth_offsets-offsets.ensures;
     }
 
-pub returns-in-Err : goal.returns-in-Err
-returns-in-Err c =
+pub returns-in_err-made : goal.returns-in_err-made
+returns-in_err-made c =
     let a = c.args in
-    let p = c.plan_interior_collectors-s in
-    let w = c.write_notice.ensures in
-    laws.notice_writes _ _ _ c.from-in-Err.result _ (laws.plan_refused a.j a.given.now c.requires.came.0 (sizes (goal.at.returns-in-Err c).Start) c.board_tables-t.result (c.board_tables-t.ensures a.given.now) p.result p.ensures _ c.in-Err.is ∙ ap rejected (sym (ap refusal_number c.from.ensures)) ∙ ap rejected (sym c.from-in-Err.ensures)) w.bytes w.place
+    let s = c.plan_interior_collectors in
+    let p = err_from_is_err_and c.from_residual.result c.from_residual.ensures.1 in
+    rw p.1 (laws.plan_refused a.j a.given.now c.requires.came.0 (sizes (goal.at.returns-in_err-made c).Start) c.board_tables-t.result (c.board_tables-t.ensures a.given.now) s.result s.ensures _ c.in_err-made.was ∙ ap rejected (sym (ap refusal_number p.2)), refl)
 
-pub returns-in-Ok : goal.returns-in-Ok
-returns-in-Ok c =
+pub returns : goal.returns
+returns c =
     let a = c.args in
-    let p = c.plan_interior_collectors-s in
+    let s = c.plan_interior_collectors in
     let w = c.write_plan.ensures in
-    laws.plan_writes _ _ _ _ _ (laws.plan_taken a.j a.given.now c.requires.came.0 (sizes (goal.at.returns-in-Ok c).Start) c.board_tables-t.result (c.board_tables-t.ensures a.given.now) p.result p.ensures _ c.in-Ok.is) w.bytes w.place
+    laws.plan_writes _ _ _ _ _ (laws.plan_taken a.j a.given.now c.requires.came.0 (sizes (goal.at.returns c).Start) c.board_tables-t.result (c.board_tables-t.ensures a.given.now) s.result s.ensures _ c.in_ok-made.was) w.bytes w.place

@@ -1,5 +1,6 @@
 use mathlib.Core.Path.{◌≡◌}
 use Rattle.route.specs.Slots.{routes_of}
+use Rattle.plan.specs.MemberColumns.{edges_of, lanes_of}
 use Rattle.drawing.specs.Rewrite.{rewrite_all}
 use Rattle.checks.specs.CheckRows.{taps_from}
 use Rattle.checks.specs.MemberSlices.{members_from, Roomy}
@@ -8,7 +9,7 @@ use Rattle.member_rewriting.proofs.rewrite_member_routes.Given as goal
 
 abbrev pub invariant-loop-i : goal.invariant-loop-i
 invariant-loop-i l = record {
-  roomy : Roomy l.members.table.edges.now l.members.first l.i l.members.count l.points l.counts;
-  told : rest_all l.lead.inside l.lead.role l.lead.pitch l.offset l.members.table.edges.now l.members.table.lanes.now l.taps l.members.first l.members.count l.i (routes_of l.points l.counts)
-      ≡ rewrite_all l.lead.inside l.lead.role l.lead.pitch l.offset (taps_from l.members.table.edges.now l.taps l.members.first l.members.count) (members_from l.members.table.edges.now l.members.table.lanes.now l.members.first l.members.count) (routes_of l.initial.points l.initial.counts);
+  roomy : Roomy (edges_of l.members.rows.now) l.members.first l.i l.members.count l.points l.counts;
+  told : rest_all l.lead.inside l.lead.role l.lead.pitch l.offset (edges_of l.members.rows.now) (lanes_of l.members.rows.now) l.taps l.members.first l.members.count l.i (routes_of l.points l.counts)
+      ≡ rewrite_all l.lead.inside l.lead.role l.lead.pitch l.offset (taps_from (edges_of l.members.rows.now) l.taps l.members.first l.members.count) (members_from (edges_of l.members.rows.now) (lanes_of l.members.rows.now) l.members.first l.members.count) (routes_of l.initial.points l.initial.counts);
 }

@@ -7,4 +7,4 @@ pub returns : goal.returns
 unfolding of_bits
 returns c =
     let a = c.args in
-    rw (c.outermost_of_drawn.ensures, c.outermost_of_routes-b.ensures, c.outermost_of_nodes-a.ensures) (bounds_joined a.corner origin a.nodes a.drawn a.present.points.now a.present.counts.now a.taps.now)
+    rw (c.outermost_of_drawn.ensures, c.outermost_of_routes-b.ensures, c.outermost_of_nodes-a.ensures) (bounds_joined a.corner origin a.nodes.now a.drawn.now a.present.points.now a.present.counts.now a.taps.now)

@@ -1,6 +1,6 @@
 use native.Mathlib.Omega.{arith}
 use mathlib.Core.Logic.{inr}
-use mathlib.Core.Path.{ap, ◌∙◌}
+use mathlib.Core.Path.{◌≡◌, ap, ◌∙◌}
 use Prim.Native.Nat.{◌+◌}
 use Rattle.drawing.specs.Normal.{shifted}
 use Rattle.bundle_geometry.proofs.Taps.{untouched_next, placed_next}
@@ -12,7 +12,8 @@ loop-i-preserved c =
     let a = c.args in
     let l = c.loop-i in
     let f = c.put_point in
-    let q = c.translate_point-q.ensures ∙ ap (shifted a.o) (c.route_point-p.ensures ∙ l.invariant.kept (a.start + l.i) (inr (omega arith))) in record {
-      kept = rw f.ensures (untouched_next a.points.now l.points a.start l.i _ l.invariant.kept);
-      placed = rw f.ensures (placed_next l.points a.start l.i _ (λ k. goal a.o a.points.now (a.start + k)) (omega arith) q l.invariant.placed);
+    let z : 0 + l.i ≡ l.i = omega arith in
+    let q = c.translate_point-p.ensures ∙ ap (shifted a.o) (c.point_at.ensures ∙ l.invariant.kept l.i (inr (omega arith))) in record {
+      kept = rw f.ensures (rw z at (untouched_next a.points.now l.points 0 l.i c.translate_point-p.result l.invariant.kept));
+      placed = rw f.ensures (rw z at (placed_next l.points 0 l.i c.translate_point-p.result (λ k. goal a.o a.points.now (0 + k)) (omega arith) (rw z q) l.invariant.placed));
     }

@@ -5,6 +5,6 @@ use Rattle.normalize.proofs.shift_points.Given as goal
 
 abbrev pub invariant-loop-i : goal.invariant-loop-i
 invariant-loop-i l = record {
-  kept : Untouched l.initial.points l.points l.start l.i;
-  placed : Placed l.points l.start l.i (λ k. goal l.o l.initial.points (l.start + k));
+  kept : Untouched l.initial.points l.points 0 l.i;
+  placed : Placed l.points 0 l.i (λ k. goal l.o l.initial.points (0 + k));
 }

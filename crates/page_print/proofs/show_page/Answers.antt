@@ -1,4 +1,5 @@
 use mathlib.Core.Path.{sym}
+use mathlib.Core.List.{[]}
 use lib.Dec.{lit≤}
 use lib.Seq.{length-take-le}
 use borrow.Author.Rules.{rules}
@@ -15,7 +16,7 @@ pub bundle-third-requires : goal.bundle-third-requires
 bundle-third-requires c = (zero_fits, large_fits, next_fits)
 
 pub put_page-n-requires : goal.put_page-n-requires
-put_page-n-requires c = (lit≤ tt, three_rows _ _ _ c.bundle-first.ensures c.bundle-second.ensures c.bundle-third.ensures, search rules)
+put_page-n-requires c = (lit≤ tt, three_rows _ _ _ [] c.bundle-first.ensures c.bundle-second.ensures c.bundle-third.ensures, search rules)
 
 pub slice_bounds-page-end : goal.slice_bounds-page-end
 slice_bounds-page-end c = three_room _ _ _ _ c.put_page-n.new.out c.put_page-n.ensures.place c.put_page-n.auto.out

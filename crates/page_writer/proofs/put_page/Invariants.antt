@@ -6,6 +6,6 @@ use Rattle.page_writer.proofs.put_page.Given as goal
 
 abbrev pub invariant-loop-b : goal.invariant-loop-b
 invariant-loop-b l = record {
-  place : l.at + length (page_bytes id_columns (drop l.b-index l.b-items)) ≡ length (page_bytes id_columns l.b-items);
-  bytes : sets l.out l.at (page_bytes id_columns (drop l.b-index l.b-items)) ≡ sets l.initial.out 0 (page_bytes id_columns l.b-items);
+  place : l.at + length (page_bytes id_columns (drop l.b-index l.drawn)) ≡ length (page_bytes id_columns l.drawn);
+  bytes : sets l.out l.at (page_bytes id_columns (drop l.b-index l.drawn)) ≡ sets l.initial.out 0 (page_bytes id_columns l.drawn);
 }

@@ -25,7 +25,7 @@ pub add_corridors-requires : goal.add_corridors-requires
 add_corridors-requires c =
     let l = c.loop-i in
     let h = c.loop-i-test.true in
-    record { below = (c.requires.all_below.0.each l.i h, c.requires.all_below.1.each l.i h); room = omega arith }
+    record { below = (c.requires.all_below.0.each l.i h, c.requires.all_below.1.each l.i h); inside = c.requires.inside l.i h; room = omega arith }
 
 pub loop-i-preserved : goal.loop-i-preserved
 loop-i-preserved c =

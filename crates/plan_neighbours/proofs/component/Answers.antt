@@ -1,63 +1,56 @@
 -- `plan_neighbours::component` meets its contract. Assumes nothing.
-use mathlib.Core.Path.{◌≡◌, refl, sym, ◌∙◌, ap, subst}
-use mathlib.Core.Bool.{Bool, true}
-use mathlib.Core.List.{List, [], ◌∷◌}
-use Prim.Native.Nat.{ℕ, ◌-◌, ◌<◌}
-use native.Mathlib.Omega.{arith}
-use borrow.Author.Rules.{rules}
-use lib.ListN.{length, get_or, take, set, length-set, replicate}
-use Rattle.limits.specs.Limits.{max_bundles}
-use Rattle.plan.specs.Plan.{walk, Walk}
-use Rattle.plan.specs.Stack.{down_from, row_of, walk_of}
+use Rattle.std.proofs.Common.{sym, ◌∙◌, ap, subst, true, List, ℕ, [], ◌∷◌, ◌++◌, ◌-◌, ◌<◌, length, length-append, take, set, arith}
+use Rattle.plan.specs.Plan.{walk}
+use Rattle.plan.specs.Stack.{backward, row_of, walk_of}
 use Rattle.plan_neighbours.proofs.Walks as laws
 use Rattle.plan_neighbours.proofs.component.Goals as goal
+use Rattle.plan_neighbours.proofs.component.Goals.{In-Some}
 
-pub loop-s-init : goal.loop-s-init
-loop-s-init c =
-    let a = c.args in
-    let zs : List ℕ = replicate 31 0 in
-    let k : length a.before ≡ max_bundles = search rules in
-    let h : a.start < a.n = omega arith in
-    let near : ℕ → List ℕ = row_of a.adjacent.now a.n in (
-      omega (arith, laws.marked_room a.before a.n a.start h (omega arith)),
-      refl,
-      laws.below_one a.n a.start zs h,
-      laws.walk_start near a.n [] (take a.n (set a.before a.start true)) (down_from (a.start ∷ zs) 1),
-    )
+below : (c : In-Some) → (c.in-Some.i < c.args.n) × laws.Below c.args.n (backward c.pop.new.self.items)
+below c = laws.top_below c.args.n c.loop-i.s.pending.items c.pop.new.self.items c.in-Some.i c.in-Some.ensures.items c.loop-i.invariant.below
 
-pub push_near-requires : goal.push_near-requires
-push_near-requires c =
-    let l = c.loop-s in
+pub loop-i-init : goal.loop-i-init
+loop-i-init c =
     let a = c.args in
-    let b = laws.top_below a.n l.s.pending l.s.top c.loop-s-test.true l.invariant.2 in
-    (omega arith, omega (arith, b.0), omega arith)
+    let near = row_of a.adjacent.now.rows a.n in
+    rw (c.push.ensures.items, c.new.ensures, c.new-order.ensures) (record {
+      few = omega (arith, laws.marked_room a.before a.n a.start (omega arith) (omega arith));
+      below = laws.below_one a.n a.start (omega arith);
+      walked = laws.walk_start near a.n (take a.n (set a.before a.start true)) (backward (a.start ∷ []));
+    })
 
-pub loop-s-preserved : goal.loop-s-preserved
-loop-s-preserved c =
-    let l = c.loop-s in
+pub offset_bounds-adjacent-i : goal.offset_bounds-adjacent-i
+offset_bounds-adjacent-i c = omega (arith, (below (goal.at.offset_bounds-adjacent-i c).In-Some).0)
+
+pub bounds-adjacent-i : goal.bounds-adjacent-i
+bounds-adjacent-i c = omega (arith, (below (goal.at.bounds-adjacent-i c).In-Some).0)
+
+pub loop-i-preserved : goal.loop-i-preserved
+loop-i-preserved c =
     let a = c.args in
-    let adj : List Bool = a.adjacent.now in
-    let t : 0 < l.s.top = c.loop-s-test.true in
-    let i : ℕ = get_or l.s.pending (l.s.top - 1) 0 in
-    let b = laws.top_below a.n l.s.pending l.s.top t l.invariant.2 in
+    let l = c.loop-i in
+    let adj = a.adjacent.now.rows in
+    let seen = take a.n l.s.seen in
+    let b = below (goal.at.loop-i-preserved c).In-Some in
     let e = c.push_near.ensures in
-    let arg : Walk = record { seen = take a.n l.s.seen; pending = down_from l.s.pending (l.s.top - 1) } in
-    let h : l.count < a.n = omega arith in
-    let k : l.count < length l.order = omega arith in (
-      omega (arith, e.1),
-      length-set l.order l.count i ∙ l.invariant.1,
-      subst (λ (w : Walk). laws.Below a.n w.pending) (sym e.0) (laws.near_below adj i a.n arg b.1),
-      laws.walk_turn (row_of adj a.n) a.n l.count l.s.top l.order l.s.pending (take a.n l.s.seen) (walk_of a.n c.push_near.new.s) h k t e.0 ∙ l.invariant.3,
-    )
+    let p = c.in-Some.ensures.items in
+    let h : length l.order.items < a.n = omega (arith, ap length p, length-append c.pop.new.self.items (c.in-Some.i ∷ [])) in record {
+      few = omega (arith, e.1, ap length p, length-append c.pop.new.self.items (c.in-Some.i ∷ []));
+      below = subst (λ w. laws.Below a.n w.pending) (sym e.0) (laws.near_below adj c.in-Some.i a.n (record { seen = seen; pending = backward c.pop.new.self.items }) b.1);
+      walked =
+          laws.walk_turn (row_of adj a.n) a.n c.in-Some.i l.order.items _ l.s.pending.items c.pop.new.self.items seen (walk_of a.n c.push_near.new.s) h c.push-in-Some.ensures.items p e.0
+          ∙ l.invariant.walked;
+    }
 
-pub returns : goal.returns
-returns c =
-    let l = c.loop-s in
+pub returns-clause-few : goal.returns-clause-few
+returns-clause-few c = omega (arith, c.loop-i.invariant.few)
+
+pub returns-clause-walked : goal.returns-clause-walked
+returns-clause-walked c =
+    let l = c.loop-i in
     let a = c.args in
-    let near : ℕ → List ℕ = row_of a.adjacent.now a.n in
-    let zs : List ℕ = replicate 31 0 in (
-      omega arith,
-      laws.walk_end near (a.n - l.count) l.s.top (take l.count l.order) l.s.pending (take a.n l.s.seen) c.loop-s-test.false
-          ∙ l.invariant.3
-          ∙ ap (walk near a.n (take a.n (set a.before a.start true))) (laws.down_one a.start zs),
-    )
+    let near = row_of a.adjacent.now.rows a.n in
+    laws.walk_end near (a.n - length l.order.items) l.order.items l.s.pending.items (take a.n l.s.seen) (laws.nothing_left l.s.pending.items c.in_default.ensures.variant.1)
+    ∙ l.invariant.walked
+    ∙ ap (λ (k : List ℕ). walk near a.n (take a.n (set a.before a.start true)) (backward k)) (c.push.ensures.items ∙ ap (λ (k : List ℕ). k ++ (a.start ∷ [])) c.new.ensures)
+    ∙ ap (walk near a.n (take a.n (set a.before a.start true))) (laws.backward_one a.start)

@@ -1,16 +1,16 @@
-use mathlib.Core.Path.{◌≡◌}
-use Prim.Native.Nat.{◌+◌, ◌-◌, ◌≤◌}
-use lib.ListN.{length, take}
-use Rattle.limits.specs.Limits.{max_bundles}
+use Rattle.std.proofs.Common.{◌≡◌, ◌+◌, ◌-◌, ◌≤◌, length, take}
 use Rattle.plan.specs.Plan.{walk}
-use Rattle.plan.specs.Stack.{down_from, row_of, room}
+use Rattle.plan.specs.Stack.{backward, row_of, room}
 use Rattle.plan_neighbours.proofs.Walks as laws
 use Rattle.plan_neighbours.proofs.component.Given as goal
 
-abbrev pub invariant-loop-s : goal.invariant-loop-s
-invariant-loop-s l =
-    (l.count + room l.n l.s ≤ l.n) × (length l.order ≡ max_bundles) × laws.Below l.n (down_from l.s.pending l.s.top)
-    × (laws.joined (take l.count l.order) (walk (row_of l.adjacent l.n) (l.n - l.count) (take l.n l.s.seen) (down_from l.s.pending l.s.top)) ≡ walk (row_of l.adjacent l.n) l.n (take l.n l.initial.s.seen) (down_from l.initial.s.pending l.initial.s.top))
+abbrev pub invariant-loop-i : goal.invariant-loop-i
+invariant-loop-i l = record {
+  few : length l.order.items + room l.n l.s ≤ l.n;
+  below : laws.Below l.n (backward l.s.pending.items);
+  walked : laws.joined l.order.items (walk (row_of l.adjacent.rows l.n) (l.n - length l.order.items) (take l.n l.s.seen) (backward l.s.pending.items))
+      ≡ walk (row_of l.adjacent.rows l.n) l.n (take l.n l.initial.s.seen) (backward l.initial.s.pending.items);
+}
 
-abbrev pub decreases-loop-s : goal.decreases-loop-s
-decreases-loop-s l = l.n - l.count
+abbrev pub decreases-loop-i : goal.decreases-loop-i
+decreases-loop-i l = l.n - length l.order.items

@@ -15,7 +15,7 @@ returns-then-ne c =
             let one : found? c.args.s.bounds ≡ true = sym c.is_some.ensures ∙ v.if-is_some.true in
             let two : found? c.args.t.bounds ≡ true = sym v.is_some-then-is_some.ensures ∙ sym v.value-is ∙ w.if-is_some-2.true in
             let three : not (same_role c.args.s.bundle.role c.args.t.bundle.role) ≡ true = ap not (sym (equal _ _)) ∙ sym w.ne.ensures ∙ sym w.value-is ∙ c.if-ne.true in
-            rw (one, two, three) (c.share_edge.ensures ∙ laws.shared b c.args.edges.now c.args.s.bundle c.args.t.bundle e f)
+            rw (one, two, three) (c.share_edge.ensures ∙ laws.shared b c.args.members.now c.args.s.bundle c.args.t.bundle e f)
         | else-is_some v ↦ cc
       ]
       | else-is_some-2 w ↦ cc

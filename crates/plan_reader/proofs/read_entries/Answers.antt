@@ -1,6 +1,8 @@
 -- `plan_reader::read_entries` meets its contract. Assumes nothing.
-use Rattle.std.proofs.Common.{◌≡◌, ◌+◌, refl, arith, ◌∙◌, length-set}
+use Rattle.std.proofs.Common.{ℕ, subst, take, map, ◌≡◌, ◌+◌, refl, arith, ◌∙◌, length-set}
 use Rattle.std.proofs.lemmas.Result.{err_from_is_err_and}
+use Rattle.plan.specs.Prepared.{x_of}
+use Rattle.plan_reader.specs.Reading.{SoFar}
 use Rattle.plan_reader.proofs.Taken as laws
 use Rattle.plan_reader.proofs.read_entries.Goals as goal
 use Rattle.plan_reader.proofs.read_entries.Goals.{in-Some, in-Some-judged_number, in-None, in_default}
@@ -31,3 +33,10 @@ loop-i-preserved c =
         | in_default w ↦ let k = rw w.in_default.is at told in rw (w.passes-is, w.at-is, w.x-is) (laws.none_turn a.grid a.s.now a.from a.n l.at l.i l.passes l.rows l.invariant.2 (omega arith) (omega (arith, l.invariant.1)) k)
       ],
     )
+
+pub returns : goal.returns
+returns c =
+    let a = c.args in
+    let l = c.loop-i in
+    let e : l.i ≡ a.n = omega arith in
+    laws.ended a.grid a.s.now a.from a.n l.at l.passes l.rows _ (subst (λ (k : ℕ). SoFar a.grid a.s.now a.from a.n l.at k l.passes (map x_of (take k l.rows))) e l.invariant.2) c.then_some.ensures

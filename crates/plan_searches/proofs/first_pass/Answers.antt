@@ -4,6 +4,8 @@ use mathlib.Core.List.{List, map}
 use Prim.Native.Nat.{ℕ, ◌<◌}
 use native.Mathlib.Omega.{arith}
 use lib.ListN.{length, take, length-set}
+use lib.Seq.{get_or-take}
+use Rattle.plan.specs.declared.Range.{Range}
 use Rattle.board.specs.declared.Bundle.{Bundle}
 use Rattle.search.specs.Search.{search_of}
 use Rattle.plan.specs.Plan.{first_pass}
@@ -37,3 +39,9 @@ returns-clause-told c =
     ∙ laws.pass_end b given _ (map ranged_from (take l.i l.rows)) l.left.0 (ap (map bundle_of) (rows.rest_none a.layout.reaches.now l.i c.loop-i-test.false))
     ∙ l.invariant.passed_is b given t
     ∙ ap (λ (us : List Bundle). first_pass search_of b given us a.granted.0) (sym t.bundles_are)
+
+pub returns-clause-same : goal.returns-clause-same
+returns-clause-same c =
+    let l = c.loop-i in
+    let n = length c.args.layout.reaches.now in
+    record { same = λ i h. ap (λ (r : Range). r.bundle) (get_or-take n l.rows i no_range h) ∙ l.invariant.same i (omega (arith, h, c.loop-i-test.false)) }

@@ -20,9 +20,9 @@ loop-i-preserved c =
     let h = c.loop-i-test.true in
     let i : ℕ = get_or a.which.now l.i-index 0 in
     let g = c.requires.listing.each l.i-index h in
-    let u = c.upper_at-most in
+    let u = c.upper_at in
     let f = c.interior_collector_range_bounded-s in
-    let x = c.found_x-x in record {
+    let x = c.from in record {
       rows_length = length-set l.rows i (record { x = x.result }) ∙ l.invariant.rows_length;
       plan_is = λ b given ranges t e.
           let q : Plan = plan_in (length a.layout.reaches.now) (record { rows = l.rows; left = l.left }) in

@@ -7,5 +7,5 @@ use Rattle.plan_writer.proofs.put_entries.Given as goal
 abbrev pub invariant-loop-row : goal.invariant-loop-row
 invariant-loop-row l =
     (l.at ≤ l.from + 9 * l.row-index)
-    × (l.at + length (all_bytes row_bytes (drop l.row-index l.row-items)) ≡ l.from + length (all_bytes row_bytes l.row-items))
-    × (sets l.out l.at (all_bytes row_bytes (drop l.row-index l.row-items)) ≡ sets l.initial.out l.from (all_bytes row_bytes l.row-items))
+    × (l.at + length (all_bytes row_bytes (drop l.row-index l.rows)) ≡ l.from + length (all_bytes row_bytes l.rows))
+    × (sets l.out l.at (all_bytes row_bytes (drop l.row-index l.rows)) ≡ sets l.initial.out l.from (all_bytes row_bytes l.rows))

@@ -11,9 +11,9 @@ returns-clause-told c =
     let e = c.bundle_ends-ends in
     λ table given w.
     let b = board_with t table in
-    let rowed = laws.rowed t _ _ c.requires.placed table in
+    let rowed = laws.rowed t table in
     let ended = laws.ended t table e.result.rows e.ensures in
     c.reaches.ensures.told b given _ ended rowed w (
-      laws.cornered t table Input a.offsets.rows _ c.requires.offsets_of (λ n. c.fallback_corridors_by_edge.ensures b n rowed ended),
-      laws.cornered t table Output a.offsets.rows _ c.requires.offsets_of (λ n. c.fallback_corridors_by_edge-2.ensures b n rowed ended),
+      laws.cornered t table Input a.offsets.rows _ c.requires.offsets_of (λ n. c.add_all_corridors.ensures.inputs b n rowed ended),
+      laws.cornered t table Output a.offsets.rows _ c.requires.offsets_of (λ n. c.add_all_corridors.ensures.outputs b n rowed ended),
     )

@@ -12,6 +12,7 @@ use Rattle.board.specs.declared.Bundle.{Bundle}
 use Rattle.board.specs.Board.{Board, rail_depth, sheet_pitch}
 use Rattle.plan.specs.declared.Reached.{Reached}
 use Rattle.plan.specs.BoardTables.{no_bundle}
+use Rattle.plan.specs.MemberColumns.{edges_of}
 use Rattle.plan.specs.Prepared.{Rowed, Ended, Tells, no_reached}
 use Rattle.plan.specs.Lent.{RoutesTell, CorridorsTell}
 use Rattle.plan.proofs.TableReads as rows
@@ -23,16 +24,16 @@ pub loop-i-preserved : goal.loop-i-preserved
 loop-i-preserved c =
     let a = c.args in
     let l = c.loop-i in
-    let h : l.i < length a.bundles.now = c.loop-i-test.true in
+    let h : l.i < length a.t.bundles.now = c.loop-i-test.true in
     let f = c.reach_all-d in
-    let u : Bundle = get_or a.bundles.now l.i no_bundle in
+    let u : Bundle = get_or a.t.bundles.now l.i no_bundle in
     let v : Reached = record { bundle = u; endpoint = get_or a.ends.rows l.i nan; reached = f.result } in
-    let low : l.i < length l.rows = omega (arith, h, c.requires.all_below.bundles_few, l.invariant.rows_length) in record {
+    let low : l.i < length l.rows = omega (arith, h, a.t.sound.bundles_few, l.invariant.rows_length) in record {
       rows_length = search rules;
       bundle_is = search rules;
       told = rows.filled
-          (λ j x. (b : Board) (given : List Route) (lanes : List ℕ) → Ended b a.o a.bundles.now a.ends.rows → Rowed b a.places.edges.now lanes → RoutesTell b given a.routes
-          → CorridorsTell b a.corridors → Tells b given a.routes.points.now a.routes.starts.now a.routes.counts.now (rail_depth a.o) (sheet_pitch a.o) x)
+          (λ j x. (b : Board) (given : List Route) (lanes : List ℕ) → Ended b a.t.options a.t.bundles.now a.ends.rows → Rowed b (edges_of a.t.members.now) lanes → RoutesTell b given a.routes
+          → CorridorsTell b a.corridors → Tells b given a.routes.points.now a.routes.starts.now a.routes.counts.now (rail_depth a.t.options) (sheet_pitch a.t.options) x)
           l.rows l.i v no_reached low
           (λ b given lanes e w q o. record {
             rail_is = ap rail_depth e.options_are;
@@ -48,13 +49,16 @@ pub returns-clause-told : goal.returns-clause-told
 returns-clause-told c =
     let a = c.args in
     let l = c.loop-i in
-    let k = length a.bundles.now in
+    let k = length a.t.bundles.now in
     let e : l.i ≡ k = omega (arith, c.loop-i-test.false) in
-    let fit : k ≤ length l.rows = omega (arith, c.requires.all_below.bundles_few, l.invariant.rows_length) in
+    let fit : k ≤ length l.rows = omega (arith, a.t.sound.bundles_few, l.invariant.rows_length) in
     λ b given lanes n w q o.
     record {
-      bundles_are = n.bundles_are ∙ laws.same_rows a.bundles.now l.rows fit (λ j h. l.invariant.bundle_is j (omega (arith, h, e)));
+      bundles_are = n.bundles_are ∙ laws.same_rows a.t.bundles.now l.rows fit (λ j h. l.invariant.bundle_is j (omega (arith, h, e)));
       each = λ j h.
           let g : j < k = omega (arith, h, rows.length_part l.rows k fit) in
-          subst (Tells b given a.routes.points.now a.routes.starts.now a.routes.counts.now (rail_depth a.o) (sheet_pitch a.o)) (sym (get_or-take k l.rows j no_reached g)) (l.invariant.told j (omega (arith, g, e)) b given lanes n w q o);
+          subst (Tells b given a.routes.points.now a.routes.starts.now a.routes.counts.now (rail_depth a.t.options) (sheet_pitch a.t.options)) (sym (get_or-take k l.rows j no_reached g)) (l.invariant.told j (omega (arith, g, e)) b given lanes n w q o);
     }
+
+pub reach_all-d-requires-clause-below : goal.reach_all-d-requires-clause-below
+reach_all-d-requires-clause-below c = laws.edges_low c.args.t c.loop-i.i c.loop-i-test.true

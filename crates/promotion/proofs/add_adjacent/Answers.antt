@@ -7,68 +7,64 @@ use native.Mathlib.Omega.{arith}
 use borrow.Author.Tests.{not-false}
 use lib.ListN.{length, take, drop}
 use lib.Ieee.{Float}
-use Rattle.search.specs.declared.Listed.{Listed}
 use Rattle.search.specs.Lent.{members_lent}
-use Rattle.search.specs.Search.{told, in_order}
+use Rattle.search.specs.Search.{in_order}
 use Rattle.search.specs.Promotion.{kept, second_spent, joined}
 use Rattle.search.proofs.Parts as parts
 use Rattle.std.proofs.Common.{not}
 use Rattle.promotion.proofs.add_adjacent.Goals as goal
-use Rattle.promotion.proofs.add_adjacent.Goals.{After-common_horizontal_collector_xs-g, In-All}
+use Rattle.promotion.proofs.add_adjacent.Goals.{After-common_horizontal_collector_xs-listed}
 
-abbrev xs-of : After-common_horizontal_collector_xs-g → List Float
+abbrev xs-of : After-common_horizontal_collector_xs-listed → List Float
 xs-of x = x.args.xs.now
 
-abbrev n-of : After-common_horizontal_collector_xs-g → ℕ
+abbrev n-of : After-common_horizontal_collector_xs-listed → ℕ
 n-of x = x.args.n
 
-abbrev ys-of : After-common_horizontal_collector_xs-g → List Float
-ys-of x = x.common_horizontal_collector_xs-g.new.xs
+abbrev ys-of : After-common_horizontal_collector_xs-listed → List Float
+ys-of x = x.common_horizontal_collector_xs-listed.new.xs
 
 -- the slice after it
-abbrev whole : After-common_horizontal_collector_xs-g → List Float
+abbrev whole : After-common_horizontal_collector_xs-listed → List Float
 whole x = take (n-of x) (xs-of x) ++ (ys-of x ++ drop (length (xs-of x) - n-of x) (drop (n-of x) (xs-of x)))
 
-in-front : (x : After-common_horizontal_collector_xs-g) → n-of x ≤ length (xs-of x)
+in-front : (x : After-common_horizontal_collector_xs-listed) → n-of x ≤ length (xs-of x)
 in-front x = omega (arith, x.requires.room)
 
-ys-length : (x : After-common_horizontal_collector_xs-g) → length (ys-of x) ≡ length (xs-of x) - n-of x
-ys-length x = x.common_horizontal_collector_xs-g.auto.xs ∙ parts.back_length (xs-of x) (n-of x) (in-front x)
+ys-length : (x : After-common_horizontal_collector_xs-listed) → length (ys-of x) ≡ length (xs-of x) - n-of x
+ys-length x = x.common_horizontal_collector_xs-listed.auto.xs ∙ parts.back_length (xs-of x) (n-of x) (in-front x)
 
-whole_length : (x : After-common_horizontal_collector_xs-g) → length (whole x) ≡ length (xs-of x)
+whole_length : (x : After-common_horizontal_collector_xs-listed) → length (whole x) ≡ length (xs-of x)
 whole_length x = parts.whole_again (xs-of x) (n-of x) (in-front x) (ys-of x) (ys-length x)
 
-abbrev m-of : In-All → ℕ
-m-of k = k.in-All.m
-
-pub returns-in-Spent : goal.returns-in-Spent
-returns-in-Spent c =
+pub returns-in_default : goal.returns-in_default
+returns-in_default c =
     let a = c.args in
+    let x = (goal.at.returns-in_default c).After-common_horizontal_collector_xs-listed in
     let ms = members_lent a.sought.role a.sought.pitch a.sought.routes in
-    let g = c.common_horizontal_collector_xs-g in
-    let first = take (n-of (goal.at.returns-in-Spent c).After-common_horizontal_collector_xs-g) (xs-of (goal.at.returns-in-Spent c).After-common_horizontal_collector_xs-g) in
+    let first = take (n-of x) (xs-of x) in
     let near = sym c.is_between.ensures ∙ not-false _ (ap not c.if-not-is_between.false) in
     record {
-      within = in-front (goal.at.returns-in-Spent c).After-common_horizontal_collector_xs-g;
+      within = in-front x;
       are = parts.second a.sought.role a.sought.pitch a.sought.bounds ms first a.left.0 _ c.adjacent_lane-lane.ensures near _
-          (ap second_spent (parts.first_kept (xs-of (goal.at.returns-in-Spent c).After-common_horizontal_collector_xs-g) (n-of (goal.at.returns-in-Spent c).After-common_horizontal_collector_xs-g) (in-front (goal.at.returns-in-Spent c).After-common_horizontal_collector_xs-g) (ys-of (goal.at.returns-in-Spent c).After-common_horizontal_collector_xs-g) _)
-          ∙ ap (λ (r : Listed). joined a.sought.role first (told r (ys-of (goal.at.returns-in-Spent c).After-common_horizontal_collector_xs-g))) (sym c.in-Spent.is) ∙ ap (joined a.sought.role first) g.ensures.are);
+          (ap second_spent (parts.first_kept (xs-of x) (n-of x) (in-front x) (ys-of x) _) ∙ ap (joined a.sought.role first) c.in_default.ensures.are);
     }
 
-pub returns-in-All : goal.returns-in-All
-returns-in-All c =
+pub returns : goal.returns
+returns c =
     let a = c.args in
+    let x = (goal.at.returns c).After-common_horizontal_collector_xs-listed in
     let ms = members_lent a.sought.role a.sought.pitch a.sought.routes in
-    let g = c.common_horizontal_collector_xs-g in
-    let first = take (n-of (goal.at.returns-in-All c).After-common_horizontal_collector_xs-g) (xs-of (goal.at.returns-in-All c).After-common_horizontal_collector_xs-g) in
+    let first = take (n-of x) (xs-of x) in
     let near = sym c.is_between.ensures ∙ not-false _ (ap not c.if-not-is_between.false) in
     let p = c.put_in_order-k in
-    let f : m-of (goal.at.returns-in-All c).In-All ≤ length (ys-of (goal.at.returns-in-All c).After-common_horizontal_collector_xs-g) = rw g.auto.xs (parts.count_within g.result (m-of (goal.at.returns-in-All c).In-All) c.in-All.rest _ c.in-All.is g.ensures.within) in
+    let m = c.in-Ok.m in
+    let f : m ≤ length (ys-of x) = rw c.common_horizontal_collector_xs-listed.auto.xs c.in-Ok.ensures.within in
     record {
-      within = omega (arith, p.ensures.within, parts.front_within (whole (goal.at.returns-in-All c).After-common_horizontal_collector_xs-g) (n-of (goal.at.returns-in-All c).After-common_horizontal_collector_xs-g + m-of (goal.at.returns-in-All c).In-All), whole_length (goal.at.returns-in-All c).After-common_horizontal_collector_xs-g);
+      within = omega (arith, p.ensures.within, parts.front_within (whole x) (n-of x + m), whole_length x);
       are = parts.second a.sought.role a.sought.pitch a.sought.bounds ms first a.left.0 _ c.adjacent_lane-lane.ensures near _
-          (ap (λ (l : List Float). kept l c.in-All.rest.0)
-          (parts.front_in_order a.sought.role ms (whole (goal.at.returns-in-All c).After-common_horizontal_collector_xs-g) p.new.xs (n-of (goal.at.returns-in-All c).After-common_horizontal_collector_xs-g + m-of (goal.at.returns-in-All c).In-All) p.result p.auto.xs p.ensures
-          ∙ ap (in_order a.sought.role) (parts.both_lists (xs-of (goal.at.returns-in-All c).After-common_horizontal_collector_xs-g) (n-of (goal.at.returns-in-All c).After-common_horizontal_collector_xs-g) (in-front (goal.at.returns-in-All c).After-common_horizontal_collector_xs-g) (ys-of (goal.at.returns-in-All c).After-common_horizontal_collector_xs-g) _ (m-of (goal.at.returns-in-All c).In-All) f))
-          ∙ ap (λ (r : Listed). joined a.sought.role first (told r (ys-of (goal.at.returns-in-All c).After-common_horizontal_collector_xs-g))) (sym c.in-All.is) ∙ ap (joined a.sought.role first) g.ensures.are);
+          (ap (λ (l : List Float). kept l c.in-Ok.rest.0)
+          (parts.front_in_order a.sought.role ms (whole x) p.new.xs (n-of x + m) p.result p.auto.xs p.ensures
+          ∙ ap (in_order a.sought.role) (parts.both_lists (xs-of x) (n-of x) (in-front x) (ys-of x) _ m f))
+          ∙ ap (joined a.sought.role first) c.in-Ok.ensures.are);
     }

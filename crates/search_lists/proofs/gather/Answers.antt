@@ -7,6 +7,7 @@ use Prim.Native.Nat.{ℕ, ◌+◌, ◌-◌, ◌*◌, ◌≤◌, ◌<◌}
 use native.Mathlib.Omega.{arith}
 use lib.ListN.{length, get_or, take, length-set}
 use lib.Ieee.{Float}
+use Rattle.std.proofs.lemmas.Result.{err_from_is_err_and}
 use Rattle.search.specs.Stretches.{all_runs}
 use Rattle.search.specs.Lent.{members_lent}
 use Rattle.geometry.specs.Points.{points_from}
@@ -39,7 +40,7 @@ behind r i =
 -- the whole pass, at the members' loop
 whole : (s : At-loop-m)
     → let a = s.args in
-    gathered_onto a.sought.role a.sought.bounds (a.sought.bounds.desired ∷ []) (all s) a.granted.0 ≡ gathered_onto a.sought.role a.sought.bounds (take s.loop-m.n s.loop-m.xs) (from s s.loop-m.m) s.loop-m.left
+    gathered_onto a.sought.role a.sought.bounds (a.sought.bounds.desired ∷ []) (all s) a.granted.0 ≡ gathered_onto a.sought.role a.sought.bounds (take s.loop-m.n s.loop-m.xs) (from s s.loop-m.m) s.loop-m.left.0
 whole s =
     let a = s.args in
     let h : 0 < length a.xs.now = omega arith in
@@ -56,8 +57,8 @@ next-member s h =
 -- what is left of the pass at the members' loop, at the runs' loop
 part : (r : At-loop-i)
     → let a = r.args in
-    gathered_onto a.sought.role a.sought.bounds (take r.loop-m.n r.loop-m.xs) (from (goal.at.At-loop-i r).At-loop-m r.loop-m.m) r.loop-m.left
-    ≡ gathered_onto a.sought.role a.sought.bounds (take r.loop-i.n r.loop-i.xs) (behind r r.loop-i.i) r.loop-i.left
+    gathered_onto a.sought.role a.sought.bounds (take r.loop-m.n r.loop-m.xs) (from (goal.at.At-loop-i r).At-loop-m r.loop-m.m) r.loop-m.left.0
+    ≡ gathered_onto a.sought.role a.sought.bounds (take r.loop-i.n r.loop-i.xs) (behind r r.loop-i.i) r.loop-i.left.0
 part r = rw (next-member (goal.at.At-loop-i r).At-loop-m r.loop-m-test.true) r.loop-i.invariant.passed
 
 -- what is left to keep at the members' loop, at the runs' loop
@@ -97,14 +98,13 @@ stretch_is e = let v = e.member_route-route.ensures in rw (v.0, v.1) at e.run_st
 stepped : (e : After-candidate_of-c) (o : Option Float) → e.candidate_of-c.result ≡ o
     → let a = e.args in
     let r = (goal.at.After-candidate_of-c e).At-loop-i in
-    gathered_onto a.sought.role a.sought.bounds (take e.loop-i.n e.loop-i.xs) (behind r e.loop-i.i) e.loop-i.left
-    ≡ gathered_onto a.sought.role a.sought.bounds (onto (take e.loop-i.n e.loop-i.xs) o) (behind r (e.loop-i.i + 1)) (e.loop-i.left - 1)
+    gathered_onto a.sought.role a.sought.bounds (take e.loop-i.n e.loop-i.xs) (behind r e.loop-i.i) e.loop-i.left.0
+    ≡ gathered_onto a.sought.role a.sought.bounds (onto (take e.loop-i.n e.loop-i.xs) o) (behind r (e.loop-i.i + 1)) e.charge.new.left.0
 stepped e o g =
     let a = e.args in
     let s = run a.sought.routes.points.now a.sought.role a.sought.pitch (get_or a.sought.routes.starts.now e.loop-m.m 0 + e.loop-i.i) in
-    let v : 0 < e.loop-i.left = omega arith in
     let k : candidate a.sought.role a.sought.bounds s ≡ o = ap (candidate a.sought.role a.sought.bounds) (sym (stretch_is e)) ∙ sym e.candidate_of-c.ensures ∙ g in
-    rw (next-run (goal.at.After-candidate_of-c e).In-loop-i) (walk.gather_step a.sought.role a.sought.bounds (take e.loop-i.n e.loop-i.xs) s (behind (goal.at.After-candidate_of-c e).At-loop-i (e.loop-i.i + 1)) e.loop-i.left o v k)
+    rw (next-run (goal.at.After-candidate_of-c e).In-loop-i) (walk.gather_step a.sought.role a.sought.bounds (take e.loop-i.n e.loop-i.xs) s (behind (goal.at.After-candidate_of-c e).At-loop-i (e.loop-i.i + 1)) e.loop-i.left.0 o e.charge.new.left.0 e.in_ok-charge.ensures k)
 
 -- a run's pair is kept
 kept_more : (e : After-candidate_of-c)
@@ -152,13 +152,20 @@ loop-m-preserved c =
       keeps = c.loop-m.invariant.keeps ∙ kept-part r ∙ rw e;
     }
 
-pub returns-then-left-eq0-clause-found : goal.returns-then-left-eq0-clause-found
-returns-then-left-eq0-clause-found c =
-    let a = c.args in record {
+pub returns-in_err-charge-clause-found : goal.returns-in_err-charge-clause-found
+returns-in_err-charge-clause-found c =
+    let a = c.args in
+    let p = err_from_is_err_and c.from_residual.result c.from_residual.ensures.1 in
+    rw p.1 (record {
       within = tt;
-      are = sym (whole (goal.at.returns-then-left-eq0-clause-found c).At-loop-m ∙ part (goal.at.returns-then-left-eq0-clause-found c).At-loop-i
-          ∙ rw (next-run (goal.at.returns-then-left-eq0-clause-found c).In-loop-i) (walk.gather_spent a.sought.role a.sought.bounds _ _ _ c.loop-i.left c.if-left-eq0.true));
-    }
+      are = sym (whole (goal.at.returns-in_err-charge-clause-found c).At-loop-m ∙ part (goal.at.returns-in_err-charge-clause-found c).At-loop-i
+          ∙ rw (next-run (goal.at.returns-in_err-charge-clause-found c).In-loop-i) (walk.gather_spent a.sought.role a.sought.bounds _ _ _ c.loop-i.left.0 c.in_err-charge.ensures));
+    })
+
+pub returns-in_err-charge-clause-keeps : goal.returns-in_err-charge-clause-keeps
+returns-in_err-charge-clause-keeps c =
+    let p = err_from_is_err_and c.from_residual.result c.from_residual.ensures.1 in
+    rw p.1 tt
 
 pub put_point-requires : goal.put_point-requires
 put_point-requires c = let h = pair-room (goal.at.put_point-requires c).In-loop-i in omega arith

@@ -23,7 +23,7 @@ invariant-loop-i l =
     let all = R l.sought.routes.points.now l.sought.role l.sought.pitch start count ++ tail in
     let rest = R l.sought.routes.points.now l.sought.role l.sought.pitch (start + l.i) (count - l.i) ++ tail in record {
       room : l.n + length rest ≤ length l.xs;
-      passed : gathered_onto l.sought.role l.sought.bounds (take l.initial.n l.initial.xs) all l.initial.left ≡ gathered_onto l.sought.role l.sought.bounds (take l.n l.xs) rest l.left;
+      passed : gathered_onto l.sought.role l.sought.bounds (take l.initial.n l.initial.xs) all l.initial.left.0 ≡ gathered_onto l.sought.role l.sought.bounds (take l.n l.xs) rest l.left.0;
       pair_room : 2 * (l.k + length rest) ≤ length l.kept;
       keeps : points_from l.initial.kept 0 l.initial.k ++ map kept all ≡ points_from l.kept 0 l.k ++ map kept rest;
     }
@@ -33,7 +33,7 @@ invariant-loop-m l =
     let all = all_runs (members l.sought.role l.sought.pitch (routes l.sought.routes.points.now l.sought.routes.starts.now l.sought.routes.counts.now)) in
     let rest = from_member l.sought.routes.points.now l.sought.role l.sought.pitch l.sought.routes.starts.now l.sought.routes.counts.now l.m in record {
       room : l.n + length rest ≤ length l.xs;
-      passed : gathered_onto l.sought.role l.sought.bounds (take l.initial.n l.initial.xs) all l.initial.left ≡ gathered_onto l.sought.role l.sought.bounds (take l.n l.xs) rest l.left;
+      passed : gathered_onto l.sought.role l.sought.bounds (take l.initial.n l.initial.xs) all l.initial.left.0 ≡ gathered_onto l.sought.role l.sought.bounds (take l.n l.xs) rest l.left.0;
       pair_room : 2 * (l.k + length rest) ≤ length l.kept;
       keeps : map kept all ≡ points_from l.kept 0 l.k ++ map kept rest;
     }

@@ -5,7 +5,6 @@ use Prim.Native.Nat.{ℕ, ◌+◌, ◌≤◌, ◌<◌}
 use native.Mathlib.Omega.{arith}
 use lib.ListN.{length, get_or, take, drop, set, length-set}
 use lib.Ieee.{Float}
-use Rattle.limits.specs.Limits.{max_bundles}
 use Rattle.search.specs.Search.{search_of}
 use Rattle.plan.specs.declared.Bound.{Bound}
 use Rattle.plan.specs.Plan.{beside, separated}
@@ -13,49 +12,42 @@ use Rattle.plan.specs.Prepared.{ranged_from, x_of, no_planned, no_range, range_a
 use Rattle.plan.proofs.TableReads as rows
 use Rattle.separation.specs.Taken.{lanes_in}
 use Rattle.separation.proofs.TakenTurns as laws
-use borrow.Author.Rules.{rules}
 use Rattle.separation.proofs.separate.Goals as goal
 use Rattle.separation.proofs.separate.Goals.{Start}
-
-rows_length : (s : Start) → length s.args.t.rows ≡ max_bundles
-rows_length s = search (rules, rows.length_mapped)
 
 pub loop-i-preserved : goal.loop-i-preserved
 loop-i-preserved c =
     let a = c.args in
     let l = c.loop-i in
+    let t = a.ranges.now in
+    let n = length t in
     let h = c.loop-i-test.true in
     let few = c.requires.ranges_fit.bundles_few in
-    let n : length a.t.rows ≡ max_bundles = rows_length (goal.at.loop-i-preserved c).Start in
     let g : l.i < length l.rows = omega (arith, h, few, l.invariant.rows_length) in
-    let q : a.n ≤ length a.t.rows = omega (arith, few, n) in
-    let r : a.n ≤ length l.rows = omega (arith, few, l.invariant.rows_length) in
+    let r : n ≤ length l.rows = omega (arith, few, l.invariant.rows_length) in
     let y = c.if_clear-x in
-    let d = c.add_lane-lanes in
+    let d = c.add_lane in
     let f = c.beside-r in
-    let u = c.lanes_of-taken.ensures.told in record {
+    let u = c.lanes_of-used.ensures in record {
       rows_length = length-set l.rows l.i (record { x = y.result }) ∙ l.invariant.rows_length;
       inputs_few = omega (arith, l.invariant.inputs_few, d.ensures.few.0);
       outputs_few = omega (arith, l.invariant.outputs_few, d.ensures.few.1);
-      plan_is = λ b given t.
-          ap (λ (z : List Bound). laws.behind (map x_of (take (l.i + 1) (set l.rows l.i (record { x = y.result })))) (separated search_of b given (map ranged_from (drop (l.i + 1) (take a.n a.t.rows))) z (lanes_in d.result) f.result.left.0))
-          (ap (map x_of) (laws.later_rows l.rows a.n l.i (record { x = y.result }) h))
-          ∙ laws.separated_turn b given _ _ (ranged_from (range_at a.t l.i)) _ _ (get_or l.rows l.i no_planned).x y.result (lanes_in l.lanes) (lanes_in d.result) l.left.0 f.result l.i l.rows
-          (ap (map ranged_from) (rows.part_cons a.t.rows a.n l.i no_range h q)) (ap (map x_of) (rows.part_cons l.rows a.n l.i no_planned h r)) g
-          (f.ensures b given (t.pitch_is l.i h) (t.routed l.i h) ∙ ap (λ (ys : List Float). beside search_of b given (ranged_from (range_at a.t l.i)) (get_or l.rows l.i no_planned).x ys l.left.0) u)
-          (laws.if_clear_same y.result a.setting.pitch _ c.found_x-found.result _ _ _ y.ensures (t.pitch_is l.i h) c.found_x-found.ensures u) d.ensures.told
-          ∙ l.invariant.plan_is b given t;
+      plan_is = λ b given w.
+          ap (λ (z : List Bound). laws.behind (map x_of (take (l.i + 1) (set l.rows l.i (record { x = y.result })))) (separated search_of b given (map ranged_from (drop (l.i + 1) t)) z (lanes_in d.new.l) f.result.left.0))
+          (ap (map x_of) (laws.later_rows l.rows n l.i (record { x = y.result }) h))
+          ∙ laws.separated_turn b given _ _ (ranged_from (range_at t l.i)) _ _ (get_or l.rows l.i no_planned).x y.result (lanes_in l.lanes) (lanes_in d.new.l) l.left.0 f.result l.i l.rows
+          (ap (map ranged_from) (rows.rest_cons t l.i no_range h)) (ap (map x_of) (rows.part_cons l.rows n l.i no_planned h r)) g
+          (f.ensures b given (w.pitch_is l.i h) (w.routed l.i h) ∙ ap (λ (ys : List Float). beside search_of b given (ranged_from (range_at t l.i)) (get_or l.rows l.i no_planned).x ys l.left.0) u)
+          (laws.if_clear_same y.result a.setting.pitch _ c.from-found.result _ _ _ y.ensures (w.pitch_is l.i h) c.from-found.ensures u) d.ensures.told
+          ∙ l.invariant.plan_is b given w;
     }
 
 pub returns : goal.returns
 returns c =
     let a = c.args in
     let l = c.loop-i in
-    let few = c.requires.ranges_fit.bundles_few in
-    let n : length a.t.rows ≡ max_bundles = rows_length (goal.at.returns c).Start in
-    let q : a.n ≤ length a.t.rows = omega (arith, few, n) in
-    let e : a.n ≡ l.i = omega (arith, c.loop-i-test.false) in
-    λ b given t.
+    let e : length a.ranges.now ≡ l.i = omega (arith, c.loop-i-test.false) in
+    λ b given w.
     ap (λ (j : ℕ). plan_in j (record { rows = l.rows; left = l.left })) e
-    ∙ laws.separated_end b given _ _ (lanes_in l.lanes) l.left.0 (map x_of (take l.i l.rows)) (ap (map ranged_from) (rows.part_none a.t.rows a.n l.i c.loop-i-test.false q))
-    ∙ l.invariant.plan_is b given t
+    ∙ laws.separated_end b given _ _ (lanes_in l.lanes) l.left.0 (map x_of (take l.i l.rows)) (ap (map ranged_from) (rows.rest_none a.ranges.now l.i c.loop-i-test.false))
+    ∙ l.invariant.plan_is b given w

@@ -15,9 +15,9 @@ use Rattle.separation.proofs.separate.Given as goal
 abbrev pub invariant-loop-i : goal.invariant-loop-i
 invariant-loop-i l = record {
   rows_length : length l.rows ≡ max_bundles;
-  inputs_few : l.lanes.input.count ≤ l.i;
-  outputs_few : l.lanes.output.count ≤ l.i;
-  plan_is : (b : Board) (given : List Route) → RangesTell b given l.setting l.t l.n
-      → laws.behind (map x_of (take l.i l.rows)) (separated search_of b given (map ranged_from (drop l.i (take l.n l.t.rows))) (map x_of (drop l.i (take l.n l.rows))) (lanes_in l.lanes) l.left.0)
-      ≡ separated search_of b given (map ranged_from (take l.n l.t.rows)) (map x_of (take l.n l.initial.rows)) none_taken l.initial.left.0;
+  inputs_few : length l.lanes.input.items ≤ l.i;
+  outputs_few : length l.lanes.output.items ≤ l.i;
+  plan_is : (b : Board) (given : List Route) → RangesTell b given l.setting l.ranges
+      → laws.behind (map x_of (take l.i l.rows)) (separated search_of b given (map ranged_from (drop l.i l.ranges)) (map x_of (drop l.i (take (length l.ranges) l.rows))) (lanes_in l.lanes) l.left.0)
+      ≡ separated search_of b given (map ranged_from l.ranges) (map x_of (take (length l.ranges) l.initial.rows)) none_taken l.initial.left.0;
 }

@@ -1,6 +1,7 @@
-use Rattle.std.proofs.Common.{arith, length, take, ◌∙◌}
+use Rattle.std.proofs.Common.{arith, length, ◌∙◌}
 use Rattle.std.proofs.lemmas.Result.{err_from_is_err_and}
 use Rattle.route.specs.Slots.{routes_of}
+use Rattle.plan.specs.MemberColumns.{edges_of, lanes_of}
 use Rattle.turns.proofs.Turning.{earlier_tabled, known_row, turn_off, turn_on, ends_refused, longer_made, longer_refused}
 use Rattle.turns.proofs.draw_bundle.Goals as goal
 
@@ -12,7 +13,7 @@ returns-in_err-rewrite_member_routes-clause-told c b s =
     let e = rw c.pitch_of_bundle.ensures at f.told in
     let p = err_from_is_err_and c.from_residual.result c.from_residual.ensures.1 in
     rw (p.1, p.2, f.refusal)
-    (turn_off b a.rules.permits_crossings a.rules.options a.board.nodes.now a.board.edges.now a.t.bundle a.t.end a.t.planned a.t.offset a.table.edges.now a.table.lanes.now g.result _ (routes_of a.points.now a.counts.now) s g.ensures.row (g.ensures.drawn b s.seen) _ _ _ _ a.visits.now e)
+    (turn_off b a.rules.permits_crossings a.rules.options a.board.nodes.now a.board.edges.now a.t.bundle a.t.end a.t.planned a.t.offset (edges_of a.members.now) (lanes_of a.members.now) g.result _ (routes_of a.points.now a.counts.now) s g.ensures.row (g.ensures.drawn b s.seen) _ _ _ _ a.visits.now e)
 
 pub returns-in_err-rewrite_member_routes-clause-longer : goal.returns-in_err-rewrite_member_routes-clause-longer
 returns-in_err-rewrite_member_routes-clause-longer c =
@@ -33,11 +34,10 @@ verify_bundle-requires c =
     let l = c.requires.0 in
     let h = r.masked in (
       omega (arith, kc, l),
-      r.few,
-      earlier_tabled c.args.table.edges.now _ c.args.t.bundle.first (take c.args.priors.count c.args.priors.rows) (omega (arith, m)) (omega (arith, k, w)) r.earlier,
+      earlier_tabled (edges_of c.args.members.now) _ c.args.t.bundle.first c.args.priors.now (omega (arith, m)) (omega (arith, k, w)) r.earlier,
       record { members = omega (arith, m, i, j); places = omega (arith, k, w, i, j) },
       omega (arith, kc, h),
-      (λ n o. known_row c.args.table.edges.now c.args.t.bundle.first c.args.t.bundle.count _ _ (length c.args.counts.now) _ i j h (λ x y. r.roomy.known x (omega arith) y) n o),
+      (λ n o. known_row (edges_of c.args.members.now) c.args.t.bundle.first c.args.t.bundle.count _ _ (length c.args.counts.now) _ i j h (λ x y. r.roomy.known x (omega arith) y) n o),
     )
 
 pub returns-in_err-verify_bundle-clause-told : goal.returns-in_err-verify_bundle-clause-told
@@ -49,7 +49,7 @@ returns-in_err-verify_bundle-clause-told c b s =
     let p = err_from_is_err_and c.from_residual-in_err-verify_bundle.result c.from_residual-in_err-verify_bundle.ensures.1 in
     rw (p.1, p.2)
     (ends_refused _ _ _ _ _ _
-    ∙ turn_on b a.rules.permits_crossings a.rules.options a.board.nodes.now a.board.edges.now a.t.bundle a.t.end a.t.planned a.t.offset a.table.edges.now a.table.lanes.now g.result _ (routes_of a.points.now a.counts.now) s g.ensures.row (g.ensures.drawn b s.seen) a.taps.now (take a.priors.count a.priors.rows) a.visits.now.0 _ _ g.ensures.kept c.requires.1.earlier _ e c.in_err-verify_bundle.ensures)
+    ∙ turn_on b a.rules.permits_crossings a.rules.options a.board.nodes.now a.board.edges.now a.t.bundle a.t.end a.t.planned a.t.offset (edges_of a.members.now) (lanes_of a.members.now) g.result _ (routes_of a.points.now a.counts.now) s g.ensures.row (g.ensures.drawn b s.seen) a.taps.now a.priors.now a.visits.now.0 _ _ g.ensures.kept c.requires.1.earlier _ e c.in_err-verify_bundle.ensures)
 
 pub returns-in_err-verify_bundle-clause-longer : goal.returns-in_err-verify_bundle-clause-longer
 returns-in_err-verify_bundle-clause-longer c =
@@ -62,7 +62,7 @@ returns-clause-told c b s =
     let f = c.in_ok-rewrite_member_routes.ensures in
     let g = c.build_geometry-d in
     let e = rw c.pitch_of_bundle.ensures at f.told in
-    turn_on b a.rules.permits_crossings a.rules.options a.board.nodes.now a.board.edges.now a.t.bundle a.t.end a.t.planned a.t.offset a.table.edges.now a.table.lanes.now g.result _ (routes_of a.points.now a.counts.now) s g.ensures.row (g.ensures.drawn b s.seen) a.taps.now (take a.priors.count a.priors.rows) a.visits.now.0 _ _ g.ensures.kept c.requires.1.earlier _ e c.in_ok-verify_bundle.ensures
+    turn_on b a.rules.permits_crossings a.rules.options a.board.nodes.now a.board.edges.now a.t.bundle a.t.end a.t.planned a.t.offset (edges_of a.members.now) (lanes_of a.members.now) g.result _ (routes_of a.points.now a.counts.now) s g.ensures.row (g.ensures.drawn b s.seen) a.taps.now a.priors.now a.visits.now.0 _ _ g.ensures.kept c.requires.1.earlier _ e c.in_ok-verify_bundle.ensures
 
 pub returns-clause-longer : goal.returns-clause-longer
 returns-clause-longer c =

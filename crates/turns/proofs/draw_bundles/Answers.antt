@@ -1,19 +1,20 @@
-use Rattle.std.proofs.Common.{arith, rules, refl, sym, ap, ◌∙◌, subst, ◌≡◌, ℕ, ◌<◌, ◌+◌, List, [], ◌∷◌, get_or, length, take, drop, set, map, length-set}
+use Rattle.std.proofs.Common.{arith, sym, ap, ◌∙◌, subst, ◌≡◌, ℕ, ◌<◌, ◌+◌, List, [], ◌∷◌, get_or, length, take, drop, map}
 use Rattle.std.specs.Float.{nan}
 use Rattle.route.specs.Slots.{routes_of}
 use Rattle.board.specs.declared.Bundle.{Bundle}
 use Rattle.board.specs.declared.DrawnBundle.{DrawnBundle}
-use Rattle.board.specs.Tables.{DrawnBundles}
 use Rattle.plan.specs.BoardTables.{no_bundle}
 use Rattle.plan.specs.Lent.{board_lent}
 use Rattle.plan.specs.Prepared.{no_planned}
-use Rattle.plan.proofs.TableReads.{length_mapped, rest_cons}
+use Rattle.plan.proofs.TableReads.{rest_cons}
+use Rattle.plan.specs.MemberColumns.{edges_of, lanes_of}
+use Rattle.plan.proofs.MemberColumns.{edges_long}
 use Rattle.drawing.specs.Sheet.{Turn, sheet_of}
 use Rattle.checks.specs.CheckRows.{drawn_of}
 use Rattle.checks.specs.MemberSlices.{Row}
 use Rattle.turns.specs.TurnTables.{turn_of, standing}
-use Rattle.turns.proofs.Entering.{stands}
-use Rattle.turns.proofs.Resting.{Rest, rest_start, rest_ready, rest_next, faces, longer_clean, turns_at, turns_next, turns_end, sheet_on, sheet_off, sheet_end, drawn_more, rows_next, rows_none, full_off, full_on, drawn_next}
+use Rattle.turns.proofs.Entering.{stands, members_are}
+use Rattle.turns.proofs.Resting.{Rest, rest_start, rest_ready, rest_next, faces, longer_clean, turns_at, turns_next, turns_end, sheet_on, sheet_off, sheet_end, drawn_more, rows_next, rows_none, full_off, full_on}
 use Rattle.turns.proofs.draw_bundles.Goals as goal
 use Rattle.turns.proofs.draw_bundles.Goals.{Start}
 
@@ -46,11 +47,10 @@ loop-i-init c =
     let e : take d.count d.rows ≡ [] = ap (λ (n : ℕ). take n d.rows) z in
     record {
       drawn_to = z;
-      rest = subst (λ (ds : List DrawnBundle). Rest a.turns.board.bundles.now ds a.table.edges.now a.table.lanes.now a.counts.now) (sym e) (rest_start a.turns.board.bundles.now a.table.edges.now a.table.lanes.now a.counts.now _ c.requires.lists c.requires.room.1);
+      rest = subst (λ (ds : List DrawnBundle). Rest a.turns.board.bundles.now ds (edges_of a.turns.board.members.now) (lanes_of a.turns.board.members.now) a.counts.now) (sym e) (rest_start a.turns.board.bundles.now (edges_of a.turns.board.members.now) (lanes_of a.turns.board.members.now) a.counts.now _ c.requires.lists c.requires.room.1);
       rows = rows_none a.turns.board.bundles.now d.rows d.count z;
-      told = ap (λ (ds : List DrawnBundle). sheet_of (board_lent a.turns.board) a.turns.permits_crossings (turns_at a.turns.board.bundles.now a.turns.plan.now a.turns.offsets.now 0) (standing (routes_of a.points.now a.counts.now) (map (drawn_of a.table.edges.now a.taps.now) ds) a.visits.now.0)) e;
+      told = ap (λ (ds : List DrawnBundle). sheet_of (board_lent a.turns.board) a.turns.permits_crossings (turns_at a.turns.board.bundles.now a.turns.plan.now a.turns.offsets.now 0) (standing (routes_of a.points.now a.counts.now) (map (drawn_of (edges_of a.turns.board.members.now) a.taps.now) ds) a.visits.now.0)) e;
       masked = c.requires.room.0.masked;
-      long = search (rules, length_mapped);
     }
 
 pub draw_bundle-requires : goal.draw_bundle-requires
@@ -59,18 +59,17 @@ draw_bundle-requires c =
     let l = c.loop-i in
     let h = c.loop-i-test.true in
     let s = (goal.at.draw_bundle-requires c).Start in
-    let few = a.turns.board.sound.bundles_few in
     let most = c.requires.edges in
     let m = c.requires.room.0 in
     let places = m.places in
+    let long = edges_long a.turns.board.members.now in
     let slots = m.slots in
     let masked = l.invariant.masked in
-    let count = l.invariant.drawn_to in
     let lt = l.auto.taps in
     let lp = l.auto.points in
     let lc = l.auto.counts in (
       omega (arith, most, lc),
-      rest_ready (this s l.i h) (later s l.i h) (take l.drawn.count l.drawn.rows) a.table.edges.now a.table.lanes.now l.counts (split s l.i h (take l.drawn.count l.drawn.rows) a.table.edges.now a.table.lanes.now l.counts l.invariant.rest) l.drawn _ _ _ a.turns.board.bundles.now _ refl (omega (arith, count, few, h)) lc c.requires.lists (omega (arith, lt, places)) (omega (arith, lp, lc, slots)) (omega (arith, lc, masked)),
+      rest_ready (this s l.i h) (later s l.i h) (take l.drawn.count l.drawn.rows) (edges_of a.turns.board.members.now) (lanes_of a.turns.board.members.now) l.counts (split s l.i h (take l.drawn.count l.drawn.rows) (edges_of a.turns.board.members.now) (lanes_of a.turns.board.members.now) l.counts l.invariant.rest) c.as_slice.result.now _ _ _ a.turns.board.bundles.now _ c.as_slice.ensures lc c.requires.lists (omega (arith, lt, places, long)) (omega (arith, lp, lc, slots)) (omega (arith, lc, masked)),
     )
 
 pub returns-in-Err-clause-told : goal.returns-in-Err-clause-told
@@ -81,10 +80,10 @@ returns-in-Err-clause-told c =
     let h = c.loop-i-test.true in
     let at = (goal.at.returns-in-Err-clause-told c).Start in
     let ds = take l.drawn.count l.drawn.rows in
-    let now = standing (routes_of l.points l.counts) (map (drawn_of a.table.edges.now l.taps) ds) l.visits.0 in
-    let r = split at l.i h ds a.table.edges.now a.table.lanes.now l.counts l.invariant.rest in
+    let now = standing (routes_of l.points l.counts) (map (drawn_of (edges_of a.turns.board.members.now) l.taps) ds) l.visits.0 in
+    let r = split at l.i h ds (edges_of a.turns.board.members.now) (lanes_of a.turns.board.members.now) l.counts l.invariant.rest in
     sheet_off b a.turns.permits_crossings (turn_here at l.i h) (turns_later at l.i h) now c.draw_bundle.new.visits _ _ _ _ _
-    (c.in-Err.ensures.told b (faces (this at l.i h) (later at l.i h) ds a.table.edges.now a.table.lanes.now l.counts r a.turns.board _ c.requires.members (stands a.turns.board l.i _ h c.endpoint_of.ensures)))
+    (rw c.as_slice.ensures at c.in-Err.ensures.told b (faces (this at l.i h) (later at l.i h) ds (edges_of a.turns.board.members.now) (lanes_of a.turns.board.members.now) l.counts r a.turns.board _ (members_are a.turns.board.members.now) (stands a.turns.board l.i _ h c.endpoint_of.ensures)))
     ∙ ap (λ (ts : List Turn). sheet_of b a.turns.permits_crossings ts now) (sym (turns_are at l.i h))
     ∙ l.invariant.told
 
@@ -103,25 +102,23 @@ loop-i-preserved c =
     let f = c.draw_bundle in
     let d = c.in-Ok.row in
     let ds = take l.drawn.count l.drawn.rows in
-    let now = standing (routes_of l.points l.counts) (map (drawn_of a.table.edges.now l.taps) ds) l.visits.0 in
-    let r = split at l.i h ds a.table.edges.now a.table.lanes.now l.counts l.invariant.rest in
+    let now = standing (routes_of l.points l.counts) (map (drawn_of (edges_of a.turns.board.members.now) l.taps) ds) l.visits.0 in
+    let r = split at l.i h ds (edges_of a.turns.board.members.now) (lanes_of a.turns.board.members.now) l.counts l.invariant.rest in
     let count = l.invariant.drawn_to in
-    let rows = l.invariant.long in
     let few = a.turns.board.sound.bundles_few in
-    let w : DrawnBundles = record { rows = set l.drawn.rows l.i d; count = l.i + 1 } in
+    let w = c.push.new.self in
     let b = board_lent a.turns.board in
-    let more = drawn_next l.drawn l.i d count (omega (arith, h, few, rows)) in
+    let more = c.push.ensures.rows in
     record {
-      drawn_to = refl;
-      rest = rest_next (this at l.i h) (later at l.i h) ds a.table.edges.now a.table.lanes.now l.counts r d _ _ more c.in-Ok.ensures.row c.in-Ok.ensures.hold (longer_clean _ l.counts _ _ c.in-Ok.ensures.longer);
-      rows = rows_next l.drawn w d more a.turns.board.bundles.now no_bundle (omega (arith, count, h, few)) (ap (λ (k : ℕ). k + 1) (sym count)) (subst (λ (i : ℕ). Row (get_or a.turns.board.bundles.now i no_bundle) d) (sym count) c.in-Ok.ensures.row) l.invariant.rows;
+      drawn_to = c.push.ensures.count ∙ ap (λ (k : ℕ). k + 1) count;
+      rest = rest_next (this at l.i h) (later at l.i h) ds (edges_of a.turns.board.members.now) (lanes_of a.turns.board.members.now) l.counts r d _ _ more c.in-Ok.ensures.row c.in-Ok.ensures.hold (longer_clean _ l.counts _ _ c.in-Ok.ensures.longer);
+      rows = rows_next l.drawn w d more a.turns.board.bundles.now no_bundle (omega (arith, count, h, few)) c.push.ensures.count (subst (λ (i : ℕ). Row (get_or a.turns.board.bundles.now i no_bundle) d) (sym count) c.in-Ok.ensures.row) l.invariant.rows;
       told =
-          sheet_on b a.turns.permits_crossings (turn_here at l.i h) (turns_later at l.i h) now f.new.visits _ _ _ (drawn_more l.drawn w d more a.table.edges.now _)
-          (c.in-Ok.ensures.told b (faces (this at l.i h) (later at l.i h) ds a.table.edges.now a.table.lanes.now l.counts r a.turns.board _ c.requires.members (stands a.turns.board l.i _ h c.endpoint_of.ensures)))
+          sheet_on b a.turns.permits_crossings (turn_here at l.i h) (turns_later at l.i h) now f.new.visits _ _ _ (drawn_more l.drawn w d more (edges_of a.turns.board.members.now) _)
+          (rw c.as_slice.ensures at c.in-Ok.ensures.told b (faces (this at l.i h) (later at l.i h) ds (edges_of a.turns.board.members.now) (lanes_of a.turns.board.members.now) l.counts r a.turns.board _ (members_are a.turns.board.members.now) (stands a.turns.board l.i _ h c.endpoint_of.ensures)))
           ∙ ap (λ (ts : List Turn). sheet_of b a.turns.permits_crossings ts now) (sym (turns_are at l.i h))
           ∙ l.invariant.told;
       masked = omega (arith, l.invariant.masked, c.in-Ok.ensures.mask);
-      long = length-set l.drawn.rows l.i d ∙ rows;
     }
 
 pub returns-clause-told : goal.returns-clause-told

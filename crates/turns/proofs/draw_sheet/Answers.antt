@@ -3,30 +3,17 @@ use Rattle.geometry.specs.Points.{Route}
 use Rattle.plan.specs.Lent.{board_lent}
 use Rattle.plan.specs.Prepared.{x_of}
 use Rattle.drawing.specs.Sheet.{sheet_of, turns_from, blank}
-use Rattle.turns.proofs.Entering.{members_are, lists}
+use Rattle.turns.proofs.Entering.{lists}
 use Rattle.turns.proofs.draw_sheet.Goals as goal
 
 pub draw_bundles-requires-clause-lists : goal.draw_bundles-requires-clause-lists
 draw_bundles-requires-clause-lists c =
     let a = c.args in
-    let m = c.member_rows in
-    let s = c.args.board.sound in
     let g = c.requires.tables in
     let o = c.requires.once in
-    let e = c.requires.exact.0 in
-    let l = c.requires.exact.1 in
-    let k = c.requires.exact.2 in
-    let ke = m.auto.edges in
-    let kl = m.auto.lanes in
+    let k = c.requires.exact in
     let kc = c.store_edges.auto.counts in
-    lists _ _ a.board.members.now (omega (arith, ke, e)) m.ensures a.board.bundles.now _ (omega (arith, kl, l)) (λ i h. let z = g.members_on i h in omega (arith, z, kc, k)) s.lanes_few o.0 o.1
-
-pub draw_bundles-requires-clause-members : goal.draw_bundles-requires-clause-members
-draw_bundles-requires-clause-members c =
-    let m = c.member_rows in
-    let e = c.requires.exact.0 in
-    let ke = m.auto.edges in
-    members_are _ _ c.args.board.members.now (omega (arith, ke, e)) m.ensures
+    lists a.board.members.now a.board.bundles.now _ (λ i h. let z = g.members_on i h in omega (arith, z, kc, k)) a.board.sound.lanes_few o.0 o.1
 
 pub returns-clause-told : goal.returns-clause-told
 returns-clause-told c =

@@ -1,7 +1,7 @@
--- `outputs::wants_of` meets its contract. Assumes nothing.
+-- `outputs::WantsFromU32::from` meets its contract. Assumes nothing.
 use mathlib.Core.Path.{refl}
 use Rattle.outputs.specs.Outputs.{wants_of}
-use Rattle.outputs.proofs.wants_of.Goals as goal
+use Rattle.outputs.proofs.WantsFromU32.from.Goals as goal
 
 pub returns : goal.returns
 unfolding wants_of
