@@ -74,7 +74,15 @@ impl Board {
     /// assert_eq!(attempt.at.map(|at| at.start), Some(at(50.0, 20.0)));
     /// ```
     pub fn attempt(&self) -> Option<Attempt> {
-        let refusal = self.draw().err()?;
+        self.attempted(self.draw().err()?, &self.plan().ok()?)
+    }
+
+    /// What was tried where the drawing from a plan is refused, as [`Board::attempt`] says it.
+    pub fn attempt_from(&self, plan: &Plan) -> Option<Attempt> {
+        self.attempted(self.draw_from(plan).err()?, plan)
+    }
+
+    fn attempted(&self, refusal: Refusal, plan: &Plan) -> Option<Attempt> {
         let by_drawing = [
             Refusal::TapUnreachable,
             Refusal::ForbiddenContact,
@@ -83,10 +91,9 @@ impl Board {
         if !by_drawing.contains(&refusal) {
             return None;
         }
-        let plan = self.plan().ok()?;
-        let turn = refused_turn(self, &plan)?;
-        let (mut bundles, routes) = self.unchecked(&plan, turn + 1);
-        let at = met(self, &plan, refusal, &bundles, &routes);
+        let turn = refused_turn(self, plan)?;
+        let (mut bundles, routes) = self.unchecked(plan, turn + 1);
+        let at = met(self, plan, refusal, &bundles, &routes);
         let refused = bundles.pop()?;
         Some(Attempt {
             earlier: bundles,

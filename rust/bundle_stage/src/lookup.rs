@@ -31,35 +31,31 @@ impl Board {
 /// Records as places of refusals name them.
 impl Board {
     pub(crate) fn node_items(&self) -> Vec<Item> {
-        let nodes = self.nodes.iter().enumerate();
-        nodes
-            .map(|(place, node)| Item::Node { place, id: node.id })
-            .collect()
+        items(&self.nodes, |place, node| Item::Node { place, id: node.id })
     }
 
     pub(crate) fn port_items(&self) -> Vec<Item> {
-        let ports = self.ports.iter().enumerate();
-        let item = |(place, port): (usize, &Port)| Item::Port {
+        items(&self.ports, |place, port| Item::Port {
             place,
             node: port.node,
             id: port.id,
-        };
-        ports.map(item).collect()
+        })
     }
 
     pub(crate) fn edge_items(&self) -> Vec<Item> {
-        let edges = self.edges.iter().enumerate();
-        edges
-            .map(|(place, edge)| Item::Edge { place, id: edge.id })
-            .collect()
+        items(&self.edges, |place, edge| Item::Edge { place, id: edge.id })
     }
 
     pub(crate) fn bundle_items(&self) -> Vec<Item> {
-        let bundles = self.bundles.iter().enumerate();
-        let item = |(place, bundle): (usize, &Bundle)| Item::Bundle {
+        items(&self.bundles, |place, bundle| Item::Bundle {
             place,
             id: bundle.id,
-        };
-        bundles.map(item).collect()
+        })
     }
+}
+
+/// Records of a table, each by its place in it.
+fn items<T>(records: &[T], item: impl Fn(usize, &T) -> Item) -> Vec<Item> {
+    let records = records.iter().enumerate();
+    records.map(|(place, record)| item(place, record)).collect()
 }

@@ -65,6 +65,13 @@ impl fmt::Display for TooMany {
 
 impl Error for TooMany {}
 
+/// The bytes from a place on, which then stands behind them; none where fewer are left.
+pub(crate) fn next<const N: usize>(bytes: &[u8], at: &mut usize) -> Option<[u8; N]> {
+    let next = *bytes[*at..].first_chunk()?;
+    *at += N;
+    Some(next)
+}
+
 /// A place in lent bytes.
 pub(crate) struct Reader<'a> {
     bytes: &'a [u8],
@@ -77,17 +84,11 @@ impl<'a> Reader<'a> {
     }
 
     fn array<const N: usize>(&mut self, field: &'static str) -> Result<[u8; N], Malformed> {
-        match self.bytes[self.at..].first_chunk() {
-            Some(part) => {
-                self.at += N;
-                Ok(*part)
-            }
-            None => Err(Malformed {
-                at: self.at,
-                field,
-                fault: Fault::Ends,
-            }),
-        }
+        next(self.bytes, &mut self.at).ok_or(Malformed {
+            at: self.at,
+            field,
+            fault: Fault::Ends,
+        })
     }
 
     pub(crate) fn field<T: Wire>(&mut self, field: &'static str) -> Result<T, Malformed> {

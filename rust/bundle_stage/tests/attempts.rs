@@ -51,6 +51,33 @@ fn attempts() {
     assert_eq!(place, Some(from(tap, tap)));
 }
 
+/// What was tried from a plan: with the board's own the same; with another where that has the collector.
+#[test]
+fn attempts_from_a_plan() {
+    let mut crossed = board();
+    wire(&mut crossed, 3, &[(100.0, 0.0), (100.0, 100.0)]);
+    let own = crossed.plan().expect("a plan");
+    assert_eq!(crossed.attempt_from(&own), crossed.attempt());
+    assert!(crossed.attempt().is_some());
+    // A wire above the spine: the board is drawn from its own plan, and refused where the collector is planned
+    // on it.
+    let mut beside = board();
+    wire(&mut beside, 3, &[(70.0, 0.0), (70.0, 44.0)]);
+    assert_eq!(beside.attempt(), None);
+    let mut plan = beside.plan().expect("a plan");
+    assert_eq!(beside.attempt_from(&plan), None);
+    plan.places[0] = Some(70.0);
+    assert_eq!(beside.draw_from(&plan), Err(Refusal::ForbiddenContact));
+    let attempt = beside.attempt_from(&plan).expect("refused by the drawing");
+    assert_eq!(
+        attempt.refused.collector,
+        from(at(70.0, 40.0), at(70.0, 60.0))
+    );
+    assert_eq!(attempt.at.map(|at| at.start), Some(at(70.0, 40.0)));
+    plan.places.push(None);
+    assert_eq!(beside.attempt_from(&plan), None, "17 is not by the drawing");
+}
+
 /// A second bundle on the first one's collector.
 fn two_bundles() -> Board {
     let mut board = board();

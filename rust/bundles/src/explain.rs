@@ -7,6 +7,7 @@ use bundle_stage::{
 
 use crate::joints::Joints;
 use crate::lines::Lines;
+use crate::loose::{End, Loose, on_sheet};
 use crate::names::Names;
 use crate::text::number;
 
@@ -128,16 +129,23 @@ pub fn places(refused: &Refused, names: &Names, lines: &Lines) -> String {
     refused.places.iter().map(line).collect()
 }
 
-/// From which ports to which a bundle's wires go: `5:11, 5:12 → 7:1`.
-pub fn way(board: &Board, bundle: &Bundle) -> String {
-    let member = |id| board.edge(id);
+/// From which ports to which a bundle's wires go: `5:11, 5:12 → 7:1`. A port that a member's line does not
+/// reach has a cross behind it.
+fn way(board: &Board, bundle: &Bundle, loose: &[Loose]) -> String {
+    let member = |id| board.edges.iter().position(|edge| edge.id == id);
     let edges = bundle.members.iter().filter_map(|row| member(row.edge));
-    let far = edges.map(|edge| match bundle.role {
-        Role::Input => edge.target,
-        Role::Output => edge.source,
+    let far = edges.map(|place| {
+        let edge = &board.edges[place];
+        let (at, end) = match bundle.role {
+            Role::Input => (edge.target, End::Target),
+            Role::Output => (edge.source, End::Source),
+        };
+        let mut loose = loose.iter().filter(|one| one.place == place);
+        let open = loose.any(|one| one.opens(end));
+        format!("{}{}", port(at), if open { " \u{d7}" } else { "" })
     });
     let mut ports: Vec<String> = Vec::new();
-    for word in far.map(port) {
+    for word in far {
         if !ports.contains(&word) {
             ports.push(word);
         }
@@ -154,11 +162,11 @@ fn port(at: Endpoint) -> String {
 }
 
 /// A line for each bundle: its id, its name and its way; then the names of the ports that have one.
-fn ways(board: &Board, names: &Names) -> String {
+fn ways(board: &Board, names: &Names, loose: &[Loose]) -> String {
     let mut text = String::from("\n");
     for bundle in &board.bundles {
         let name = names.bundle(bundle.id).map(|name| format!(" {name}"));
-        let way = way(board, bundle);
+        let way = way(board, bundle, loose);
         text.push_str(&format!(
             "B{}{}: {way}\n",
             bundle.id,
@@ -204,7 +212,8 @@ fn drawn(sheet: &Sheet, board: Option<&Board>, names: &Names) -> String {
         rows.extend(sheet.bundles.iter().map(|bundle| row(bundle, board)));
         text.push('\n');
         text.push_str(&table(&rows));
-        text.push_str(&board.map(|board| ways(board, names)).unwrap_or_default());
+        let ways = board.map(|board| ways(board, names, &on_sheet(board, sheet)));
+        text.push_str(&ways.unwrap_or_default());
     }
     text.push('\n');
     let left = sheet.visits_left;

@@ -73,9 +73,9 @@ pub fn answer(name: &str) -> Result<Answer, String> {
     })
 }
 
-/// What is given in an answer's place.
-fn other(bytes: &[u8]) -> Option<&'static str> {
-    // An answer begins with a length that has a zero byte.
+/// What is given in the place of an answer or a plan.
+pub fn other(bytes: &[u8]) -> Option<&'static str> {
+    // An answer and a plan begin with a length that has a zero byte.
     let is_text = !bytes.contains(&0) && str::from_utf8(bytes).is_ok();
     if is_text && !bytes.is_empty() {
         Some("a text")

@@ -17,7 +17,8 @@ BOARD is a text file, as docs/TEXT-FORM.md describes it and examples/clock-board
 A line that is not as it should be is named with what was expected there; no job is written then.
 Whether the stage accepts the board is not looked at: `bundles draw` says so. But where the text says
 `grid yes`, each number that is off the drafting grid is named on standard error, with its line and the
-numbers of the grid beside it; the job is written all the same.",
+numbers of the grid beside it; and so is each end of an edge that is not at its port, since the stage does
+not look whether it is. The job is written all the same.",
     },
     Command {
         name: "unpack",
@@ -65,6 +66,11 @@ also said in words on standard error, with what it is about: the field, record a
 the edge or node; the bundles of a component; what grant would be enough. A JOB may be a board's text,
 which is packed: then the lines are named too. Names of a FILE are for these words, and of one JOB.
 
+The stage takes routes as they are. An end of an edge that the sheet does not lead to the port that the edge
+names is told on standard error: by no route, by one that ends elsewhere, or by a bundle that stands at
+another port; or the board has no such port. Twelve are told, and how many more there are; `bundles explain`
+names all. The sheet is drawn all the same, and the exit code is 0.
+
 With a PLAN, made by `bundles plan`, the one job is drawn from it and nothing is planned. It may be the plan
 of another revision: it is refused with 17 where it does not fit the job's bundles, with 18 where a planned
 number is none for this job, and else drawn as any other, with all checks.
@@ -98,6 +104,10 @@ all numbers of the job are multiples of 1/64 up to 2^20; or that it rounded; or,
 not tell, that it may have rounded. Where nothing was subtracted there is no false joint, which is
 proved; where it was exact none was found on any board tried. All this is about the stage's own answer, so the job is drawn again to compare.
 
+The last lines say of the ends of routes whether all are at their ports, or which are not, and where they and
+their ports are; what roundings may put between the two, up to 2^-18, does not count. An end in a bundle is
+where the bundle's port is.
+
 With a PLAN in the answer's place the table has a line for each bundle: the x that is planned for it, or
 none. With the JOB it also has the bundle's id and role and where it stands on the sheet that is drawn from
 the plan, and it is said whether the plan is the one that is made for this job, and whether the sheet is
@@ -109,35 +119,45 @@ accepted, or why it is refused and where.",
         short: "a job and its answer, to a picture on standard output",
         long: "\
 The picture is an SVG file: open it with a browser, print it from there. The page is A4 where on it the
-white between two lines that do not join is at least 0.2 mm, each joint has its dot, and a line keeps
-enough between two that go over it; else the first larger paper up to A0 where this is so. Where it is so on
-none of these, the sheet is stretched where lines are near to each other, across and down, on papers up to
-4A0: the order of all places is kept, so that lines that cross still cross and no others do, but it is not to
-scale, and the last line of the page says so. Where that does not do either, papers up to 4756 by 3364 mm are
-tried on which a line may go under several others in one gap of 4 mm at most; else there is no picture, but
-words that say what would mislead, and the exit code is 2.
+white between two lines that do not join is at least 0.2 mm, each joint has its dot, each bundle its id, and
+a line keeps enough between two that go over it: a bundle twice its width or more, and room for its whole
+mark; else the first larger paper up to A0 where this is so. Where it is so on none of these, the sheet is
+stretched where lines are near to each other, across and down, on papers up to 4A0: the order of all places is
+kept, so that lines that cross still cross and no others do, but it is not to scale, and the last line of the
+page says so. Where that does not do either, papers up to 4756 by 3364 mm are tried on which a line may go
+under several others in one gap of 4 mm at most; else there is no picture, but words that say what would
+mislead, and the exit code is 2.
 
 Nodes are boxes with their ids, ports are squares, routes are thin lines and bundles heavy ones, each
 with a colour and a mark of its own. A dot is a joint: a tap on its collector. Where lines cross
 without a joint, the one goes over the other in an arch; arches that run into each other are joined, and
 one that has no room to rise is a gap. Where a bundle and a route do so, that is the list of `bundles
 crossings`: each crossing of it is shown by an arch or a gap, counted for each bundle and route. Of a sheet
-that is drawn from a PLAN it is the list of that sheet. A sheet with more than 1,024 crossings has no list,
-nor has one that the stage gives neither of itself nor from the PLAN: there the tool itself finds where they
-cross, and the picture says so. Routes that lie over each other, or very near, are drawn side by side; arches
-side by side over a bundle rise to one side; a route in two bundles changes its colour half way. No line comes
+that is drawn from a PLAN it is the list of that sheet. A list has at most 1,024 crossings: of a sheet with
+more the board is drawn in parts, from its plan, all bundles in each, and the picture is drawn from the lists
+of these. Where not even a part has a list, or the stage gives the sheet neither of itself nor from the PLAN,
+the tool itself finds where they cross. The picture says which it is. Routes that lie over each other, or very
+near, are drawn side by side: where taps are at one place, one that leaves along the collector leaves from the
+last of them, and routes that turn straight back at one place turn one after the other. Arches side by side
+over a bundle rise to one side; a route in two bundles changes its colour half way. No line comes
 within 0.2 mm of the square of a port at which it does not end; a sheet that itself has a line on the place of
 such a port has no picture, but words that name the line, the port and the node. The legend has each
 bundle's id, from which ports to which it leads, its role, place and width. Below it stands what `bundles
 explain` says of the joints and of the last shift; a false joint has a ring around it, and its words stand
 below the title.
 
+An end of a route that is not at its port has a cross, which touches no other line, with `not at` and the port
+beside it where there is room: nothing is joined there, however near it is to something. Below the title stand
+the words, six at most, and how many more there are; the last line counts the ends that have no room for a
+cross. In the legend such a port has a cross behind it in the line of a bundle.
+
 Lines and letters have their sizes in millimetres of the page; no letter is smaller than 1.8. Where
 lines would be too near to each other, the sheet is stretched across or down, and the last line of the
-page says how much, or that it is not to scale. An id for which there is no room is left out, and the last line counts those. Names
-stand on the sheet where there is room beside the ids without covering a line: a node's below its id or
-beside its box, else in the legend; a bundle's with its id; those of ports and edges that have no room are
-counted. In a browser a line or a box under the pointer says its id and its name.
+page says how much, or that it is not to scale. An id of a node, port or edge for which there is no room is
+left out, and the last line counts those. Names stand on the sheet where there is room beside the ids without
+covering a line: a node's below its id or beside its box, else in the legend; a bundle's with its id; those of
+ports and edges that have no room are counted. In a browser a line or a box under the pointer says its id and
+its name.
 
 Without a TITLE the title is the job's name without its end.
 
@@ -149,17 +169,26 @@ end is there shown with a ring, and named below the title.",
     },
     Command {
         name: "html",
-        words: "BOARD [--title TITLE] [--names FILE]",
+        words: "BOARD [--title TITLE] [--names FILE] [--plan PLAN]",
         short: "a board's text or job, to a page on standard output to follow its bundles on",
         long: "\
 The page is one file that needs nothing else: open it with a browser. It has the picture of
 `bundles svg`. Point at a bundle, a route, a node or a port, and its way from unit to port is lifted,
 the rest is dimmed, and the way is told in words; a click or a tap of the finger keeps it so. The
-search takes names and ids. Wheel, two fingers, `+` and `-` zoom; dragging and the arrows move; `0`
-shows the whole sheet, Tab goes from one thing to the next, Enter or Space chooses, Escape shows all again, `/`
-goes to the search. Behind `#` in the address can stand what is chosen: sheet.html#bundle-3. Printed
-it is the picture. Where no picture would be clear, the page has the words that say so, and the exit code
-is 2, as with `bundles svg`.",
+search takes names and ids, as `5:11`, `edge 41` or `B4 time code`. Wheel, two fingers, `+` and `-` zoom;
+dragging and the arrows move; `0` shows the whole sheet, Tab goes from one thing to the next, Enter or Space
+chooses, Escape shows all again, `/` goes to the search. What search, Tab or address choose is brought into
+view. Behind `#` in the address can stand what is chosen: sheet.html#bundle-4, #edge-41, #port-5-11, #node-5.
+Printed it is the picture. Where no picture would be clear, the page has the words that say so, and the exit
+code is 2, as with `bundles svg`.
+
+Where an end of a route is not at its port, the way has a cross between the two instead of an arrow, and above
+it stands why.
+
+With a PLAN the page is that of the sheet drawn from it. For a refusal it has the board as it was given: its
+bundles have the ways of their members, and the refused one what was tried of it. Of two records with one id
+each is chosen and told apart from the other; the second has a number behind it in the address, as #edge-41-2.
+An end that names them is of the one at which the route ends, or of both where it ends at none.",
     },
     Command {
         name: "crossings",
@@ -196,8 +225,8 @@ where there are some: the page itself has no place for them.",
         name: "picture",
         words: "BOARD [--title TITLE] [--names FILE] [--plan PLAN]",
         short: "a board's text or a job, drawn, to a picture on standard output: all in one",
-        long: "The picture is that of `bundles svg`, drawn from the PLAN if one is given. A refusal is also said on \
-               standard error.",
+        long: "The picture is that of `bundles svg`, drawn from the PLAN if one is given. What `bundles draw` says on \
+               standard error is said here too.",
     },
     Command {
         name: "version",
@@ -228,7 +257,12 @@ pub fn all() -> String {
     );
     for command in &COMMANDS {
         let usage = format!("{} {}", command.name, command.words);
-        text.push_str(&format!("  bundles {usage:58}{}\n", command.short));
+        // Words that would run into it stand on a line of their own.
+        let gap = match usage.len() < 58 {
+            true => String::new(),
+            false => format!("\n{:68}", ""),
+        };
+        text.push_str(&format!("  bundles {usage:58}{gap}{}\n", command.short));
     }
     text.push_str(&format!(
         "\n{FILES}\n\n\

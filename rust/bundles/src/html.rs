@@ -1,18 +1,20 @@
 //! A page to follow a bundle on: the picture in one file that needs nothing else, in which a chosen
 //! bundle, route, node or port is lifted with its whole way and told in words.
 
+mod told;
 mod ways;
 
+use std::collections::BTreeSet;
 use std::fmt::Write;
 
 use bundle_stage::{Board, Refusal, Sheet};
 
 use crate::names::Names;
-use crate::svg::{Unclear, escaped, svg, svg_refused};
+use crate::svg::{Unclear, escaped, svg, svg_from, svg_refused, svg_refused_from};
 pub use ways::{Way, ways};
 
 const STYLE: &str = include_str!("html/page.css");
-const SCRIPT: &str = include_str!("html/page.js");
+const SCRIPT: &str = concat!(include_str!("html/ink.js"), include_str!("html/page.js"));
 
 /// The page of a finished sheet.
 ///
@@ -24,19 +26,57 @@ pub fn html(board: &Board, sheet: &Sheet, names: &Names, title: &str) -> Result<
     Ok(page(&picture, &ways(board, Some(sheet), names), title))
 }
 
+/// The same of a sheet that was drawn from a plan, by the plan's bytes.
+///
+/// # Errors
+///
+/// Where no picture would be clear.
+pub fn html_from(
+    board: &Board,
+    sheet: &Sheet,
+    plan: &[u8],
+    names: &Names,
+    title: &str,
+) -> Result<String, Unclear> {
+    let picture = svg_from(board, sheet, plan, names, title)?;
+    Ok(page(&picture, &ways(board, Some(sheet), names), title))
+}
+
 /// The page of a finished sheet of which no picture would be clear: the words that say so.
 pub fn html_unclear(unclear: &Unclear, title: &str) -> String {
     let words = escaped(&unclear.to_string());
     page(&format!("<p class=\"warning\">{words}</p>"), &[], title)
 }
 
-/// The page of a board that was refused: its nodes, ports and routes as they were given.
+/// The page of a board that was refused: its nodes, ports and routes as they were given, and its bundles by
+/// their members.
 pub fn html_refused(board: &Board, refusal: Refusal, names: &Names, title: &str) -> String {
     let picture = svg_refused(board, refusal, names, title);
+    page(&picture, &ways_refused(board, names, &picture), title)
+}
+
+/// The same of a board that was refused where it was drawn from a plan, by the plan's bytes.
+pub fn html_refused_from(
+    board: &Board,
+    refusal: Refusal,
+    plan: &[u8],
+    names: &Names,
+    title: &str,
+) -> String {
+    let picture = svg_refused_from(board, refusal, plan, names, title);
+    page(&picture, &ways_refused(board, names, &picture), title)
+}
+
+/// What could not be drawn has no way on the page; a bundle has that of its members.
+fn ways_refused(board: &Board, names: &Names, picture: &str) -> Vec<Way> {
+    let ids = picture.split(" id=\"").skip(1);
+    let ids = ids.filter_map(|rest| rest.split('"').next());
+    let ids = ids.collect::<BTreeSet<_>>();
     let mut ways = ways(board, None, names);
-    // What could not be drawn has no way on the page.
-    ways.retain(|way| picture.contains(&format!("id=\"{}\"", way.key)));
-    page(&picture, &ways, title)
+    let bundles = board.bundles.len();
+    let mut place = 0..;
+    ways.retain(|way| place.next() < Some(bundles) || ids.contains(&way.key[..]));
+    ways
 }
 
 fn page(picture: &str, ways: &[Way], title: &str) -> String {
@@ -63,23 +103,20 @@ placeholder=\"name or id: bundle 3, node 5, 5:11\">\n\
 /// The ways as a list for the script.
 fn data(ways: &[Way]) -> String {
     let mut text = String::from("[\n");
-    for Way {
-        key,
-        name,
-        words,
-        lifted,
-    } in ways
-    {
-        let list = |list: &[String]| {
+    for way in ways {
+        let list = |name: &str, list: &[String]| {
             let quoted = list.iter().map(|text| quoted(text)).collect::<Vec<_>>();
-            quoted.join(",")
+            format!("{name}:[{}]", quoted.join(","))
         };
-        let (words, lifted) = (list(words), list(lifted));
         let _ = writeln!(
             text,
-            "{{key:{},name:{},words:[{words}],lifted:[{lifted}]}},",
-            quoted(key),
-            quoted(name)
+            "{{key:{},name:{},{},{},{},{}}},",
+            quoted(&way.key),
+            quoted(&way.name),
+            list("terms", &way.terms),
+            list("words", &way.words),
+            list("notes", &way.notes),
+            list("lifted", &way.lifted)
         );
     }
     text + "]"

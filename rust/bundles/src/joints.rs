@@ -5,13 +5,15 @@ use bundle_stage::{
 };
 
 use crate::explain::counted;
+use crate::listed::{MOST, listed};
 use crate::text::number;
 
 /// What was found on a sheet.
 pub enum Joints {
     /// The stage gives another answer to this job, so that nothing is known of this one.
     NotOurs,
-    /// Crossings are permitted: these are the stage's list, or there are too many for one.
+    /// Crossings are permitted: these are the stage's list, or those of parts of the board, or there are too
+    /// many for either.
     Permitted(Option<Vec<Crossing>>, LastShift),
     /// These are false: none, mostly.
     False(Vec<FalseJoint>, LastShift),
@@ -44,7 +46,7 @@ impl Joints {
         let shift = sheet.last_shift(board);
         match sheet.false_joints(board) {
             Some(joints) => Joints::False(joints, shift),
-            None => Joints::Permitted(listed(board, plan), shift),
+            None => Joints::Permitted(listed(board, sheet, plan), shift),
         }
     }
 
@@ -97,8 +99,13 @@ impl Joints {
                 "not looked at, as the stage gives another answer to this job".to_string()
             }
             Joints::Permitted(Some(list), _) => format!(
-                "{} with routes, else only taps, as is proved before the last shift",
-                counted(list.len(), "crossing")
+                "{} with routes, else only taps, as is proved{} before the last shift",
+                counted(list.len(), "crossing"),
+                if list.len() > MOST {
+                    " of parts of the board, each with at most 1,024,"
+                } else {
+                    ""
+                }
             ),
             Joints::Permitted(None, _) => {
                 "crossings are permitted, and there are more than can be listed".to_string()
@@ -129,8 +136,13 @@ impl Joints {
             ),
             Joints::Permitted(Some(list), _) => {
                 format!(
-                    "{} with routes, by the stage's list",
-                    counted(list.len(), "crossing")
+                    "{} with routes, by the stage's list{}",
+                    counted(list.len(), "crossing"),
+                    if list.len() > MOST {
+                        "s of parts of the board"
+                    } else {
+                        ""
+                    }
                 )
             }
             _ => self.said(),
@@ -144,13 +156,6 @@ impl Joints {
             Joints::Planned(joints) => joints.shift(),
         }
     }
-}
-
-/// The crossings of the board's sheet, none where there are too many to be listed.
-fn listed(board: &Board, plan: Option<&[u8]>) -> Option<Vec<Crossing>> {
-    let mut wanted = Wanted::default().with_crossings();
-    wanted.plan = plan;
-    board.draw_with(&wanted).ok()?.crossings
 }
 
 /// What it is called.

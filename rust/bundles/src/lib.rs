@@ -5,8 +5,12 @@
 pub mod explain;
 pub mod html;
 pub mod joints;
+mod keys;
 pub mod lines;
+mod listed;
+pub mod loose;
 pub mod names;
+mod places;
 pub mod svg;
 pub mod text;
 mod tokens;

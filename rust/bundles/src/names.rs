@@ -58,18 +58,22 @@ impl Names {
 
     /// A record by id, and by name where it has one.
     pub fn item(&self, item: Item) -> String {
+        match self.of(item) {
+            Some(name) => format!("{item} ({name})"),
+            None => item.to_string(),
+        }
+    }
+
+    /// A record's name: of records that have one id each has its own.
+    pub fn of(&self, item: Item) -> Option<&str> {
         let own = self.twice.iter().find(|(of, _)| *of == item);
-        let name = match item {
+        match item {
             _ if own.is_some() => own.and_then(|(_, name)| name.as_deref()),
             Item::Node { id, .. } => self.node(id),
             Item::Port { node, id, .. } => self.port(node, id),
             Item::Edge { id, .. } => self.edge(id),
             Item::Bundle { id, .. } => self.bundle(id),
             _ => None,
-        };
-        match name {
-            Some(name) => format!("{item} ({name})"),
-            None => item.to_string(),
         }
     }
 

@@ -2,10 +2,12 @@
 
 use bundle_stage::{Answer, Plan, Refusal};
 use bundles::explain::{Drawing, explain_plan};
+use bundles::loose;
 
-use crate::files::{called, load, of, out, read};
+use crate::Done;
+use crate::draw::{done, ends, located, tell};
+use crate::files::{called, load, of, other, out, read};
 use crate::usage::Settings;
-use crate::{Done, done, located, tell};
 
 /// The plan of a job. A notice that stands for it is told.
 pub fn plan(name: &str) -> Result<Done, String> {
@@ -33,8 +35,27 @@ pub fn plan_of(settings: Settings<'_>, job: &str) -> Result<Option<Vec<u8>>, Str
         Some("-") if job == "-" => {
             Err("a job and its plan cannot both come from standard input".to_string())
         }
-        Some(plan) => read(plan).map(Some),
+        Some(plan) => plan_bytes(plan).map(Some),
         None => Ok(None),
+    }
+}
+
+/// The bytes of a plan; of another file that is given in its place it is said what it is. What is wrong with a
+/// plan itself the stage says.
+fn plan_bytes(name: &str) -> Result<Vec<u8>, String> {
+    let bytes = read(name)?;
+    let what = match Plan::from_bytes(&bytes) {
+        Ok(_) => None,
+        Err(_) => other(&bytes),
+    };
+    match what {
+        None => Ok(bytes),
+        Some(what) => {
+            let file = called(name);
+            Err(format!(
+                "{file}: no plan, but {what}: `bundles plan` makes a plan of it"
+            ))
+        }
     }
 }
 
@@ -43,7 +64,7 @@ pub fn plan_explained(job: Option<&str>, settings: Settings<'_>) -> Result<Done,
     let name = settings.plan.unwrap_or_default();
     let bytes = match job {
         Some(job) => plan_of(settings, job)?.unwrap_or_default(),
-        None => read(name)?,
+        None => plan_bytes(name)?,
     };
     if let Some(refusal) = refused_plan(&bytes) {
         out(format!("no plan: {refusal}\n").as_bytes())?;
@@ -64,7 +85,9 @@ pub fn plan_explained(job: Option<&str>, settings: Settings<'_>) -> Result<Done,
         own: bundle_stage::plan(&loaded.job) == bytes,
         answer: &answer,
     };
-    let words = explain_plan(&plan, Some(&drawing)) + &located(&answer, &loaded, Some(&bytes));
+    let words = explain_plan(&plan, Some(&drawing))
+        + &located(&answer, &loaded, Some(&bytes))
+        + &loose::told(&ends(&answer, &loaded), &loaded.names, &loaded.lines);
     out(words.as_bytes())?;
     Ok(done(&answer))
 }

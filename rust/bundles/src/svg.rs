@@ -11,14 +11,20 @@ mod field;
 mod labels;
 mod lanes;
 mod legend;
+mod loose;
+mod marking;
 mod page;
 mod palette;
 mod paths;
 mod pens;
 mod ports;
+mod records;
+mod refused;
 mod rings;
+mod said;
 mod scene;
 mod shapes;
+mod shifts;
 mod spans;
 mod stretch;
 mod stroke;
@@ -31,32 +37,32 @@ mod xml;
 use std::collections::BTreeSet;
 use std::{fmt, iter};
 
-use bundle_stage::{Board, Id, Place, Point, Refusal, Refused, Sheet, locate};
+use bundle_stage::{Board, Point, Sheet};
 
 use crate::explain::counted;
-use crate::joints::{Joints, name, words};
+use crate::joints::Joints;
+use crate::loose::on_sheet;
 use crate::names::Names;
 use crate::text::number;
 pub(crate) use xml::escaped;
 
 use drawn::strokes;
+use field::field;
 use labels::{Labels, labels};
 use legend::{Head, Legend};
+use loose::Crosses;
 use page::{A0, LARGEST, MARGIN, PAPERS, Page};
-use palette::{BLACK, GREY};
+use palette::BLACK;
 use pens::Pens;
-use scene::{Mark, Scene};
-use shapes::{lines, marks, nodes};
+pub use refused::{svg_refused, svg_refused_from};
+use said::{not_joined, warnings};
+use scene::Scene;
+use shapes::{lines, marks, nodes, square};
 use spans::Way;
 use stretch::{Needs, is_straight};
 use stroke::Stroke;
-use tried::Tried;
 use white::unclear;
 use xml::mm;
-
-/// Above the limits of a job, so that only a refused one has more: its routes are then left out, as
-/// the cost of drawing them apart grows with the square.
-const MOST_LINES: usize = 4_096;
 
 /// Why there is no picture: on no paper could all that does not join be drawn apart.
 #[derive(Clone, Debug, Eq, PartialEq)]
@@ -117,12 +123,33 @@ fn sheet_of(
     names: &Names,
     title: &str,
 ) -> Result<String, Unclear> {
+    let mut scene = Scene::of_sheet(board, sheet);
+    scene.names = names.clone();
+    // What meets on the sheet itself meets on every paper.
+    if let Some((_, what)) = ports::contacts(&scene).next() {
+        return Err(Unclear { what });
+    }
+    scene.mark(joints.found());
+    scene.list(joints.crossings());
+    scene.records.loose = on_sheet(board, sheet);
+    let mut warnings = warnings(joints);
+    warnings.extend(not_joined(&scene));
+    let head = Head {
+        title: title.to_string(),
+        about: Some(about(board, sheet)),
+        warnings,
+    };
+    picture(scene, &head, BLACK, Some(joints.line()))
+}
+
+/// What stands below the title of a sheet.
+fn about(board: &Board, sheet: &Sheet) -> String {
     let crossings = if board.flags.permit_crossings {
         "permitted"
     } else {
         "forbidden"
     };
-    let about = format!(
+    format!(
         "A sheet of {} by {}: {}, {}, {}. Crossings of bundles are {crossings}. Visits left: {} tap, \
          {} geometry.",
         number(sheet.width),
@@ -132,89 +159,7 @@ fn sheet_of(
         counted(sheet.bundles.len(), "bundle"),
         sheet.visits_left.tap,
         sheet.visits_left.geometry,
-    );
-    let mut scene = Scene::of_sheet(board, sheet);
-    scene.names = names.clone();
-    // What meets on the sheet itself meets on every paper.
-    if let Some((_, what)) = ports::contacts(&scene).next() {
-        return Err(Unclear { what });
-    }
-    scene.mark(joints.found());
-    scene.list(joints.crossings());
-    let head = Head {
-        title: title.to_string(),
-        about: Some(about),
-        warnings: warnings(joints),
-    };
-    picture(scene, &head, BLACK, Some(joints.line()))
-}
-
-/// No more false joints, or places of a refusal, are named below the title. The line below the legend
-/// counts all false joints.
-const MOST_NAMED: usize = 6;
-
-fn warnings(joints: &Joints) -> Vec<String> {
-    let named = joints.found().iter().take(MOST_NAMED);
-    let named = named.map(|joint| format!("{}: {}.", name(joint), words(joint)));
-    named.map(capital).collect()
-}
-
-fn capital(line: String) -> String {
-    let mut letters = line.chars();
-    let first = letters.next().map(char::to_uppercase);
-    first.into_iter().flatten().chain(letters).collect()
-}
-
-/// The board alone, in grey, with the words of its refusal, and over it the bundle that was refused, if
-/// it was by the drawing: dashed, as it was tried. Routes that cannot be drawn apart are left out.
-pub fn svg_refused(board: &Board, refusal: Refusal, names: &Names, title: &str) -> String {
-    let mut scene = Scene::of_board(board);
-    scene.names = names.clone();
-    let mut warnings = vec![format!("No sheet: {refusal}")];
-    // The board may not be the one that was refused so: then nothing is known of it.
-    let job = board.to_bytes().ok();
-    let refused = job.and_then(|job| locate(&job));
-    if let Some(refused) = refused.filter(|refused| refused.refusal == refusal) {
-        warnings.extend(here(&refused, names));
-        scene.tried = board
-            .attempt()
-            .and_then(|attempt| Tried::of(board, &attempt));
-    }
-    let contacts = ports::contacts(&scene).collect::<Vec<_>>();
-    let said = contacts.iter().map(|(_, words)| words.clone());
-    warnings.extend(first(said.collect()));
-    scene.marks = contacts.into_iter().map(Mark::no_joint).collect();
-    let mut head = Head {
-        title: title.to_string(),
-        about: None,
-        warnings,
-    };
-    if scene.lines().len() <= MOST_LINES
-        && let Ok(svg) = picture(scene.clone(), &head, GREY, None)
-    {
-        return svg;
-    }
-    scene.routes.clear();
-    scene.marks.clear();
-    let without = "The routes are not shown: they cannot be drawn apart.";
-    head.warnings.push(without.to_string());
-    // Without lines nothing can touch.
-    picture(scene, &head, GREY, None).unwrap_or_default()
-}
-
-/// What a refusal is about, in words.
-fn here(refused: &Refused, names: &Names) -> Vec<String> {
-    let words = |place: &Place| place.words(|item| names.item(item));
-    first(refused.places.iter().map(words).collect())
-}
-
-/// The first of several words as sentences, and how many more there are.
-fn first(all: Vec<String>) -> Vec<String> {
-    let more = all.len().saturating_sub(MOST_NAMED);
-    let named = all.into_iter().take(MOST_NAMED);
-    let named = named.map(|words| capital(format!("{words}.")));
-    let more = (more > 0).then(|| format!("And {more} more."));
-    named.chain(more).collect()
+    )
 }
 
 /// On the smallest paper on which all that does not join is drawn apart. `ink` is for what has no
@@ -233,29 +178,27 @@ fn picture(scene: Scene, head: &Head, ink: &str, said: Option<String>) -> Result
     }
 }
 
-/// The same with this legend, and the nodes whose names have no room on the sheet.
+/// The same with this legend, and the places of the nodes whose names have no room on the sheet.
 fn with_legend(
     scene: &Scene,
     head: &Head,
     legend: &Legend,
     ink: &str,
-) -> Result<(String, Vec<Id>), Unclear> {
+) -> Result<(String, Vec<usize>), Unclear> {
     let mut what = String::new();
     for (page, tunnels) in pages(scene, head, legend) {
         let mut scene = scene.clone().moved(|point| page.at(point));
         let mut pens = Pens::of(&scene);
         let (strokes, miscounted) = strokes(&mut scene, &mut pens, tunnels);
-        match miscounted.or_else(|| unclear(&scene, &strokes, &pens)) {
-            None => {
-                return Ok(page_of(
-                    &scene,
-                    (&strokes, &pens),
-                    (head, legend),
-                    &page,
-                    ink,
-                ));
-            }
-            Some(words) => what = words,
+        if let Some(words) = miscounted.or_else(|| unclear(&scene, &strokes, &pens)) {
+            what = words;
+            continue;
+        }
+        let (svg, labels) = page_of(&scene, (&strokes, &pens), (head, legend), &page, ink);
+        match labels.bundles.first() {
+            None => return Ok((svg, labels.nodes)),
+            // A bundle that is not named is followed by its colour alone.
+            Some(id) => what = format!("there is no room for the id of bundle {id}"),
         }
     }
     Err(Unclear::on_paper(&what))
@@ -291,29 +234,36 @@ fn page_of(
     (head, legend): (&Head, &Legend),
     page: &Page,
     ink: &str,
-) -> (String, Vec<Id>) {
+) -> (String, Labels) {
     let corner = |x: f64, y: f64| Point { x, y };
     let frame = (
         corner(MARGIN / 2.0, page.top - 6.0),
         corner(page.width - MARGIN / 2.0, page.bottom + 1.0),
     );
-    let labels = labels(scene, strokes, pens, frame);
+    let mut field = field(scene, strokes, frame);
+    let mut crosses = Crosses::of(scene, strokes, &mut field);
+    let labels = labels(scene, strokes, pens, &mut field);
+    crosses.say(&mut field);
     let inner = page.width - 2.0 * MARGIN;
     let mut svg = opened(page, &head.title);
     svg.push_str(&head.draw(corner(MARGIN, MARGIN), inner));
     svg.push_str(&nodes(scene, pens, ink));
-    svg.push_str(&lines(scene, strokes, pens, ink));
+    let squares = scene.ports.iter().map(square);
+    let covered = squares.chain(labels.frames.iter().copied());
+    let covered = covered.collect::<Vec<_>>();
+    svg.push_str(&lines(scene, (strokes, pens), &covered, ink));
     svg.push_str(&shapes::ports(scene, ink));
     svg.push_str("<g class=\"ids\" text-anchor=\"middle\">\n");
     svg.push_str(&labels.svg);
     svg.push_str("</g>\n");
+    svg.push_str(&crosses.draw());
     svg.push_str(&marks(scene, page.width));
     if let Some(tried) = &scene.tried {
         svg.push_str(&tried.draw(&scene.names, page.width - MARGIN / 2.0));
     }
-    let note = note(scene, &labels, page);
+    let note = note(scene, (&labels, crosses.left_out), page);
     svg.push_str(&legend.draw(corner(MARGIN, page.bottom), inner, &note));
-    (svg + "</svg>\n", labels.nodes)
+    (svg + "</svg>\n", labels)
 }
 
 /// The start of the file, up to the white of the page.
@@ -333,7 +283,7 @@ const NOT_TO_SCALE: &str =
     "Not to scale: the sheet is stretched where lines are near to each other.";
 
 /// The last line of the page.
-fn note(scene: &Scene, labels: &Labels, page: &Page) -> String {
+fn note(scene: &Scene, (labels, crosses): (&Labels, usize), page: &Page) -> String {
     let [across, down] = page.scale.map(|scale| number_of(1.0 / scale));
     let mut note = if !page.is_to_scale() {
         NOT_TO_SCALE.to_string()
@@ -346,6 +296,12 @@ fn note(scene: &Scene, labels: &Labels, page: &Page) -> String {
         if !of.is_empty() {
             note.push_str(&format!(" No room for the {what} of {}.", of.join(", ")));
         }
+    }
+    if crosses > 0 {
+        let count = counted(crosses, "end");
+        note.push_str(&format!(
+            " No room for a cross at {count} of routes that are not at their ports."
+        ));
     }
     if scene.left_out > 0 {
         let count = counted(scene.left_out, "part");

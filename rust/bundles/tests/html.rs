@@ -94,10 +94,10 @@ fn ends(at: Endpoint) -> [String; 2] {
     ]
 }
 
-/// The members of each bundle, by the board: each with the bundles on whose trunks it is.
-fn members(board: &Board, drawn: bool) -> BTreeMap<Id, Vec<(Id, Role)>> {
+/// The bundles of which each edge is a member, by the board.
+fn members(board: &Board) -> BTreeMap<Id, Vec<(Id, Role)>> {
     let mut members: BTreeMap<Id, Vec<(Id, Role)>> = BTreeMap::new();
-    for bundle in board.bundles.iter().filter(|_| drawn) {
+    for bundle in &board.bundles {
         for member in &bundle.members {
             let of = members.entry(member.edge).or_default();
             of.push((bundle.id, bundle.role));
@@ -106,46 +106,60 @@ fn members(board: &Board, drawn: bool) -> BTreeMap<Id, Vec<(Id, Role)>> {
     members
 }
 
+/// What of the bundles a picture has.
+enum Shown {
+    All,
+    /// This one as it was tried.
+    Tried(Id),
+    None,
+}
+
+impl Shown {
+    /// The ids in the picture of a bundle and a member's tap.
+    fn of(&self, bundle: Id, edge: Id) -> Vec<String> {
+        let trunk = format!("bundle-{bundle}");
+        match self {
+            Shown::All => vec![trunk, format!("tap-{bundle}-{edge}")],
+            Shown::Tried(tried) if *tried == bundle => vec![trunk],
+            _ => Vec::new(),
+        }
+    }
+}
+
 /// Everything that is to be lifted, from the board alone.
-fn due(board: &Board, drawn: bool) -> BTreeMap<String, (usize, BTreeSet<String>)> {
-    let members = members(board, drawn);
-    let trunks = |edge: Id| members.get(&edge).cloned().unwrap_or_default();
+fn due(board: &Board, shown: &Shown) -> BTreeMap<String, (usize, BTreeSet<String>)> {
+    let members = members(board);
     let mut due: BTreeMap<String, (usize, BTreeSet<String>)> = BTreeMap::new();
     for node in &board.nodes {
-        due.insert(format!("node-{}", node.id), Default::default());
+        let key = format!("node-{}", node.id);
+        due.insert(key.clone(), (0, BTreeSet::from([key])));
     }
     for port in &board.ports {
         let [node, key] = ends(Endpoint {
             node: port.node,
             port: port.id,
         });
-        due.entry(key.clone()).or_default().1.insert(node.clone());
+        let of = due.entry(key.clone()).or_default();
+        of.1.extend([node.clone(), key.clone()]);
         due.entry(node).or_default().1.insert(key);
     }
     for edge in &board.edges {
         let route = format!("route-{}", edge.id);
         let parts = [edge.source, edge.target].into_iter().flat_map(ends);
         let mut parts = parts.chain([route.clone()]).collect::<BTreeSet<_>>();
-        let bundles = trunks(edge.id);
+        let bundles = members.get(&edge.id).cloned().unwrap_or_default();
         // The whole way of the edge, through the bundles at both of its ends.
         for (bundle, _) in &bundles {
-            parts.insert(format!("bundle-{bundle}"));
-            parts.insert(format!("tap-{bundle}-{}", edge.id));
-        }
-        for (bundle, _) in &bundles {
-            let of = due.entry(format!("bundle-{bundle}")).or_default();
-            of.0 += 1;
-            of.1.extend(parts.clone());
+            parts.extend(shown.of(*bundle, edge.id));
         }
         let at = [edge.source, edge.target].into_iter().flat_map(ends);
-        for key in at.chain([route]).collect::<BTreeSet<_>>() {
+        let on = at.chain([route]);
+        let on = on.chain(bundles.iter().map(|(bundle, _)| format!("bundle-{bundle}")));
+        for key in on.collect::<BTreeSet<_>>() {
             let of = due.entry(key).or_default();
             of.0 += 1;
             of.1.extend(parts.clone());
         }
-    }
-    for (key, (_, parts)) in &mut due {
-        parts.insert(key.clone());
     }
     due
 }
@@ -154,7 +168,7 @@ fn followed(name: &str, board: &Board) {
     let sheet = board.draw().expect("a sheet");
     let page = html(board, &sheet, &Names::default(), name).expect("a picture");
     if let Some(asked) = asked(name, &page) {
-        assert_eq!(asked, due(board, true), "{name}");
+        assert_eq!(asked, due(board, &Shown::All), "{name}");
     }
 }
 
@@ -167,7 +181,7 @@ fn the_clock_board() {
 #[test]
 fn a_chain() {
     let board = example("clock-board");
-    let twice = members(&board, true);
+    let twice = members(&board);
     assert!(twice.values().any(|bundles| bundles.len() == 2));
     let mut chain = board.clone();
     let ends = chain.bundles.iter().filter(|bundle| {
@@ -210,19 +224,37 @@ fn crossings() {
     followed("crossings", &example("crossings"));
 }
 
+/// A refused board's bundles have the ways of their members, and the refused one what was tried of it.
 #[test]
 fn a_refused_board() {
-    let board = example("clock-board");
-    let page = html_refused(
-        &board,
-        Refusal::ForbiddenContact,
-        &Names::default(),
-        "refused",
-    );
+    let mut board = example("clock-board");
+    let names = Names::default();
+    let page = html_refused(&board, Refusal::ForbiddenContact, &names, "refused");
     assert!(page.contains("refused with 11"));
     if let Some(asked) = asked("refused", &page) {
-        assert_eq!(asked, due(&board, false));
+        assert_eq!(asked, due(&board, &Shown::None));
     }
+    // A wire over bundle 3.
+    let mut wire = board.edges[19].clone();
+    wire.id = 81.into();
+    for (point, y) in wire.points.iter_mut().zip([150.0, 330.0]) {
+        (point.x, point.y) = (320.0, y);
+    }
+    board.edges.push(wire);
+    let tried = board.attempt().expect("refused").refused.id;
+    let page = html_refused(&board, Refusal::ForbiddenContact, &names, "tried");
+    if let Some(asked) = asked("tried", &page) {
+        assert_eq!(asked, due(&board, &Shown::Tried(tried)));
+    }
+    let ways = ways(&board, None, &names);
+    let way = ways
+        .iter()
+        .find(|way| way.key == "bundle-4")
+        .expect("a bundle");
+    assert_eq!(way.notes[0], "Not drawn: a bundle at port 7:1.");
+    let words = "node 5 \u{2192} port 5:11 \u{2192} edge 41 (of bundle 4, not drawn) \u{2192} port 7:1 \u{2192} \
+                 node 7";
+    assert_eq!(way.words[2], words);
 }
 
 #[test]

@@ -2,10 +2,12 @@
 
 #![forbid(unsafe_code)]
 
+use std::collections::BTreeSet;
 use std::fs;
 
 use bundle_stage::{Answer, Board, Sheet};
 use bundles::explain::explain;
+use bundles::joints::Joints;
 use bundles::names::Names;
 use bundles::svg::{svg, svg_from};
 use bundles::text;
@@ -142,4 +144,64 @@ fn in_pictures() {
         assert!(!picture.contains("false-joint") && !picture.contains("warning"));
         assert_eq!(picture.matches("class=\"joints\"").count(), 1);
     }
+}
+
+/// Bundles without members, whose spines so many wires cross.
+fn many(bundles: usize, wires: usize) -> Board {
+    let mut lines = vec![
+        "port_stub 900\nroute_lane_gap 10\nedge_node_clearance 0\nminimum_parallel_wire_spacing 0\n\
+         member_endpoint_reserve 0\npermit_crossings yes"
+            .to_string(),
+        format!("node 1 at 0,0 size 60,{}", 40 * bundles),
+    ];
+    for bundle in 0..bundles {
+        lines.push(format!("port 1:{bundle} east {}", 40 * bundle + 20));
+        lines.push(format!("bundle {bundle} at 1:{bundle} input width 1"));
+    }
+    for wire in 0..wires {
+        let (x, low) = (100 + 20 * wire, 40 * bundles + 10);
+        lines.push(format!("edge {wire} from 1:0 to 1:1 via {x},-10 {x},{low}"));
+    }
+    text::read(lines.join("\n").as_bytes()).expect("a board")
+}
+
+/// Of a sheet with more crossings than the stage lists, those of parts of the board are put together.
+#[test]
+fn more_crossings_than_a_list_has() {
+    for (bundles, wires, parts) in [
+        (32, 32, ""),
+        (32, 40, " of parts of the board, each with at most 1,024,"),
+    ] {
+        let board = many(bundles, wires);
+        let sheet = drawn(&board);
+        let joints = Joints::of(&board, &sheet);
+        let list = joints.crossings().expect("a list");
+        let pairs = list.iter().map(|one| (one.bundle, one.edge));
+        let pairs = pairs.collect::<BTreeSet<_>>();
+        assert_eq!(
+            (list.len(), pairs.len()),
+            (bundles * wires, bundles * wires)
+        );
+        let said = format!(
+            "{} crossings with routes, else only taps, as is proved{parts}",
+            list.len()
+        );
+        assert!(joints.line().contains(&said), "{}", joints.line());
+        let picture = svg(&board, &sheet, &Names::default(), "many").expect("a clear picture");
+        assert!(picture.contains(&said) && !picture.contains("by the tool itself"));
+    }
+    // From a plan that is given.
+    let board = many(32, 40);
+    let plan = board
+        .plan()
+        .expect("a plan")
+        .to_bytes()
+        .expect("few bundles");
+    let joints = Joints::of_plan(&board, &drawn(&board), &plan);
+    assert_eq!(joints.crossings().map(<[_]>::len), Some(1_280));
+    assert!(
+        joints
+            .line()
+            .contains("by the stage's lists of parts of the board")
+    );
 }

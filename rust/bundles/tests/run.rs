@@ -212,17 +212,15 @@ fn how_it_ends() {
     assert_eq!(repository.run(&[&name("not-there.txt")]).0, 2);
 }
 
-/// Two edges on one way: no picture tells them apart. What else there is is left.
+/// A route through the place of another node's port: so it is on every paper. What else there is is left.
 #[test]
 fn no_clear_picture() {
     let repository = Repository::new("run-unclear");
     let unclear = "port_stub 0\nroute_lane_gap 3\nedge_node_clearance 5\n\
-        minimum_parallel_wire_spacing 2\nmember_endpoint_reserve 2\npermit_crossings yes\n\
-        node 1 at 14,52 size 3,6\nnode 2 at 28,38 size 0,4\n\
-        port 1:1 east 6\nport 2:1 east 6\nport 1:2 east 5\nport 2:2 north 2\n\
-        edge 1 from 2:2 to 1:1 via 4,50 16,50 69,50 117,50 -1,50\n\
-        edge 2 from 1:2 to 1:2 via 4,50 16,50 69,50 117,50 -1,50\n\
-        edge 3 from 1:1 to 1:2 via 4,50 16,50 69,50 117,50 -1,50\n";
+        minimum_parallel_wire_spacing 2\nmember_endpoint_reserve 2\n\
+        node 1 at 0,0 size 10,10\nnode 2 at 100,0 size 10,10\nnode 3 at 50,5 size 10,10\n\
+        port 1:1 east 5\nport 2:1 west 5\nport 3:1 north 5\n\
+        edge 1 from 1:1 to 2:1 via 10,5 100,5\n";
     repository.write("unclear.txt", unclear);
     let name = repository.at("unclear.txt").display().to_string();
     let (code, said) = repository.run(&[&name]);

@@ -7,11 +7,13 @@ use std::process::ExitCode;
 
 use jobs::cases::{self, KINDS};
 use jobs::families::{self, FAMILIES};
-use jobs::{check, damages, stored, survey};
+use jobs::{check, crossed, damages, stored, survey};
 
 const USAGE: &str = "jobs list                                families of jobs and kinds of cases
 jobs make FAMILY SEED FIRST COUNT        jobs as records, for `oracle batch`
 jobs one FAMILY SEED INDEX               one job, bare, for `oracle job` and `oracle show`
+jobs crossed SEED INDEX                  one job of a board that permits crossings, bare
+jobs crossings SEED COUNT                one job with so many crossings of bundles and routes, bare
 jobs cases KIND SEED FIRST COUNT         calls as records, for `oracle calls`
 jobs damages SEED JOBS TIMES LONGEST      damaged jobs as records, for `oracle digest`; numbers counted
 jobs distribution [SEED [PERCENT]]       numbers and features by family
@@ -34,6 +36,11 @@ fn main() -> ExitCode {
     }
 }
 
+fn bare(job: &[u8]) -> Result<bool, String> {
+    io::stdout().lock().write_all(job).map_err(text)?;
+    Ok(true)
+}
+
 fn run(words: &[&str]) -> Result<bool, String> {
     match *words {
         ["list"] => {
@@ -52,9 +59,11 @@ fn run(words: &[&str]) -> Result<bool, String> {
         }
         ["one", name, seed, index] => {
             let family = families::family(name).ok_or("no such family")?;
-            let job = family.job(number(seed)?, number(index)?);
-            io::stdout().lock().write_all(&job).map_err(text)?;
-            Ok(true)
+            bare(&family.job(number(seed)?, number(index)?))
+        }
+        ["crossed", seed, index] => bare(&crossed::job(number(seed)?, number(index)?)),
+        ["crossings", seed, count] => {
+            bare(&crossed::exactly(number(seed)?, number(count)? as usize))
         }
         ["cases", name, seed, first, count] => {
             let kind = cases::kind(name).ok_or("no such kind")?;

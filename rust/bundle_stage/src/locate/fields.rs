@@ -6,6 +6,7 @@ use crate::id::Id;
 use crate::limits;
 use crate::place::{Item, Part, Place, place};
 use crate::refusal::Refusal;
+use crate::wire::next;
 
 use super::nth;
 
@@ -195,16 +196,11 @@ impl Walk<'_> {
     // ---- fields
 
     fn bytes<const N: usize>(&mut self, field: Field) -> Step<[u8; N]> {
-        match self.job[self.at..].first_chunk() {
-            Some(bytes) => {
-                self.at += N;
-                Ok(*bytes)
-            }
-            None => {
-                let said = format!("byte {}: the job ends before the end of ", self.at);
-                self.fail(Refusal::FieldsMismatch, said_of(&said, field, ""))
-            }
+        if let Some(bytes) = next(self.job, &mut self.at) {
+            return Ok(bytes);
         }
+        let said = format!("byte {}: the job ends before the end of ", self.at);
+        self.fail(Refusal::FieldsMismatch, said_of(&said, field, ""))
     }
 
     /// Any number.

@@ -6,6 +6,7 @@ use crate::grid::LIMIT;
 use crate::limits;
 use crate::place::{Item, Place, place};
 use crate::refusal::Refusal;
+use crate::wire::next;
 
 use super::nth;
 
@@ -116,17 +117,11 @@ impl Walk<'_> {
     }
 
     fn take<const N: usize>(&mut self, what: Place) -> Result<[u8; N], Place> {
-        match self.plan[self.at..].first_chunk() {
-            Some(bytes) => {
-                self.at += N;
-                Ok(*bytes)
-            }
-            None => {
-                let said = format!("byte {} of the plan: it ends before the end of ", self.at);
-                let mut place = place!(said);
-                place.parts.extend(what.parts);
-                Err(place)
-            }
-        }
+        next(self.plan, &mut self.at).ok_or_else(|| {
+            let said = format!("byte {} of the plan: it ends before the end of ", self.at);
+            let mut place = place!(said);
+            place.parts.extend(what.parts);
+            place
+        })
     }
 }

@@ -126,3 +126,9 @@ pub fn stored(name: &str) -> Vec<Vec<u8>> {
     }
     records
 }
+
+/// The length of a job whose bytes were changed.
+pub fn set_length(job: &mut [u8]) {
+    let length = job.len() as u32 - 4;
+    job[..4].copy_from_slice(&length.to_be_bytes());
+}

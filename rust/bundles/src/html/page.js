@@ -1,4 +1,3 @@
-"use strict";
 const svg = document.querySelector("#sheet svg");
 const told = document.getElementById("told");
 const found = document.getElementById("found");
@@ -28,6 +27,7 @@ function show(way) {
     told.append(paragraph);
   };
   line(way.name, "name");
+  for (const note of way.notes) line(note, "note");
   for (const words of way.words) line(words, "way");
 }
 
@@ -35,7 +35,30 @@ function choose(key) {
   chosen = byKey.get(key) || null;
   show(chosen);
   found.replaceChildren();
-  history.replaceState(null, "", chosen ? "#" + key : location.pathname + location.search);
+  history.replaceState(null, "", chosen ? "#" + hashOf(key) : location.pathname + location.search);
+}
+
+// What was not pointed at may be out of sight.
+function chooseFar(key) {
+  choose(key);
+  reveal(chosen);
+}
+
+// In the address an edge is called an edge.
+const hashOf = (key) => key.replace(/^route-/, "edge-");
+
+function fromAddress() {
+  let hash = location.hash.slice(1);
+  try {
+    hash = decodeURIComponent(hash);
+  } catch {
+    // No text: nothing has such an id.
+  }
+  chooseFar(hash.replace(/^edge-/, "route-"));
+  if (!hash || chosen) return;
+  const paragraph = document.createElement("p");
+  paragraph.textContent = "Nothing here is called " + hash + ".";
+  told.append(paragraph);
 }
 
 function wayOf(target) {
@@ -54,116 +77,15 @@ function prepare() {
   }
 }
 
-// ---- what is pointed at
-
-// A thin line is hard to point at, so what is nearest is pointed at too: no further than this, in pixels
-// of the screen.
-const reach = (event) => (event.pointerType === "touch" ? 16 : 8);
-// All ink of the ways, in the order in which it is painted.
-const inks = [];
-
-// The straight pieces of a path; a curve is several.
-function straight(path) {
-  const pieces = [];
-  const curve = path.cloneNode();
-  let at = null;
-  for (const step of path.getAttribute("d").match(/[A-Z][^A-Z]*/g) || []) {
-    const to = step.slice(1).trim().split(/[\s,]+/).map(Number).slice(-2);
-    const ends = step[0] === "M" ? [] : [to];
-    if (step[0] !== "M" && step[0] !== "L") {
-      curve.setAttribute("d", "M" + at.join(" ") + step);
-      const length = curve.getTotalLength();
-      const points = [1, 2, 3, 4, 5, 6, 7].map((part) => curve.getPointAtLength(length * part / 8));
-      ends.unshift(...points.map((point) => [point.x, point.y]));
-    }
-    for (const end of ends) {
-      // What has no length has no ink.
-      if (end[0] !== at[0] || end[1] !== at[1]) pieces.push([at, end]);
-      at = end;
-    }
-    at = to;
-  }
-  return pieces;
-}
-
-function gather() {
-  for (const shape of svg.querySelectorAll("path, circle, rect")) {
-    if (!shape.closest("[data-way]")) continue;
-    const way = wayOf(shape);
-    const style = getComputedStyle(shape);
-    const half = style.stroke === "none" ? 0 : parseFloat(style.strokeWidth) / 2;
-    const number = (name) => Number(shape.getAttribute(name));
-    if (shape.tagName === "path") {
-      for (const [from, to] of straight(shape)) inks.push({ way, from, to, half, kind: "line" });
-    } else if (shape.tagName === "circle") {
-      const at = [number("cx"), number("cy")];
-      inks.push({ way, from: at, to: at, half: half + number("r"), kind: "dot" });
-    } else {
-      // A box is a wide line.
-      const [x, y, width, height] = ["x", "y", "width", "height"].map(number);
-      const middle = y + height / 2;
-      const [from, to] = [[x - half, middle], [x + width + half, middle]];
-      inks.push({ way, from, to, half: half + height / 2, kind: "box" });
-    }
-  }
-}
-
-// How far a point is from an ink, and the point of the ink's middle that is nearest to it.
-function apart({ from, to, half, kind }, at) {
-  const [x, y] = [to[0] - from[0], to[1] - from[1]];
-  const [right, down] = [at[0] - from[0], at[1] - from[1]];
-  if (kind === "dot") return [Math.max(0, Math.hypot(right, down) - half), from];
-  const length = Math.hypot(x, y);
-  const along = (right * x + down * y) / length;
-  const across = Math.abs(right * y - down * x) / length;
-  const share = Math.min(Math.max(along, 0), length) / length;
-  // Lines end square.
-  const past = Math.max(0, -along, along - length);
-  return [Math.hypot(past, Math.max(0, across - half)), [from[0] + share * x, from[1] + share * y]];
-}
-
-// Whose ink is nearest to a point; of several that are as near, the one on top. On a node's ground only
-// what lies on it counts, and no box.
-function nearest(at, most, ground) {
-  let [least, best] = [most, null];
-  const box = ground && inks.find((ink) => ink.way === ground && ink.kind === "box");
-  // Not where it ends on the frame.
-  const inside = 0.5;
-  const lies = ([x, y]) =>
-    box.from[0] + inside < x && x < box.to[0] - inside && Math.abs(y - box.from[1]) < box.half - inside;
-  for (const ink of inks) {
-    if (box && ink.kind === "box") continue;
-    const [far, on] = apart(ink, at);
-    if (far <= least && (!box || lies(on))) [least, best] = [far, ink.way];
-  }
-  return best;
-}
-
-// The way that is pointed at: that of the ink there, or of the words, or of the nearest ink.
-function wayAt(event) {
-  const { clientX: x, clientY: y } = event;
-  const under = document.elementsFromPoint(x, y);
-  if (!under.includes(svg)) return null;
-  const parts = under.filter((part) => wayOf(part));
-  const isWord = (part) => part.tagName === "text";
-  const top = parts.find((part) => !isWord(part));
-  const ground = top && top.closest(".node") ? wayOf(top) : null;
-  if (top && !ground) return wayOf(top);
-  const word = parts.find(isWord);
-  if (word) return wayOf(word);
-  return nearest(place(x, y), reach(event) / svg.getScreenCTM().a, ground) || ground;
-}
-
 // ---- search
 
 function matches(words) {
   const text = words.trim().toLowerCase();
   if (!text) return [];
-  const rank = (way) => {
-    const name = way.name.toLowerCase();
-    const id = name.split(" ")[1];
-    if (name === text || id === text || "b" + id === text) return 0;
-    return name.includes(text) ? 1 : 2;
+  const rank = ({ name, terms }) => {
+    const all = [name, ...terms].map((term) => term.toLowerCase());
+    if (all.includes(text)) return 0;
+    return all.some((term) => term.includes(text)) ? 1 : 2;
   };
   const ranked = ways.map((way) => [rank(way), way]).filter(([rank]) => rank < 2);
   ranked.sort((a, b) => a[0] - b[0]);
@@ -176,7 +98,7 @@ function list() {
     const button = document.createElement("button");
     button.type = "button";
     button.textContent = way.name;
-    button.addEventListener("click", () => choose(way.key));
+    button.addEventListener("click", () => chooseFar(way.key));
     found.append(button);
   }
 }
@@ -212,12 +134,51 @@ function whole() {
   look();
 }
 
+// What is to be seen of the sheet: the screen shows more than the view where it is wider or higher.
+function inSight() {
+  const { left, top, right, bottom } = svg.getBoundingClientRect();
+  return [...place(left, top), ...place(right, bottom)];
+}
+
+// The corners of a thing; of what is not drawn itself, those of all that is lifted with it.
+function corners(way) {
+  const part = document.getElementById(way.key);
+  const parts = part ? [part] : way.lifted.map((id) => document.getElementById(id)).filter((part) => part);
+  const boxes = parts.map((part) => part.getBBox());
+  const least = (side) => Math.min(...boxes.map((box) => box[side]));
+  const most = (side, size) => Math.max(...boxes.map((box) => box[side] + box[size]));
+  return boxes.length ? [least("x"), least("y"), most("x", "width"), most("y", "height")] : null;
+}
+
+// Brings a thing into view: as near as it is looked at, if it fits so.
+function reveal(way) {
+  const box = svg && way && corners(way);
+  if (!box) return;
+  // What is around it is to be seen too.
+  const around = 0.04;
+  let [left, top, right, bottom] = inSight();
+  const share = (low, high, size) => (high - low) / (size * (1 - 2 * around));
+  const factor = Math.max(share(box[0], box[2], right - left), share(box[1], box[3], bottom - top));
+  if (factor > 1) zoom(factor);
+  [left, top, right, bottom] = inSight();
+  const shift = (low, high, from, to) => {
+    const rim = around * (to - from);
+    return Math.min(0, low - from - rim) || Math.max(0, high - to + rim);
+  };
+  pan(shift(box[0], box[2], left, right), shift(box[1], box[3], top, bottom));
+}
+
+// Fingers that are on the sheet, and the mouse while its button is held.
 const pointers = new Map();
 let moved = 0;
+// Since no finger was on the sheet there were several: none of them chooses.
+let several = false;
 
 function start(event) {
+  if (event.button !== 0) return;
   pointers.set(event.pointerId, [event.clientX, event.clientY]);
-  if (pointers.size === 1) moved = 0;
+  several = pointers.size > 1;
+  if (!several) moved = 0;
 }
 
 function point(event) {
@@ -227,6 +188,8 @@ function point(event) {
 }
 
 function move(event) {
+  // Its button was let go where nobody was told of it.
+  if (event.buttons === 0) pointers.delete(event.pointerId);
   const before = pointers.get(event.pointerId);
   if (!before) {
     if (!chosen && event.pointerType === "mouse") point(event);
@@ -247,7 +210,7 @@ function move(event) {
 
 function end(event) {
   const here = pointers.delete(event.pointerId);
-  if (here && event.type === "pointerup" && moved <= 4) {
+  if (here && event.type === "pointerup" && moved <= 4 && !several) {
     const way = wayAt(event);
     choose(way ? way.key : "");
   }
@@ -285,7 +248,9 @@ if (svg) {
   // listens for the focus itself would take it.
   const sheet = document.getElementById("sheet");
   sheet.addEventListener("focusin", (event) => {
-    if (event.target.matches(":focus-visible")) show(wayOf(event.target));
+    if (!event.target.matches(":focus-visible")) return;
+    show(wayOf(event.target));
+    reveal(wayOf(event.target));
   });
   // Where the focus goes on, what it alone has lifted is lifted no longer.
   sheet.addEventListener("focusout", (event) => {
@@ -299,10 +264,11 @@ find.addEventListener("input", list);
 document.getElementById("search").addEventListener("submit", (event) => {
   event.preventDefault();
   const first = matches(find.value)[0];
-  if (first) choose(first.key);
+  if (first) chooseFar(first.key);
 });
 document.getElementById("larger").addEventListener("click", () => zoom(0.7));
 document.getElementById("smaller").addEventListener("click", () => zoom(1 / 0.7));
 document.getElementById("whole").addEventListener("click", whole);
 document.getElementById("none").addEventListener("click", () => choose(""));
-choose(decodeURIComponent(location.hash.slice(1)));
+addEventListener("hashchange", fromAddress);
+fromAddress();

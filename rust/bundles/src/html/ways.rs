@@ -2,189 +2,248 @@
 
 use std::collections::BTreeSet;
 
-use bundle_stage::{Board, Edge, Endpoint, Id, Role, Sheet};
+use bundle_stage::{Board, Item, Role, Sheet};
 
+use crate::keys::Keys;
+use crate::loose::{self, Loose};
 use crate::names::Names;
+use crate::places::{Meant, Places};
 
 /// A thing that can be chosen.
 pub struct Way {
-    /// Its id in the picture.
+    /// Its id in the picture, which no other has.
     pub key: String,
     pub name: String,
+    /// What a reader calls it: whoever looks for one of these wants it before all that only has such a word
+    /// in its name.
+    pub terms: Vec<String>,
     /// Its way from unit to port, a line for each route.
     pub words: Vec<String>,
+    /// Where these routes are not joined to what they are said to lead to, and what else is not as it seems.
+    pub notes: Vec<String>,
     /// The ids in the picture of all that is lifted with it.
     pub lifted: Vec<String>,
 }
 
 /// A board with what was drawn of it.
-struct Told<'a> {
-    board: &'a Board,
-    sheet: Option<&'a Sheet>,
-    names: &'a Names,
+pub struct Told<'a> {
+    pub board: &'a Board,
+    pub drawn: bool,
+    pub names: &'a Names,
+    keys: Keys,
+    pub places: Places<'a>,
+    /// What each edge means by its source and its target.
+    pub ends: Vec<[Meant; 2]>,
+    /// The bundles that each edge is in.
+    pub bundles: Vec<Vec<Joined>>,
+    /// The loose ends of each edge.
+    pub loose: Vec<Vec<Loose>>,
 }
 
-/// All things of a sheet: bundles, nodes, ports, routes. Without a sheet there are no bundles.
+/// A bundle that an edge is in, by its place, and the id of its tap in the picture.
+#[derive(Clone)]
+pub struct Joined {
+    pub bundle: usize,
+    tap: Option<String>,
+}
+
+/// All things of a sheet: bundles, nodes, ports, routes. Without a sheet the bundles are those of the board,
+/// which are not drawn.
 pub fn ways(board: &Board, sheet: Option<&Sheet>, names: &Names) -> Vec<Way> {
-    let told = Told {
-        board,
-        sheet,
-        names,
-    };
-    let bundles = board.bundles.iter().filter(|_| sheet.is_some());
-    let bundles = bundles.map(|bundle| told.bundle_way(bundle.id));
-    let nodes = board.nodes.iter().map(|node| told.node_way(node.id));
-    let ports = board.ports.iter().map(|port| {
-        told.port_way(Endpoint {
-            node: port.node,
-            port: port.id,
-        })
-    });
-    let routes = board.edges.iter().map(|edge| told.route_way(edge));
+    let told = Told::of(board, sheet, names);
+    let bundles = (0..board.bundles.len()).map(|place| told.bundle_way(place));
+    let nodes = (0..board.nodes.len()).map(|place| told.node_way(place));
+    let ports = (0..board.ports.len()).map(|place| told.port_way(place));
+    let routes = (0..board.edges.len()).map(|place| told.route_way(place));
     bundles.chain(nodes).chain(ports).chain(routes).collect()
 }
 
-impl Told<'_> {
-    fn bundle_way(&self, id: Id) -> Way {
-        let members = self.board.edges.iter();
-        let members = members.filter(|edge| self.bundles_of(edge.id).contains(&id));
-        let members = members.collect::<Vec<_>>();
-        // A member may be in a bundle at its other end too: the way goes through that as well.
-        let mut lifted = self.lifted(&members);
-        lifted.insert(bundle_key(id));
-        if let Some(bundle) = self.board.bundle(id) {
-            lifted.extend(end_keys(bundle.endpoint));
+impl<'a> Told<'a> {
+    fn of(board: &'a Board, sheet: Option<&Sheet>, names: &'a Names) -> Told<'a> {
+        let (keys, places) = (Keys::of(board, sheet), Places::of(board));
+        let ends = board.edges.iter().map(|edge| {
+            [
+                places.meant(edge.source, edge.points.first()),
+                places.meant(edge.target, edge.points.last()),
+            ]
+        });
+        let ends = ends.collect();
+        let bundles = match sheet {
+            Some(sheet) => tapped(board, sheet, &keys, &places),
+            None => members(board, &places),
+        };
+        let mut by_edge = vec![Vec::new(); board.edges.len()];
+        let found = match sheet {
+            Some(sheet) => loose::on_sheet(board, sheet),
+            None => loose::as_given(board),
+        };
+        for one in found {
+            by_edge[one.place].push(one);
         }
-        self.way(bundle_key(id), self.bundle(id), &members, lifted)
+        Told {
+            board,
+            drawn: sheet.is_some(),
+            names,
+            keys,
+            places,
+            ends,
+            bundles,
+            loose: by_edge,
+        }
     }
 
-    fn node_way(&self, id: Id) -> Way {
-        let at = |edge: &&Edge| edge.source.node == id || edge.target.node == id;
-        let routes = self.board.edges.iter().filter(at).collect::<Vec<_>>();
-        let mut lifted = self.lifted(&routes);
-        lifted.insert(node_key(id));
-        let ports = self.board.ports.iter().filter(|port| port.node == id);
-        lifted.extend(ports.map(|port| format!("port-{id}-{}", port.id)));
-        self.way(node_key(id), self.node(id), &routes, lifted)
+    fn bundle_way(&self, place: usize) -> Way {
+        let bundle = &self.board.bundles[place];
+        let is_in = |edge: &usize| self.bundles[*edge].iter().any(|of| of.bundle == place);
+        let members = (0..self.board.edges.len()).filter(is_in);
+        // A member may be in a bundle at its other end too: the way goes through that as well.
+        let (mut way, routes) = self.way(self.bundle_item(place), members);
+        let meant = self.places.meant(bundle.endpoint, None);
+        if meant.nodes.len() < 2 && meant.ports.len() < 2 {
+            way.lifted.extend(self.end_keys(&meant));
+        }
+        if !self.drawn {
+            let at = self.port(bundle.endpoint, &meant);
+            way.notes.insert(0, format!("Not drawn: a bundle at {at}."));
+        }
+        let label = format!("B{}", bundle.id);
+        let name = self.names.of(self.bundle_item(place));
+        let labelled = name.map(|name| format!("{label} {name}"));
+        way.terms.extend([label].into_iter().chain(labelled));
+        self.finished(way, &self.keys.bundles[place], routes)
     }
 
-    fn port_way(&self, port: Endpoint) -> Way {
-        let at = |edge: &&Edge| edge.source == port || edge.target == port;
-        let routes = self.board.edges.iter().filter(at).collect::<Vec<_>>();
-        let mut lifted = self.lifted(&routes);
-        lifted.extend(end_keys(port));
-        self.way(port_key(port), self.port(port), &routes, lifted)
+    fn node_way(&self, place: usize) -> Way {
+        let id = self.board.nodes[place].id;
+        let at = |meant: &Meant| meant.nodes.contains(&place);
+        let (mut way, routes) = self.way(self.node_item(place), self.routes(at));
+        let ports = (0..self.board.ports.len()).filter(|port| self.board.ports[*port].node == id);
+        let ports = ports.filter(|port| self.places.home(*port) == Some(place));
+        way.lifted
+            .extend(ports.map(|port| self.keys.ports[port].clone()));
+        self.finished(way, &self.keys.nodes[place], routes)
     }
 
-    fn route_way(&self, edge: &Edge) -> Way {
-        let lifted = self.lifted(&[edge]);
-        self.way(route_key(edge.id), self.edge(edge.id), &[edge], lifted)
+    fn port_way(&self, place: usize) -> Way {
+        let at = |meant: &Meant| meant.ports.contains(&place);
+        let (mut way, routes) = self.way(self.port_item(place), self.routes(at));
+        let home = self.places.home(place);
+        way.lifted
+            .extend(home.map(|node| self.keys.nodes[node].clone()));
+        self.finished(way, &self.keys.ports[place], routes)
     }
 
-    fn way(&self, key: String, name: String, routes: &[&Edge], lifted: BTreeSet<String>) -> Way {
-        Way {
-            key,
+    fn route_way(&self, place: usize) -> Way {
+        let (way, routes) = self.way(self.edge_item(place), [place].into_iter());
+        self.finished(way, &self.keys.edges[place], routes)
+    }
+
+    /// The routes with an end for which this holds.
+    fn routes(&self, at: impl Fn(&Meant) -> bool) -> impl Iterator<Item = usize> {
+        let ends = self.ends.iter().enumerate();
+        let with = ends.filter(move |(_, ends)| ends.iter().any(&at));
+        with.map(|(place, _)| place)
+    }
+
+    /// The way of a record that has these routes on it, without its own id in the picture.
+    fn way(&self, item: Item, routes: impl Iterator<Item = usize>) -> (Draft, Vec<usize>) {
+        let routes = routes.collect::<Vec<_>>();
+        let mut lifted = BTreeSet::new();
+        for route in &routes {
+            lifted.insert(self.keys.edges[*route].clone());
+            lifted.extend(self.ends[*route].iter().flat_map(|end| self.end_keys(end)));
+            for Joined { bundle, tap } in &self.bundles[*route] {
+                lifted.insert(self.keys.bundles[*bundle].clone());
+                lifted.extend(tap.clone());
+                lifted.extend(self.other_end(*route, *bundle));
+            }
+        }
+        let said = item.to_string();
+        let id = said.split(' ').nth(1).map(str::to_string);
+        let draft = Draft {
+            name: self.called(item),
+            terms: [said].into_iter().chain(id).collect(),
+            notes: Vec::new(),
+            lifted,
+        };
+        (draft, routes)
+    }
+
+    fn finished(&self, draft: Draft, key: &str, routes: Vec<usize>) -> Way {
+        let Draft {
             name,
-            words: routes.iter().map(|edge| self.told(edge)).collect(),
+            terms,
+            mut notes,
+            mut lifted,
+        } = draft;
+        lifted.insert(key.to_string());
+        notes.extend(routes.iter().flat_map(|route| self.notes(*route)));
+        Way {
+            key: key.to_string(),
+            name,
+            terms,
+            words: routes.iter().map(|route| self.told(*route)).collect(),
+            notes,
             lifted: lifted.into_iter().collect(),
         }
     }
 
-    /// Routes with their ends, and the trunks that they are on with their own taps.
-    fn lifted(&self, routes: &[&Edge]) -> BTreeSet<String> {
-        let mut lifted = BTreeSet::new();
-        for edge in routes {
-            lifted.insert(route_key(edge.id));
-            lifted.extend(self.ends(edge));
-            for bundle in self.bundles_of(edge.id) {
-                lifted.extend([bundle_key(bundle), tap_key(bundle, edge.id)]);
+    /// The ends of a bundle that is drawn to another port than its member names: the wire leads there.
+    fn other_end(&self, route: usize, bundle: usize) -> Vec<String> {
+        let of = &self.board.bundles[bundle];
+        let edge = &self.board.edges[route];
+        let own = match of.role {
+            Role::Input => edge.source,
+            Role::Output => edge.target,
+        };
+        if !self.drawn || own == of.endpoint {
+            return Vec::new();
+        }
+        self.end_keys(&self.places.meant(of.endpoint, None))
+    }
+
+    fn end_keys(&self, meant: &Meant) -> Vec<String> {
+        let nodes = meant.nodes.iter().map(|place| &self.keys.nodes[*place]);
+        let ports = meant.ports.iter().map(|place| &self.keys.ports[*place]);
+        nodes.chain(ports).cloned().collect()
+    }
+}
+
+/// A way that is not yet told.
+struct Draft {
+    name: String,
+    terms: Vec<String>,
+    notes: Vec<String>,
+    lifted: BTreeSet<String>,
+}
+
+/// By the sheet: the bundles on which each edge has a tap.
+fn tapped(board: &Board, sheet: &Sheet, keys: &Keys, places: &Places<'_>) -> Vec<Vec<Joined>> {
+    let mut bundles = vec![Vec::new(); board.edges.len()];
+    for (bundle, (drawn, keys)) in sheet.bundles.iter().zip(&keys.taps).enumerate() {
+        for (tap, key) in drawn.taps.iter().zip(keys) {
+            for edge in places.edges(tap.edge) {
+                let tap = Some(key.clone());
+                bundles[*edge].push(Joined { bundle, tap });
             }
         }
-        lifted
     }
+    bundles
+}
 
-    fn ends(&self, edge: &Edge) -> impl Iterator<Item = String> {
-        [edge.source, edge.target].into_iter().flat_map(end_keys)
-    }
-
-    /// The bundles on which a route has a tap, by the sheet.
-    fn bundles_of(&self, edge: Id) -> Vec<Id> {
-        let drawn = self.sheet.map_or(&[][..], |sheet| &sheet.bundles);
-        let with = drawn
-            .iter()
-            .filter(|bundle| bundle.taps.iter().any(|tap| tap.edge == edge));
-        with.map(|bundle| bundle.id).collect()
-    }
-
-    /// The way of a route: node, port, spine, collector, tap, edge, and so on to the other node.
-    fn told(&self, edge: &Edge) -> String {
-        let mut steps = vec![self.node(edge.source.node), self.port(edge.source)];
-        let bundles = self.bundles_of(edge.id);
-        let role = |id: &Id| self.board.bundle(*id).map(|bundle| bundle.role);
-        for id in bundles.iter().filter(|id| role(id) == Some(Role::Input)) {
-            let name = self.bundle(*id);
-            steps.push(format!("spine and collector of {name}"));
-            steps.push("tap".to_string());
+/// By the board: the bundles of which each edge is a member.
+fn members(board: &Board, places: &Places<'_>) -> Vec<Vec<Joined>> {
+    let mut bundles: Vec<Vec<Joined>> = vec![Vec::new(); board.edges.len()];
+    for (bundle, given) in board.bundles.iter().enumerate() {
+        for member in &given.members {
+            for edge in places.edges(member.edge) {
+                let of = &mut bundles[*edge];
+                // A member may be named twice.
+                if !of.iter().any(|other| other.bundle == bundle) {
+                    of.push(Joined { bundle, tap: None });
+                }
+            }
         }
-        steps.push(self.edge(edge.id));
-        for id in bundles.iter().filter(|id| role(id) == Some(Role::Output)) {
-            let name = self.bundle(*id);
-            steps.push("tap".to_string());
-            steps.push(format!("collector and spine of {name}"));
-        }
-        steps.extend([self.port(edge.target), self.node(edge.target.node)]);
-        steps.join(" \u{2192} ")
     }
-
-    // ---- names
-
-    fn node(&self, id: Id) -> String {
-        named(format!("node {id}"), self.names.node(id))
-    }
-
-    fn port(&self, at: Endpoint) -> String {
-        let Endpoint { node, port } = at;
-        named(format!("port {node}:{port}"), self.names.port(node, port))
-    }
-
-    fn edge(&self, id: Id) -> String {
-        named(format!("edge {id}"), self.names.edge(id))
-    }
-
-    fn bundle(&self, id: Id) -> String {
-        named(format!("bundle {id}"), self.names.bundle(id))
-    }
-}
-
-fn named(id: String, name: Option<&str>) -> String {
-    match name {
-        Some(name) => format!("{id} {name}"),
-        None => id,
-    }
-}
-
-// ---- ids in the picture
-
-fn node_key(id: Id) -> String {
-    format!("node-{id}")
-}
-
-fn port_key(at: Endpoint) -> String {
-    format!("port-{}-{}", at.node, at.port)
-}
-
-fn end_keys(at: Endpoint) -> [String; 2] {
-    [node_key(at.node), port_key(at)]
-}
-
-fn route_key(id: Id) -> String {
-    format!("route-{id}")
-}
-
-fn bundle_key(id: Id) -> String {
-    format!("bundle-{id}")
-}
-
-fn tap_key(bundle: Id, edge: Id) -> String {
-    format!("tap-{bundle}-{edge}")
+    bundles
 }

@@ -6,11 +6,12 @@ use std::collections::HashMap;
 
 use bundle_stage::Point;
 
+use super::marking::kept;
 use super::rings::unring;
 use super::scene::Crossed;
 use super::spans::{Span, Way};
 use super::stroke::{Arch, Gap, Piece, Stroke};
-use super::white::{KEPT, WHITE};
+use super::white::WHITE;
 
 /// Where a piece goes over another.
 struct Over {
@@ -67,13 +68,21 @@ pub fn bridge(
         let rising = arches[turn].iter().filter(|arch| arch.rise != 0.0);
         strokes[of.stroke].arches[of.place] = rising.copied().collect();
     }
-    for gaps in strokes.iter_mut().flat_map(|stroke| &mut stroke.gaps) {
-        gaps.sort_by(|a, b| a.from.total_cmp(&b.from));
-        if tunnels {
-            *gaps = merged(gaps);
+    in_order(strokes, tunnels);
+    found
+}
+
+/// Gaps by their places; with `tunnels` those between which too little would be left are one.
+fn in_order(strokes: &mut [Stroke], tunnels: bool) {
+    for stroke in strokes {
+        let kept = kept(stroke);
+        for gaps in &mut stroke.gaps {
+            gaps.sort_by(|a, b| a.from.total_cmp(&b.from));
+            if tunnels {
+                *gaps = merged(gaps, kept);
+            }
         }
     }
-    found
 }
 
 /// All pieces, those of a stroke one behind the other.
@@ -155,11 +164,11 @@ fn gaps(strokes: &mut [Stroke], pieces: &[Placed], of: &Placed, over: &[Over], a
 }
 
 /// Gaps in order, those that are too near to each other as one.
-fn merged(gaps: &[Gap]) -> Vec<Gap> {
+fn merged(gaps: &[Gap], kept: f64) -> Vec<Gap> {
     let mut to: Vec<Gap> = Vec::new();
     for gap in gaps {
         match to.last_mut() {
-            Some(last) if gap.from - last.to < KEPT => last.to = last.to.max(gap.to),
+            Some(last) if gap.from - last.to < kept => last.to = last.to.max(gap.to),
             _ => to.push(*gap),
         }
     }
@@ -201,10 +210,7 @@ fn narrow(piece: &Piece, over: &mut [Over], lines: &[(Point, Point)], width: f64
     let Some(way) = Way::of(piece.start, piece.end) else {
         return;
     };
-    let other = match way {
-        Way::Level => Way::Upright,
-        Way::Upright => Way::Level,
-    };
+    let other = way.other();
     let crossed = over.iter().map(|over| over.under).collect::<Vec<_>>();
     let here = way.across(piece.start);
     for Over { at, reach, .. } in over {
@@ -271,32 +277,13 @@ fn rise(piece: &Piece, arch: &Arch, spans: &[(Way, Vec<Span>); 2], width: f64) -
     }
     // Rather flat, so that two arches at one place do not meet.
     let most = 0.7 * (arch.first - arch.from).max(arch.to - arch.last);
-    let (from, to) = (piece.at(arch.from, 0.0), piece.at(arch.to, 0.0));
     let better = match Way::of(piece.start, piece.end) {
         Some(Way::Upright) => (piece.end.y - piece.start.y).signum(),
         _ if piece.end.x == piece.start.x => 1.0,
         _ => (piece.end.x - piece.start.x).signum(),
     };
-    let room = |side: f64| {
-        let Some((way, spans)) = spans
-            .iter()
-            .find(|(way, _)| Some(*way) == Way::of(piece.start, piece.end))
-        else {
-            return most;
-        };
-        let Some(here) = way.span(from, to) else {
-            return most;
-        };
-        let tip = way.across(piece.at(arch.first, side));
-        let toward = (tip - here.at).signum();
-        let beside = spans.iter().filter(|span| span.beside(&here, 0.0));
-        let distances = beside.map(|span| (span.at - here.at) * toward);
-        let nearest = distances
-            .filter(|distance| *distance > 0.0)
-            .fold(f64::INFINITY, f64::min);
-        // The line there may have an arch toward this one.
-        most.min(0.5 * nearest - 1.1 * width)
-    };
+    // The line there may have an arch toward this one.
+    let room = |side: f64| most.min(0.5 * nearest(piece, arch, spans, side) - 1.1 * width);
     let (one, two) = (room(better), room(-better));
     let (side, high) = if one >= 2.0 * width || one >= two {
         (better, one)
@@ -304,4 +291,21 @@ fn rise(piece: &Piece, arch: &Arch, spans: &[(Way, Vec<Span>); 2], width: f64) -
         (-better, two)
     };
     if high < 1.2 * width { 0.0 } else { side * high }
+}
+
+/// How far the nearest line is beside an arch, on one side of its piece.
+fn nearest(piece: &Piece, arch: &Arch, spans: &[(Way, Vec<Span>); 2], side: f64) -> f64 {
+    let of_piece = Way::of(piece.start, piece.end);
+    let spans = spans.iter().find(|(way, _)| Some(*way) == of_piece);
+    let (from, to) = (piece.at(arch.from, 0.0), piece.at(arch.to, 0.0));
+    let here = spans.and_then(|(way, spans)| Some((way, spans, way.span(from, to)?)));
+    let Some((way, spans, here)) = here else {
+        return f64::INFINITY;
+    };
+    let tip = way.across(piece.at(arch.first, side));
+    let toward = (tip - here.at).signum();
+    let beside = spans.iter().filter(|span| span.beside(&here, 0.0));
+    let distances = beside.map(|span| (span.at - here.at) * toward);
+    let distances = distances.filter(|distance| *distance > 0.0);
+    distances.fold(f64::INFINITY, f64::min)
 }

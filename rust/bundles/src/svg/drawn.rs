@@ -7,7 +7,9 @@ use bundle_stage::{Point, Role, Segment};
 
 use super::crossings::bridge;
 use super::field::moved;
-use super::lanes;
+use super::lanes::{self, Part};
+use super::marking;
+use super::palette::mark;
 use super::pens::Pens;
 use super::ports;
 use super::scene::{Crossed, Port, Route, Scene, Tap, Trunk, corners};
@@ -30,7 +32,7 @@ pub fn strokes(scene: &mut Scene, pens: &mut Pens, tunnels: bool) -> (Vec<Stroke
     let lines = lanes::Lines {
         routes: &given,
         tapped: &tapped,
-        trunks: &trunks(scene),
+        trunks: &trunks(scene, pens),
         sides: &sides(scene),
     };
     let (mut shifted, least) = lanes::spread(&lines, pens.route + LANE);
@@ -45,26 +47,31 @@ pub fn strokes(scene: &mut Scene, pens: &mut Pens, tunnels: bool) -> (Vec<Stroke
         .map(|corners| Stroke::new(corners, pens.route, None))
         .collect::<Vec<_>>();
     weigh(scene, &strokes, pens);
-    let mut of_trunks = Vec::new();
-    for (place, trunk) in scene.trunks.iter().enumerate() {
-        // Half a width more, so that a corner with the spine is full.
-        let Segment { start, end } = trunk.collector;
-        let more = |at| (0.3 * foreign(at, place, scene, &strokes).0).min(trunk.weight / 2.0);
-        let (above, below) = (more(start), more(end));
-        let collector = Segment {
-            start: moved(start, 0.0, -above),
-            end: moved(end, 0.0, below),
-        };
-        for Segment { start, end } in [trunk.spine, collector] {
-            let corners = lanes::corners(&[start, end]);
-            of_trunks.push(Stroke::new(corners, trunk.weight, Some(place)));
-        }
-    }
+    let of_trunks = of_trunks(scene, &strokes);
     strokes.extend(of_trunks);
     let found = bridge(&mut strokes, tunnels, scene.crossings.as_ref());
     ports::fit(scene, &strokes, pens);
     let miscounted = miscounted(scene, &found);
     (strokes, miscounted)
+}
+
+/// For each bundle the strokes of its spine and its collector.
+fn of_trunks(scene: &Scene, routes: &[Stroke]) -> Vec<Stroke> {
+    let trunks = scene.trunks.iter().enumerate();
+    let strokes = trunks.flat_map(|(place, trunk)| {
+        // Half a width more, so that a corner with the spine is full.
+        let Segment { start, end } = trunk.collector;
+        let more = |at| (0.3 * foreign(at, place, scene, routes).0).min(trunk.weight / 2.0);
+        let collector = Segment {
+            start: moved(start, 0.0, -more(start)),
+            end: moved(end, 0.0, more(end)),
+        };
+        [trunk.spine, collector].map(|Segment { start, end }| {
+            let corners = lanes::corners(&[start, end]);
+            Stroke::new(corners, trunk.weight, Some(place))
+        })
+    });
+    strokes.collect()
 }
 
 /// Where a bundle and a route cross on the page more or less often than on the sheet, in words. Runs of a
@@ -154,14 +161,18 @@ fn foreign(at: Point, place: usize, scene: &Scene, routes: &[Stroke]) -> (f64, f
     )
 }
 
-/// The segments of all bundles, with the places of their members.
-fn trunks(scene: &Scene) -> Vec<((Point, Point), Vec<usize>)> {
+/// The segments of all bundles.
+fn trunks(scene: &Scene, pens: &Pens) -> Vec<Part> {
     let mut trunks = Vec::new();
     for (place, trunk) in scene.trunks.iter().enumerate() {
         let routes = scene.routes.iter().enumerate();
         let members = routes.filter(|(_, route)| route.member_of(place));
         let members = members.map(|(route, _)| route).collect::<Vec<_>>();
-        trunks.extend(trunk.parts().map(|part| (part, members.clone())));
+        trunks.extend(trunk.parts().map(|ends| Part {
+            ends,
+            members: members.clone(),
+            pitch: marking::pitch(mark(place), pens.trunk),
+        }));
     }
     trunks
 }

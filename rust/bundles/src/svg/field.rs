@@ -83,6 +83,8 @@ pub struct Spot {
     pub rect: Rect,
     /// Inside a node.
     pub inside: bool,
+    /// It may lie over a node.
+    pub over: bool,
     /// The bundle on whose trunk it may stand.
     pub on: Option<usize>,
     /// From below upwards.
@@ -105,6 +107,7 @@ impl Spot {
         Spot {
             rect,
             inside: false,
+            over: false,
             on: None,
             turned: false,
             size,
@@ -114,10 +117,15 @@ impl Spot {
 }
 
 impl Field {
+    /// Nothing else is to stand there.
+    pub fn take(&mut self, rect: Rect) {
+        self.taken.push((rect, None));
+    }
+
     pub fn free(&self, spot: &Spot) -> bool {
         let mut taken = self.taken.iter();
         spot.rect.within(&self.page)
-            && (spot.inside || !self.nodes.iter().any(|node| node.meets(&spot.rect)))
+            && (spot.inside || spot.over || !self.nodes.iter().any(|node| node.meets(&spot.rect)))
             && !taken.any(|(rect, of)| (of.is_none() || *of != spot.on) && rect.meets(&spot.rect))
     }
 }

@@ -1,15 +1,16 @@
 //! Ids, where they fit, and names, where there is still room then.
 
-use bundle_stage::{Endpoint, Id, Point};
+use bundle_stage::{Endpoint, Id, Node, Point};
 
 use crate::explain::counted;
 
-use super::field::{Anchor, Field, Label, Rect, Wish, field, lengthen, moved, placed};
+use super::field::{Anchor, Field, Label, Rect, Wish, lengthen, moved, placed};
 use super::palette::colour;
-use super::pens::Pens;
-use super::scene::Scene;
+use super::pens::{HEAVIEST, Pens};
+use super::records::Record;
+use super::scene::{Scene, Trunk, corners};
 use super::stroke::Stroke;
-use super::wishes::{bundle_wishes, edge_wish, name_wish, node_wish, port_wish};
+use super::wishes::{End, bundle_wish, edge_wish, is_long, name_wish, node_wish, port_wish};
 use super::xml::{mm, wide_bold, words};
 
 /// Heights of letters that are tried, in millimetres, one for all labels of a kind. Smaller ones
@@ -23,11 +24,15 @@ const NAMES: [f64; 4] = [3.0, 2.6, 2.2, 1.8];
 /// All labels as SVG, and what is left out for want of room, in words.
 pub struct Labels {
     pub svg: String,
+    /// The frames of the bundles' ids.
+    pub frames: Vec<Rect>,
+    /// Bundles that have none, and of which something is drawn: no picture may have these.
+    pub bundles: Vec<Id>,
     pub left_out: Vec<String>,
     /// Ports and edges whose names have no room, in words.
     pub unnamed: Vec<String>,
-    /// Nodes whose names have no room.
-    pub nodes: Vec<Id>,
+    /// The places of the nodes whose names have no room.
+    pub nodes: Vec<usize>,
 }
 
 /// The labels of a kind, and how many have no room.
@@ -68,47 +73,71 @@ impl Wishes {
 }
 
 /// The routes' strokes come first among `strokes`, in the routes' order. No name stands where an id could.
-pub fn labels(scene: &Scene, strokes: &[Stroke], pens: &Pens, page: (Point, Point)) -> Labels {
-    let mut field = field(scene, strokes, page);
+pub fn labels(scene: &Scene, strokes: &[Stroke], pens: &Pens, field: &mut Field) -> Labels {
     let all = [
         bundle_ids(scene, pens),
+        second_ids(scene, pens),
         node_ids(scene),
         edge_ids(scene, strokes),
         port_ids(scene, pens),
     ];
-    let mut kinds = all.each_ref().map(|wishes| wishes.placed(&mut field));
-    let (names, nodes) = node_names(scene, &mut field, &kinds[1].labels);
+    let mut kinds = all.each_ref().map(|wishes| wishes.placed(field));
+    let (names, nodes) = node_names(scene, field, &kinds[2].labels);
     // Ports last: their names are the longest, and there are most of them.
-    for turn in [1, 0, 2, 3] {
-        all[turn].name(&mut field, &mut kinds[turn]);
+    for turn in [2, 0, 3, 4] {
+        all[turn].name(field, &mut kinds[turn]);
     }
-    let what = ["bundle", "node", "edge", "port"];
+    let what = ["bundle", "bundle", "node", "edge", "port"];
     let words = |count: fn(&Kind) -> usize, places: &[usize]| {
         let counts = places.iter().map(|&at| (count(&kinds[at]), what[at]));
         let counts = counts.filter(|(count, _)| *count > 0);
         counts.map(|(count, what)| counted(count, what)).collect()
     };
     Labels {
-        left_out: words(|kind| kind.missing, &[0, 1, 2, 3]),
-        unnamed: words(|kind| kind.unnamed, &[2, 3]),
+        frames: frames(&kinds).map(frame).collect(),
+        bundles: without(scene, &kinds[0]),
+        left_out: words(|kind| kind.missing, &[0, 2, 3, 4]),
+        unnamed: words(|kind| kind.unnamed, &[3, 4]),
         svg: drawn(scene, &kinds, &names),
         nodes,
     }
 }
 
+/// One for each bundle.
 fn bundle_ids(scene: &Scene, pens: &Pens) -> Wishes {
     let trunks = scene.trunks.iter().enumerate();
-    let wishes = trunks.flat_map(|(place, trunk)| {
+    let wishes = trunks.map(|(place, trunk)| {
         let id = format!("B{}", trunk.id);
-        let name = scene.names.bundle(trunk.id);
-        let ids = bundle_wishes(place, trunk, pens, &id);
-        // Once is enough for the name.
-        let named = name.map(|name| bundle_wishes(place, trunk, pens, &format!("{id} {name}")));
-        let named = named.into_iter().flatten().take(1).map(Some);
-        ids.into_iter()
-            .zip(named.chain(std::iter::repeat_with(|| None)))
+        let name = scene.names.of(scene.records.trunks[place].item);
+        let wish = |text: &str| bundle_wish(place, trunk, End::Collector, pens, text);
+        let named = name.map(|name| wish(&format!("{id} {name}")));
+        (wish(&id), named)
     });
     Wishes::of(wishes, &BUNDLES)
+}
+
+/// A second one at the port where the spine is long, if there is room.
+fn second_ids(scene: &Scene, pens: &Pens) -> Wishes {
+    let trunks = scene.trunks.iter().enumerate();
+    let long = trunks.filter(|(_, trunk)| is_long(trunk));
+    let wishes = long.map(|(place, trunk)| {
+        let id = format!("B{}", trunk.id);
+        (bundle_wish(place, trunk, End::Port, pens, &id), None)
+    });
+    Wishes::of(wishes, &BUNDLES)
+}
+
+/// The bundles of which no label stands on the page, though something of them is drawn.
+fn without(scene: &Scene, ids: &Kind) -> Vec<Id> {
+    let trunks = scene.trunks.iter().enumerate();
+    let shown = |place: usize| ids.labels.iter().any(|label| label.place == place);
+    let without = trunks.filter(|(place, trunk)| !shown(*place) && is_seen(trunk));
+    without.map(|(_, trunk)| trunk.id).collect()
+}
+
+fn is_seen(trunk: &Trunk) -> bool {
+    let mut parts = trunk.parts().into_iter();
+    !trunk.taps.is_empty() || parts.any(|(start, end)| start != end)
 }
 
 fn node_ids(scene: &Scene) -> Wishes {
@@ -121,7 +150,7 @@ fn edge_ids(scene: &Scene, strokes: &[Stroke]) -> Wishes {
     let routes = scene.routes.iter().zip(strokes).enumerate();
     let wishes = routes.map(|(place, (route, stroke))| {
         let wish = |text: String| edge_wish(place, route, stroke, text);
-        let name = scene.names.edge(route.id);
+        let name = scene.names.of(scene.records.routes[place].item);
         let named = name.map(|name| wish(format!("{} {name}", route.id)));
         (wish(route.id.to_string()), named)
     });
@@ -132,8 +161,15 @@ fn port_ids(scene: &Scene, pens: &Pens) -> Wishes {
     let ports = scene.ports.iter().enumerate();
     let wishes = ports.filter_map(|(place, port)| {
         let Endpoint { node, port: id } = port.name;
-        let name = scene.names.port(node, id);
-        let node = scene.nodes.iter().find(|of| of.id == node)?;
+        let name = scene.names.of(scene.records.ports[place].item);
+        // Of nodes that have one id the port is at that which it stands at.
+        let at = Rect::of(port.at, port.at, 0.0);
+        let of_id = scene.nodes.iter().filter(|of| of.id == node);
+        let is_at = |of: &&Node| {
+            let [low, high] = corners(of);
+            at.within(&Rect::of(low, high, 0.1))
+        };
+        let node = of_id.clone().find(is_at).or(of_id.clone().next())?;
         let wish = |text: String| port_wish(place, port, node, pens, text);
         let named = name.map(|name| wish(format!("{id} {name}")));
         Some((wish(id.to_string()), named))
@@ -141,58 +177,68 @@ fn port_ids(scene: &Scene, pens: &Pens) -> Wishes {
     Wishes::of(wishes, &PORTS)
 }
 
-/// The names of nodes, and the nodes whose names have no room.
-fn node_names(scene: &Scene, field: &mut Field, ids: &[Label]) -> (Vec<Label>, Vec<Id>) {
+/// The names of nodes, and the places of the nodes whose names have no room.
+fn node_names(scene: &Scene, field: &mut Field, ids: &[Label]) -> (Vec<Label>, Vec<usize>) {
     let wishes = ids.iter().filter_map(|id| {
         let node = &scene.nodes[id.place];
-        let name = scene.names.node(node.id)?;
+        let name = scene.names.of(scene.records.nodes[id.place].item)?;
         Some(name_wish(id.place, node, id.spot, name))
     });
     let wishes = wishes.collect::<Vec<_>>();
     let (names, _) = placed(field, &wishes, &NAMES);
-    let nodes = scene.nodes.iter().enumerate();
-    let nodes = nodes.filter(|(place, node)| {
+    let nodes = scene.records.nodes.iter().enumerate();
+    let nodes = nodes.filter(|(place, record)| {
         let shown = names.iter().any(|label| label.place == *place);
-        scene.names.node(node.id).is_some() && !shown
+        scene.names.of(record.item).is_some() && !shown
     });
-    let without = nodes.map(|(_, node)| node.id).collect();
+    let without = nodes.map(|(place, _)| place).collect();
     (names, without)
 }
 
 /// All labels as SVG.
-fn drawn(scene: &Scene, [pills, nodes, edges, ports]: &[Kind; 4], names: &[Label]) -> String {
+fn drawn(scene: &Scene, kinds: &[Kind; 5], names: &[Label]) -> String {
+    let [_, _, nodes, edges, ports] = kinds;
     let mut svg = String::new();
+    let of =
+        |records: &[Record], label: &Label| format!("data-of=\"{}\"", records[label.place].key);
+    let records = &scene.records;
     for label in &ports.labels {
-        let Endpoint { node, port } = scene.ports[label.place].name;
-        let of = format!("data-of=\"port-{node}-{port}\"");
+        let of = of(&records.ports, label);
         let more = format!("class=\"port-id\" {of} fill=\"#666666\"");
         svg.push_str(&text(label, &more));
     }
     for (labels, class) in [(&nodes.labels[..], "node-id"), (names, "node-name")] {
         for label in labels {
-            let id = scene.nodes[label.place].id;
+            let of = of(&records.nodes, label);
             let bold = if class == "node-id" {
                 " font-weight=\"bold\""
             } else {
                 ""
             };
-            let more = format!("class=\"{class}\" data-of=\"node-{id}\"{bold}");
+            let more = format!("class=\"{class}\" {of}{bold}");
             svg.push_str(&text(label, &more));
         }
     }
     for label in &edges.labels {
-        let id = scene.routes[label.place].id;
-        let more = format!("class=\"edge-id\" data-of=\"route-{id}\"");
+        let more = format!("class=\"edge-id\" {}", of(&records.routes, label));
         svg.push_str(&text(label, &more));
     }
-    for label in &pills.labels {
-        let Rect { low, high } = label.spot.rect;
-        let rect = Rect::of(low, high, -AROUND);
-        let id = scene.trunks[label.place].id;
-        let pill = pill(&label.text, rect, label.place, label.spot.size);
-        svg.push_str(&format!("<g data-of=\"bundle-{id}\">\n{pill}</g>\n"));
+    for label in frames(kinds) {
+        let of = of(&records.trunks, label);
+        let pill = pill(&label.text, frame(label), label.place, label.spot.size);
+        svg.push_str(&format!("<g {of}>\n{pill}</g>\n"));
     }
     svg
+}
+
+/// The labels of bundles.
+fn frames(kinds: &[Kind; 5]) -> impl Iterator<Item = &Label> {
+    kinds[0].labels.iter().chain(&kinds[1].labels)
+}
+
+fn frame(label: &Label) -> Rect {
+    let Rect { low, high } = label.spot.rect;
+    Rect::of(low, high, -AROUND)
 }
 
 fn text(label: &Label, more: &str) -> String {
@@ -223,6 +269,12 @@ fn text(label: &Label, more: &str) -> String {
 /// A frame around a bundle's id.
 pub fn pill_size(text: &str, size: f64) -> (f64, f64) {
     (wide_bold(text, size) + 1.2, 1.3 * size)
+}
+
+/// How much of a spine the smallest frame needs, with what is left free around it.
+pub fn on_trunk(text: &str) -> f64 {
+    let least = BUNDLES[BUNDLES.len() - 1];
+    pill_size(text, least).0 + 2.0 * AROUND + 3.0 * HEAVIEST
 }
 
 /// What is left free around a frame.

@@ -6,6 +6,7 @@
 
 use bundle_stage::Point;
 
+use super::shifts::moved;
 use super::spans::{Span, Way, room};
 use super::walk::{Walk, side};
 
@@ -14,7 +15,7 @@ pub const ONE_LINE: f64 = 0.1;
 /// A shorter step, in millimetres, is none.
 pub const NO_STEP: f64 = 0.05;
 /// Runs on one line that end this near to each other would look like one.
-const ONE_RUN: f64 = 0.8;
+pub const ONE_RUN: f64 = 0.8;
 
 /// What lies on the page: routes, which are shifted, and other lines, which are not.
 pub struct Lines<'a> {
@@ -22,10 +23,19 @@ pub struct Lines<'a> {
     pub routes: &'a [Vec<Point>],
     /// Whether each route starts, and whether it ends, at a tap: an upright run must not leave it.
     pub tapped: &'a [(bool, bool)],
-    /// Segments of bundles, each with the places of the routes that are members.
-    pub trunks: &'a [((Point, Point), Vec<usize>)],
+    /// Segments of bundles.
+    pub trunks: &'a [Part],
     /// The sides of nodes.
     pub sides: &'a [(Point, Point)],
+}
+
+/// A segment of a bundle.
+pub struct Part {
+    pub ends: (Point, Point),
+    /// The places of the routes that are members.
+    pub members: Vec<usize>,
+    /// The pitch of lanes that go over it: some of it is to be seen between them.
+    pub pitch: f64,
 }
 
 /// A run of a route, or a bundle's segment.
@@ -107,7 +117,7 @@ fn spread_near(lines: &Lines<'_>, pitch: f64, near: f64) -> (Vec<Vec<Point>>, f6
             let most = if way == Way::Upright && group.iter().any(|run| at_tap(lines, run)) {
                 AT_TAP
             } else {
-                pitch
+                over_trunks(lines, way, &group).fold(pitch, f64::max)
             };
             let pitch = most.min(0.9 * free(&group, &runs, &sides) / last.max(1) as f64);
             least = least.min(pitch);
@@ -128,28 +138,21 @@ fn spread_near(lines: &Lines<'_>, pitch: f64, near: f64) -> (Vec<Vec<Point>>, f6
             }
         }
     }
-    let pairs = routes.iter().zip(&shifts).zip(lines.tapped);
-    let shifted = pairs.map(|((route, shifts), tapped)| {
-        let mut to = shifted(route, shifts);
-        // A short piece between a tap and an upright run that is shifted is inside the dot.
-        let moved = |from: Option<&Point>, to: Option<&Point>| {
-            from.zip(to)
-                .filter(|(from, to)| from.x != to.x)
-                .map(|(from, _)| *from)
-        };
-        if tapped.0
-            && let Some(tap) = moved(route.first(), to.first())
-        {
-            to.insert(0, tap);
-        }
-        if tapped.1
-            && let Some(tap) = moved(route.last(), to.last())
-        {
-            to.push(tap);
-        }
-        to
-    });
-    (shifted.collect(), least)
+    (moved(lines, &shifts, pitch), least)
+}
+
+/// The pitches of lanes over the bundles that a group of runs crosses.
+fn over_trunks<'a>(
+    lines: &'a Lines<'_>,
+    way: Way,
+    group: &'a [&Run<'_>],
+) -> impl Iterator<Item = f64> + 'a {
+    lines.trunks.iter().filter_map(move |part| {
+        let span = way.other().span(part.ends.0, part.ends.1)?;
+        let mut runs = group.iter().filter(|run| run.members.is_none());
+        runs.any(|run| run.span.crosses(&span))
+            .then_some(part.pitch)
+    })
 }
 
 /// Whether a run of a route ends at its tap.
@@ -171,8 +174,8 @@ fn runs<'a>(lines: &Lines<'a>, way: Way) -> Vec<Run<'a>> {
             }));
         }
     }
-    for ((start, end), members) in lines.trunks {
-        runs.extend(way.span(*start, *end).map(|span| Run {
+    for Part { ends, members, .. } in lines.trunks {
+        runs.extend(way.span(ends.0, ends.1).map(|span| Run {
             route: 0,
             start: 0,
             span,
@@ -284,36 +287,4 @@ fn order(routes: &[Vec<Point>], way: Way, a: &Run<'_>, b: &Run<'_>) -> i32 {
         Way::Level => left,
         Way::Upright => -left,
     }
-}
-
-/// The corners where each run is shifted across its way. Where a route turns straight back, the two
-/// runs get a short piece between them.
-fn shifted(corners: &[Point], shifts: &[f64]) -> Vec<Point> {
-    let way = |run: usize| Way::of(corners[run], corners[run + 1]);
-    let mut to = Vec::new();
-    for (place, corner) in corners.iter().enumerate() {
-        let before = place.checked_sub(1);
-        let after = (place < shifts.len()).then_some(place);
-        let runs = [before, after].map(|run| run.map(|run| (way(run), shifts[run])));
-        let moved = |runs: &[Option<(Option<Way>, f64)>]| {
-            let mut at = *corner;
-            for (way, shift) in runs.iter().flatten() {
-                match way {
-                    Some(Way::Level) => at.y = corner.y + shift,
-                    Some(Way::Upright) => at.x = corner.x + shift,
-                    None => {}
-                }
-            }
-            at
-        };
-        match runs {
-            [Some((a, _)), Some((b, _))] if a == b => {
-                to.push(moved(&runs[..1]));
-                to.push(moved(&runs[1..]));
-            }
-            _ => to.push(moved(&runs)),
-        }
-    }
-    to.dedup();
-    to
 }

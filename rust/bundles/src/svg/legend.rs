@@ -2,15 +2,19 @@
 
 use std::collections::BTreeSet;
 
-use bundle_stage::{Endpoint, Id, Point, Role};
+use bundle_stage::{Endpoint, Point, Role};
 
 use super::labels::{pill_at, pill_size};
+use super::loose::cross;
 use super::palette::{BLACK, WARNING, colour, mark};
 use super::paths::marked;
+use super::pens::HEAVIEST;
 use super::scene::{Mark, Route, Scene, Trunk};
 use super::shapes::ring;
+use super::stroke::Stroke;
 use super::tried::dashed;
 use super::xml::{mm, wide, wide_bold, words};
+use crate::loose::End;
 
 const TITLE: f64 = 5.0;
 const TEXT: f64 = 2.6;
@@ -98,8 +102,8 @@ pub struct Legend {
 }
 
 impl Legend {
-    /// `named` are the nodes whose names have no room on the sheet.
-    pub fn of(scene: &Scene, named: &BTreeSet<Id>, said: Option<String>) -> Legend {
+    /// `named` are the places of the nodes whose names have no room on the sheet.
+    pub fn of(scene: &Scene, named: &BTreeSet<usize>, said: Option<String>) -> Legend {
         let size = if scene.trunks.len() > MANY {
             SMALL
         } else {
@@ -107,7 +111,7 @@ impl Legend {
         };
         let bundles = scene.trunks.iter().enumerate();
         let bundles = bundles.map(|(place, trunk)| bundle(scene, place, trunk, size));
-        let named = named.iter().filter_map(|id| node(scene, *id));
+        let named = named.iter().filter_map(|place| node(scene, *place));
         Legend {
             signs: signs(scene).into_iter().chain(named).collect(),
             bundles: bundles.collect(),
@@ -199,15 +203,10 @@ fn bundle(scene: &Scene, place: usize, trunk: &Trunk, size: f64) -> Sign {
         Role::Output => "output",
     };
     let inside = if trunk.interior { "interior" } else { "rail" };
-    let called = scene.names.bundle(trunk.id);
+    let called = scene.names.of(scene.records.trunks[place].item);
     let called = called.map(|name| format!("{name}: ")).unwrap_or_default();
     let way = way(scene, place, trunk);
-    let line = marked(
-        &format!("M0 0H{}", mm(SAMPLE)),
-        1.1,
-        colour(place),
-        mark(place),
-    );
+    let line = heavy([(0.0, 0.0), (SAMPLE, 0.0)], place);
     let at = Point {
         x: SAMPLE + GAP,
         y: 0.0,
@@ -221,8 +220,9 @@ fn bundle(scene: &Scene, place: usize, trunk: &Trunk, size: f64) -> Sign {
 }
 
 /// A node's id, and its name beside it.
-fn node(scene: &Scene, id: Id) -> Option<Sign> {
-    let name = scene.names.node(id)?;
+fn node(scene: &Scene, place: usize) -> Option<Sign> {
+    let id = scene.nodes[place].id;
+    let name = scene.names.of(scene.records.nodes[place].item)?;
     let middle = Point {
         x: SAMPLE / 2.0,
         y: 0.35 * TEXT,
@@ -243,17 +243,22 @@ const BOX: &str = "<rect x=\"0\" y=\"-1.8\" width=\"10\" height=\"3.6\" fill=\"#
 /// No more ports are named of one bundle.
 const MOST_PORTS: usize = 8;
 
-/// From which ports a bundle leads to which.
+/// From which ports a bundle leads to which. One that a member's line does not reach has a cross behind it.
 fn way(scene: &Scene, place: usize, trunk: &Trunk) -> String {
-    let members = scene.routes.iter().filter(|route| route.member_of(place));
-    let ports = members.map(|route| match trunk.role {
-        Role::Input => route.target,
-        Role::Output => route.source,
-    });
+    let members = scene.routes.iter().enumerate();
+    let members = members.filter(|(_, route)| route.member_of(place));
     let name = |at: Endpoint| format!("{}:{}", at.node, at.port);
+    let ports = members.map(|(turn, route)| {
+        let (at, end) = match trunk.role {
+            Role::Input => (route.target, End::Target),
+            Role::Output => (route.source, End::Source),
+        };
+        let open = scene.records.loose_of(turn).any(|one| one.opens(end));
+        format!("{}{}", name(at), if open { " \u{d7}" } else { "" })
+    });
     let mut seen = BTreeSet::new();
     // Members may share one.
-    let ports = ports.map(name).filter(|port| seen.insert(port.clone()));
+    let ports = ports.filter(|port| seen.insert(port.clone()));
     let ports = ports.collect::<Vec<_>>();
     let more = ports.len().saturating_sub(MOST_PORTS);
     let mut named = ports[..ports.len() - more].join(", ");
@@ -267,13 +272,47 @@ fn way(scene: &Scene, place: usize, trunk: &Trunk) -> String {
     }
 }
 
+/// A sign, whether a sheet has it, and what it means.
+type Known<'a> = (bool, String, &'a str);
+
 /// Those that the sheet has.
 fn signs(scene: &Scene) -> Vec<Sign> {
+    let marks = [
+        (
+            !scene.marks.is_empty(),
+            ring(5.0, 0.0, 1.4),
+            scene.marks.first().map_or("", Mark::means),
+        ),
+        (
+            scene.records.loose.iter().any(|one| one.at().is_some()),
+            thin("M0 0H5", BLACK) + &cross(Point { x: 5.0, y: 0.0 }, 1.3),
+            "end of a line that is not at its port: no joint",
+        ),
+        (!scene.ports.is_empty(), SQUARE.to_string(), "port"),
+        (
+            scene.tried.is_some(),
+            dashed("M0 0H10", 0.7, WARNING),
+            "refused bundle as it was tried, on no sheet",
+        ),
+    ];
+    let all = line_signs(scene).into_iter().chain(marks);
+    let there = all.filter(|(there, ..)| *there);
+    let signs = there.map(|(_, sample, text)| Sign {
+        sample,
+        start: SAMPLE + GAP,
+        size: TEXT,
+        text: text.to_string(),
+    });
+    signs.collect()
+}
+
+/// The signs of lines and what joins them.
+fn line_signs(scene: &Scene) -> [Known<'static>; 5] {
     let bundled = !scene.trunks.is_empty();
     let any = |test: fn(&Route) -> bool| bundled && scene.routes.iter().any(test);
     let mut taps = scene.trunks.iter().flat_map(|trunk| &trunk.taps);
     let halves = thin("M0 0H5", colour(0)) + &thin("M5 0H10", colour(1));
-    let all = [
+    [
         (bundled, joint(), "joint: a tap on its collector"),
         (true, crossing(), "crossing: no joint"),
         (
@@ -291,26 +330,7 @@ fn signs(scene: &Scene) -> Vec<Sign> {
             halves,
             "route in two bundles",
         ),
-        (
-            !scene.marks.is_empty(),
-            ring(5.0, 0.0, 1.4),
-            scene.marks.first().map_or("", Mark::means),
-        ),
-        (!scene.ports.is_empty(), SQUARE.to_string(), "port"),
-        (
-            scene.tried.is_some(),
-            dashed("M0 0H10", 0.7, WARNING),
-            "refused bundle as it was tried, on no sheet",
-        ),
-    ];
-    let there = all.into_iter().filter(|(there, ..)| *there);
-    let signs = there.map(|(_, sample, text)| Sign {
-        sample,
-        start: SAMPLE + GAP,
-        size: TEXT,
-        text: text.to_string(),
-    });
-    signs.collect()
+    ]
 }
 
 const OPEN_DOT: &str = "<circle cx=\"5\" cy=\"0\" r=\"0.9\" fill=\"white\" stroke=\"#222222\" \
@@ -322,9 +342,16 @@ fn thin(d: &str, colour: &str) -> String {
     format!("<path d=\"{d}\" fill=\"none\" stroke=\"{colour}\" stroke-width=\"0.35\"/>\n")
 }
 
+/// A bundle from one place of a sample to another.
+fn heavy(ends: [(f64, f64); 2], place: usize) -> String {
+    let ends = ends.map(|(x, y)| Point { x, y });
+    let stroke = Stroke::new(ends.to_vec(), HEAVIEST, Some(place));
+    marked(&[stroke], HEAVIEST, (colour(place), mark(place)), &[])
+}
+
 fn joint() -> String {
     let first = colour(0);
-    marked("M5 -1.6V1.6", 1.1, first, mark(0))
+    heavy([(5.0, -1.6), (5.0, 1.6)], 0)
         + &thin("M5 0H10", first)
         + &format!("<circle cx=\"5\" cy=\"0\" r=\"1\" fill=\"{first}\"/>\n")
 }

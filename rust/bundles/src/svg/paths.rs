@@ -2,6 +2,8 @@
 
 use bundle_stage::Point;
 
+use super::field::Rect;
+use super::marking::marks;
 use super::palette::Mark;
 use super::stroke::{Arch, Gap, Piece, Stroke};
 use super::xml::{mm, place};
@@ -207,20 +209,24 @@ pub fn path(d: &str, more: &str) -> String {
     format!("<path d=\"{d}\" {more}/>\n")
 }
 
-/// A trunk's line with its mark.
-pub fn marked(d: &str, width: f64, colour: &str, mark: Mark) -> String {
-    let line = path(
-        d,
-        &format!("stroke=\"{colour}\" stroke-width=\"{}\"", mm(width)),
-    );
-    let white = format!("stroke=\"white\" stroke-width=\"{}\"", mm(0.36 * width));
-    let inside = match mark {
-        Mark::Plain => String::new(),
-        Mark::Dashed(dashes) => {
-            let dashes = dashes.iter().map(|dash| mm(dash * width));
-            let dashes = dashes.collect::<Vec<_>>().join(" ");
-            path(d, &format!("{white} stroke-dasharray=\"{dashes}\""))
-        }
+/// A trunk's strokes, each line with its marks, but for what is covered.
+pub fn marked(
+    strokes: &[Stroke],
+    width: f64,
+    (colour, mark): (&str, Mark),
+    covered: &[Rect],
+) -> String {
+    let lines = strokes.iter().map(line).collect::<String>();
+    let ink = |colour: &str, width: f64| {
+        let width = mm(width);
+        format!("stroke=\"{colour}\" stroke-width=\"{width}\"")
     };
-    line + &inside
+    path(&lines, &ink(colour, width))
+        + &path(
+            &marks(strokes, mark, covered),
+            &ink("white", INSIDE * width),
+        )
 }
+
+/// How wide the white of a mark is, in widths of its trunk.
+const INSIDE: f64 = 0.36;

@@ -15,6 +15,9 @@ pub struct Pens {
     pub node: f64,
 }
 
+/// No trunk is thicker, in millimetres.
+pub const HEAVIEST: f64 = 1.1;
+
 impl Pens {
     /// As wide as the lines and taps that are near each other allow.
     pub fn of(scene: &Scene) -> Pens {
@@ -48,7 +51,7 @@ impl Pens {
         let sides = scene.nodes.iter().map(|node| node.width.min(node.height));
         let side = low(sides.collect(), 4).unwrap_or(0.0);
         let route = route.clamp(0.12, 0.35);
-        let trunk = trunk.clamp(2.5 * route, 1.1);
+        let trunk = trunk.clamp(2.5 * route, HEAVIEST);
         Pens {
             route,
             trunk,

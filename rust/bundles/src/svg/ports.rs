@@ -102,17 +102,17 @@ pub fn touched(scene: &Scene, strokes: &[Stroke]) -> Option<String> {
             continue;
         }
         let mut foreign = near(&inks, port).filter(|(what, _)| !own(scene, *what, port));
-        let at = words(scene, port.name);
+        let at = words(scene, place);
         if let Some((what, _)) = foreign.find(|(_, room)| touches(*room)) {
             return Some(format!("{} would touch {at}", name(scene, what)));
         }
         let mut others = scene.ports[..place].iter();
-        let other = others.find(|other| {
+        let other = others.position(|other| {
             touches(beside(port, other) - REACH * other.size)
-                && [port, *other].iter().all(|port| wired(scene, &inks, port))
+                && [port, other].iter().all(|port| wired(scene, &inks, port))
         });
         if let Some(other) = other {
-            return Some(format!("{at} would touch {}", words(scene, other.name)));
+            return Some(format!("{at} would touch {}", words(scene, other)));
         }
     }
     None
@@ -161,22 +161,27 @@ fn beside(one: &Port, two: &Port) -> f64 {
 /// The lines of the sheet that run through the place of a port at which they do not end, with that place
 /// and words: no paper can show them apart.
 pub fn contacts(scene: &Scene) -> impl Iterator<Item = (Point, String)> + '_ {
-    scene.ports.iter().flat_map(move |port| {
-        let routes = scene.routes.iter();
-        let routes = routes.filter(|route| !ends(scene, route, port.name));
-        let routes = routes.filter(|route| on(&route.points, port.at));
-        let trunks = scene.trunks.iter();
-        let trunks = trunks.filter(|trunk| trunk.endpoint != port.name);
-        let trunks = trunks.filter(|trunk| {
-            let mut parts = trunk.parts().into_iter();
-            parts.any(|(a, b)| on(&[a, b], port.at))
-        });
-        let routes = routes.map(|route| route_words(scene, route));
-        let all = routes.chain(trunks.map(|trunk| trunk_words(scene, trunk)));
-        let at = words(scene, port.name);
-        let said = move |what| format!("{what} lies on the place of {at} and does not end there");
-        all.map(move |what| (port.at, said(what)))
-    })
+    scene
+        .ports
+        .iter()
+        .enumerate()
+        .flat_map(move |(place, port)| {
+            let routes = scene.routes.iter().enumerate();
+            let routes = routes.filter(|(_, route)| !ends(scene, route, port.name));
+            let routes = routes.filter(|(_, route)| on(&route.points, port.at));
+            let trunks = scene.trunks.iter();
+            let trunks = trunks.filter(|trunk| trunk.endpoint != port.name);
+            let trunks = trunks.filter(|trunk| {
+                let mut parts = trunk.parts().into_iter();
+                parts.any(|(a, b)| on(&[a, b], port.at))
+            });
+            let routes = routes.map(|(route, _)| route_words(scene, route));
+            let all = routes.chain(trunks.map(|trunk| trunk_words(scene, trunk)));
+            let at = words(scene, place);
+            let said =
+                move |what| format!("{what} lies on the place of {at} and does not end there");
+            all.map(move |what| (port.at, said(what)))
+        })
 }
 
 /// Whether a point lies on a line. A slanted line may pass it by what its sums round.
@@ -199,7 +204,7 @@ fn of_stroke(scene: &Scene, place: usize) -> &Trunk {
 fn name(scene: &Scene, what: What<'_>) -> String {
     match what {
         What::Stroke(stroke) => match scene.routes.get(stroke) {
-            Some(route) => route_words(scene, route),
+            Some(_) => route_words(scene, stroke),
             None => trunk_words(scene, of_stroke(scene, stroke)),
         },
         What::Dot(trunk, tap) => {
@@ -219,17 +224,20 @@ fn called(what: String, name: Option<&str>) -> String {
     }
 }
 
-fn route_words(scene: &Scene, route: &Route) -> String {
-    called(format!("route {}", route.id), scene.names.edge(route.id))
+fn route_words(scene: &Scene, place: usize) -> String {
+    let (route, record) = (&scene.routes[place], &scene.records.routes[place]);
+    called(format!("route {}", route.id), scene.names.of(record.item))
 }
 
 fn trunk_words(scene: &Scene, trunk: &Trunk) -> String {
     called(format!("bundle {}", trunk.id), scene.names.bundle(trunk.id))
 }
 
-/// A port and its node.
-pub fn words(scene: &Scene, Endpoint { node, port }: Endpoint) -> String {
+/// A port by its place, and its node.
+fn words(scene: &Scene, place: usize) -> String {
+    let Endpoint { node, port } = scene.ports[place].name;
     let of = called(format!("node {node}"), scene.names.node(node));
-    let port = called(format!("port {port}"), scene.names.port(node, port));
+    let name = scene.names.of(scene.records.ports[place].item);
+    let port = called(format!("port {port}"), name);
     format!("{port} of {of}")
 }

@@ -3,12 +3,16 @@
 use std::collections::HashMap;
 
 use bundle_stage::{
-    Board, Crossing, Edge, Endpoint, FalseJoint, Id, Node, Point, Role, Segment, Sheet, Side,
+    Board, Bundle, Crossing, DrawnBundle, Edge, Endpoint, FalseJoint, Id, Node, Point, Role,
+    Segment, Sheet, Side,
 };
 
 use crate::joints::{name, words};
+use crate::keys::Keys;
 use crate::names::Names;
+use crate::places::Places;
 
+use super::records::Records;
 use super::tried::Tried;
 
 #[derive(Clone)]
@@ -21,6 +25,7 @@ pub struct Scene {
     /// How often each bundle and route cross, by their places, if that is known.
     pub crossings: Option<HashMap<(usize, usize), Crossed>>,
     pub tried: Option<Tried>,
+    pub records: Records,
     pub names: Names,
     /// How many nodes, ports, routes and bundles have a number that no page can show.
     pub left_out: usize,
@@ -68,6 +73,8 @@ pub struct Trunk {
 #[derive(Clone)]
 pub struct Tap {
     pub edge: Id,
+    /// Its id in the picture.
+    pub key: String,
     pub at: Point,
     /// It lies on the collector. At the rail, with lanes out of order, it need not.
     pub held: bool,
@@ -120,6 +127,29 @@ impl Route {
 }
 
 impl Trunk {
+    /// A bundle as it is drawn, with the ids of its taps in the picture.
+    fn of(bundle: &Bundle, drawn: &DrawnBundle, keys: impl Iterator<Item = String>) -> Trunk {
+        let taps = drawn.taps.iter().zip(keys);
+        let taps = taps.map(|(tap, key)| Tap {
+            edge: tap.edge,
+            key,
+            at: tap.point,
+            held: holds(drawn.collector, tap.point),
+            radius: 0.0,
+        });
+        Trunk {
+            id: drawn.id,
+            endpoint: bundle.endpoint,
+            role: bundle.role,
+            interior: drawn.interior,
+            width: bundle.width,
+            collector: drawn.collector,
+            spine: drawn.spine,
+            taps: taps.collect(),
+            weight: 0.0,
+        }
+    }
+
     pub fn parts(&self) -> [(Point, Point); 2] {
         [self.collector, self.spine].map(|part| (part.start, part.end))
     }
@@ -128,54 +158,37 @@ impl Trunk {
 impl Scene {
     /// The finished sheet. Sizes, ports, roles and members are the board's.
     pub fn of_sheet(board: &Board, sheet: &Sheet) -> Scene {
-        let placed = |node: &Node| {
+        let placed = |(place, node): (usize, &Node)| {
             let at = sheet.node(node.id)?;
-            Some(Node {
-                x: at.x,
-                y: at.y,
-                ..*node
-            })
+            let (x, y) = (at.x, at.y);
+            Some((place, Node { x, y, ..*node }))
         };
-        let nodes = board.nodes.iter().filter_map(placed).collect();
-        let mut scene = Scene::of_nodes(board, nodes);
+        let nodes = board.nodes.iter().enumerate().filter_map(placed).collect();
+        let mut keys = Keys::of(board, Some(sheet));
+        let mut scene = Scene::of_nodes(board, nodes, &keys);
         for (place, route) in sheet.routes.iter().enumerate() {
             // An answer has its routes in the order of the board's edges.
             let edge = board.edges.get(place).filter(|edge| edge.id == route.id);
             if let Some(edge) = edge.or(board.edge(route.id)) {
-                scene.add_route(edge, &route.points);
+                scene.add_route((place, edge), &route.points, &keys);
             }
         }
-        for drawn in &sheet.bundles {
-            let Some(bundle) = board.bundle(drawn.id) else {
-                continue;
-            };
-            let taps = drawn.taps.iter().map(|tap| Tap {
-                edge: tap.edge,
-                at: tap.point,
-                held: holds(drawn.collector, tap.point),
-                radius: 0.0,
-            });
-            let trunk = Trunk {
-                id: drawn.id,
-                endpoint: bundle.endpoint,
-                role: bundle.role,
-                interior: drawn.interior,
-                width: bundle.width,
-                collector: drawn.collector,
-                spine: drawn.spine,
-                taps: taps.collect(),
-                weight: 0.0,
-            };
-            scene.add_trunk(trunk);
+        for (place, drawn) in sheet.bundles.iter().enumerate() {
+            if let Some(bundle) = board.bundle(drawn.id) {
+                let trunk = Trunk::of(bundle, drawn, keys.taps[place].drain(..));
+                scene.add_trunk((place, trunk), &keys);
+            }
         }
         scene
     }
 
     /// The board as it was given, without its bundles.
     pub fn of_board(board: &Board) -> Scene {
-        let mut scene = Scene::of_nodes(board, board.nodes.clone());
-        for edge in &board.edges {
-            scene.add_route(edge, &edge.points);
+        let nodes = board.nodes.iter().copied().enumerate().collect();
+        let keys = Keys::of(board, None);
+        let mut scene = Scene::of_nodes(board, nodes, &keys);
+        for (place, edge) in board.edges.iter().enumerate() {
+            scene.add_route((place, edge), &edge.points, &keys);
         }
         scene
     }
@@ -200,31 +213,33 @@ impl Scene {
         });
     }
 
-    fn of_nodes(board: &Board, nodes: Vec<Node>) -> Scene {
+    fn of_nodes(board: &Board, nodes: Vec<(usize, Node)>, keys: &Keys) -> Scene {
         let count = nodes.len() + board.ports.len();
-        let nodes = nodes.into_iter().filter(shown_node).collect::<Vec<_>>();
-        // Of nodes with the same id, which are refused, the first counts.
-        let by_id = nodes.iter().rev().map(|node| (node.id, *node));
-        let by_id = by_id.collect::<HashMap<_, _>>();
-        let port = |port: &bundle_stage::Port| {
-            let at = by_id.get(&port.node)?.port_point(port);
+        let nodes = nodes.into_iter().filter(|(_, node)| shown_node(node));
+        let (places, nodes): (Vec<usize>, Vec<Node>) = nodes.unzip();
+        let homes = Places::of(board);
+        let by_place = places.iter().zip(&nodes).collect::<HashMap<_, _>>();
+        let port = |(place, port): (usize, &bundle_stage::Port)| {
+            let at = by_place.get(&homes.home(place)?)?.port_point(port);
             let name = Endpoint {
                 node: port.node,
                 port: port.id,
             };
-            let side = port.side;
-            shown(at).then_some(Port {
+            let port = Port {
                 name,
                 at,
-                side,
+                side: port.side,
                 low: at,
                 high: at,
                 size: 0.0,
-            })
+            };
+            shown(at).then_some((place, port))
         };
-        let ports = board.ports.iter().filter_map(port).collect::<Vec<_>>();
+        let ports = board.ports.iter().enumerate().filter_map(port);
+        let (ports_at, ports): (Vec<usize>, Vec<Port>) = ports.unzip();
         Scene {
             left_out: count - nodes.len() - ports.len(),
+            records: Records::of(board, (&places, &ports_at), keys),
             nodes,
             ports,
             routes: Vec::new(),
@@ -236,11 +251,12 @@ impl Scene {
         }
     }
 
-    fn add_route(&mut self, edge: &Edge, points: &[Point]) {
+    fn add_route(&mut self, (place, edge): (usize, &Edge), points: &[Point], keys: &Keys) {
         if !points.iter().all(|at| shown(*at)) {
             self.left_out += 1;
             return;
         }
+        self.records.add_route(place, edge.id, keys);
         self.routes.push(Route {
             id: edge.id,
             source: edge.source,
@@ -251,13 +267,14 @@ impl Scene {
         });
     }
 
-    fn add_trunk(&mut self, trunk: Trunk) {
+    fn add_trunk(&mut self, (turn, trunk): (usize, Trunk), keys: &Keys) {
         let ends = trunk.parts().into_iter().flat_map(|(a, b)| [a, b]);
         let taps = trunk.taps.iter().map(|tap| tap.at);
         if !ends.chain(taps).all(shown) {
             self.left_out += 1;
             return;
         }
+        self.records.add_trunk(turn, trunk.id, keys);
         let place = self.trunks.len();
         for tap in &trunk.taps {
             let member = self.routes.iter_mut().find(|route| route.id == tap.edge);

@@ -1,12 +1,12 @@
 //! Nodes, ports, routes and bundles as SVG: a group with a title for each.
 
-use bundle_stage::{Endpoint, Id, Node};
+use bundle_stage::{Endpoint, Item, Node};
 
 use super::field::{Rect, moved};
 use super::palette::{WARNING, colour, mark};
 use super::paths::{line, marked, path};
 use super::pens::Pens;
-use super::scene::{MARK, Route, Scene, Tap};
+use super::scene::{MARK, Port, Route, Scene, Tap};
 use super::stroke::{Stroke, halves};
 use super::xml::{escaped, mm, wide_bold, words};
 
@@ -15,7 +15,8 @@ fn name(endpoint: Endpoint) -> String {
 }
 
 /// A name behind an id, where there is one.
-fn called(name: Option<&str>) -> String {
+fn called(scene: &Scene, item: Item) -> String {
+    let name = scene.names.of(item);
     name.map(|name| format!(" {}", escaped(name)))
         .unwrap_or_default()
 }
@@ -26,20 +27,21 @@ pub fn nodes(scene: &Scene, pens: &Pens, ink: &str) -> String {
          fill-opacity=\"0.6\">\n",
         mm(pens.node)
     );
-    for Node {
-        id,
-        x,
-        y,
-        width,
-        height,
-    } in &scene.nodes
-    {
+    for (node, record) in scene.nodes.iter().zip(&scene.records.nodes) {
+        let Node {
+            id,
+            x,
+            y,
+            width,
+            height,
+        } = node;
         // A side of no length would not show.
         let (width, height) = (width.max(0.4), height.max(0.4));
         svg.push_str(&format!(
-            "<g class=\"node\" id=\"node-{id}\"><title>node {id}{}</title><rect x=\"{}\" y=\"{}\" \
+            "<g class=\"node\" id=\"{}\"><title>node {id}{}</title><rect x=\"{}\" y=\"{}\" \
              width=\"{}\" height=\"{}\"/></g>\n",
-            called(scene.names.node(*id)),
+            record.key,
+            called(scene, record.item),
             mm(*x),
             mm(*y),
             mm(width),
@@ -52,56 +54,82 @@ pub fn nodes(scene: &Scene, pens: &Pens, ink: &str) -> String {
 /// Squares over the lines that end there.
 pub fn ports(scene: &Scene, ink: &str) -> String {
     let mut svg = format!("<g class=\"ports\" stroke=\"{ink}\" fill=\"white\">\n");
-    for port in &scene.ports {
+    for (port, record) in scene.ports.iter().zip(&scene.records.ports) {
         let half = port.size / 2.0;
         svg.push_str(&format!(
-            "<rect class=\"port\" id=\"port-{}-{}\" x=\"{}\" y=\"{}\" width=\"{}\" height=\"{}\" \
+            "<rect class=\"port\" id=\"{}\" x=\"{}\" y=\"{}\" width=\"{}\" height=\"{}\" \
              stroke-width=\"{}\"><title>port {}{}</title></rect>\n",
-            port.name.node,
-            port.name.port,
+            record.key,
             mm(port.low.x - half),
             mm(port.low.y - half),
             mm(port.high.x - port.low.x + port.size),
             mm(port.high.y - port.low.y + port.size),
             mm(port.size / 4.0),
             name(port.name),
-            called(scene.names.port(port.name.node, port.name.port)),
+            called(scene, record.item),
         ));
     }
     svg + "</g>\n"
 }
 
-/// Routes, and bundles over them.
-pub fn lines(scene: &Scene, strokes: &[Stroke], pens: &Pens, ink: &str) -> String {
+/// The square of a port with its frame.
+pub fn square(port: &Port) -> Rect {
+    Rect::of(port.low, port.high, 0.625 * port.size)
+}
+
+/// Routes, and bundles over them. No mark of a bundle is partly covered by what is drawn over it.
+pub fn lines(
+    scene: &Scene,
+    (strokes, pens): (&[Stroke], &Pens),
+    covered: &[Rect],
+    ink: &str,
+) -> String {
     let mut routes = String::new();
     let mut bundles = String::new();
     let (of_routes, of_trunks) = strokes.split_at(scene.routes.len());
-    for (route, stroke) in scene.routes.iter().zip(of_routes) {
+    for (place, (route, stroke)) in scene.routes.iter().zip(of_routes).enumerate() {
         routes.push_str(&format!(
-            "<g class=\"route\" id=\"route-{}\"><title>{}</title>\n{}</g>\n",
-            route.id,
-            about_route(scene, route),
+            "<g class=\"route\" id=\"{}\"><title>{}</title>\n{}</g>\n",
+            scene.records.routes[place].key,
+            about_route(scene, place),
             coloured(route, stroke, ink)
         ));
     }
-    for (place, (trunk, strokes)) in scene.trunks.iter().zip(of_trunks.chunks(2)).enumerate() {
-        let d = strokes.iter().map(line).collect::<String>();
-        let taps = trunk.taps.iter();
-        let taps = taps.map(|tap| dot(trunk.id, tap, pens, colour(place)));
-        bundles.push_str(&format!(
-            "<g class=\"bundle\" id=\"bundle-{}\"><title>bundle {}{} at {}</title>\n{}{}</g>\n",
-            trunk.id,
-            trunk.id,
-            called(scene.names.bundle(trunk.id)),
-            name(trunk.endpoint),
-            marked(&d, trunk.weight, colour(place), mark(place)),
-            taps.collect::<String>()
-        ));
+    for (place, strokes) in of_trunks.chunks(2).enumerate() {
+        bundles.push_str(&bundle(scene, place, (strokes, pens), covered));
     }
     format!(
         "<g class=\"routes\" fill=\"none\" stroke-width=\"{}\">\n{routes}</g>\n\
          <g class=\"bundles\" fill=\"none\">\n{bundles}</g>\n",
         mm(pens.route)
+    )
+}
+
+/// A bundle with its dots, which cover its marks too.
+fn bundle(
+    scene: &Scene,
+    place: usize,
+    (strokes, pens): (&[Stroke], &Pens),
+    covered: &[Rect],
+) -> String {
+    let (trunk, record) = (&scene.trunks[place], &scene.records.trunks[place]);
+    let taps = trunk.taps.iter();
+    let dots = taps.clone().map(|tap| Rect::of(tap.at, tap.at, tap.radius));
+    let covered = covered.iter().copied().chain(dots).collect::<Vec<_>>();
+    let taps = taps.map(|tap| dot(tap, pens, colour(place)));
+    format!(
+        "<g class=\"bundle\" id=\"{}\"><title>bundle {}{} at {}</title>\n{}{}</g>\n",
+        record.key,
+        trunk.id,
+        called(scene, record.item),
+        name(trunk.endpoint),
+        marked(
+            strokes,
+            trunk.weight,
+            (colour(place), mark(place)),
+            &covered
+        ),
+        taps.collect::<String>()
     )
 }
 
@@ -118,21 +146,25 @@ fn coloured(route: &Route, stroke: &Stroke, ink: &str) -> String {
     }
 }
 
-fn about_route(scene: &Scene, route: &Route) -> String {
+fn about_route(scene: &Scene, place: usize) -> String {
+    let route = &scene.routes[place];
     let bundles = [route.input, route.output].into_iter().flatten();
     let bundles = bundles.map(|place| format!(", bundle {}", scene.trunks[place].id));
+    let loose = scene.records.loose_of(place);
+    let loose = loose.map(|one| format!("; {}", escaped(&one.words(&scene.names))));
     format!(
-        "edge {}{} from {} to {}{}",
+        "edge {}{} from {} to {}{}{}",
         route.id,
-        called(scene.names.edge(route.id)),
+        called(scene, scene.records.routes[place].item),
         name(route.source),
         name(route.target),
-        bundles.collect::<String>()
+        bundles.collect::<String>(),
+        loose.collect::<String>()
     )
 }
 
 /// A tap's dot, an open one where it is not on its collector.
-fn dot(bundle: Id, tap: &Tap, pens: &Pens, colour: &str) -> String {
+fn dot(tap: &Tap, pens: &Pens, colour: &str) -> String {
     let (fill, more) = if tap.held {
         (colour, String::new())
     } else {
@@ -143,8 +175,8 @@ fn dot(bundle: Id, tap: &Tap, pens: &Pens, colour: &str) -> String {
         )
     };
     format!(
-        "<circle class=\"tap\" id=\"tap-{bundle}-{}\" cx=\"{}\" cy=\"{}\" r=\"{}\" fill=\"{fill}\"{more}/>\n",
-        tap.edge,
+        "<circle class=\"tap\" id=\"{}\" cx=\"{}\" cy=\"{}\" r=\"{}\" fill=\"{fill}\"{more}/>\n",
+        tap.key,
         mm(tap.at.x),
         mm(tap.at.y),
         mm(tap.radius)

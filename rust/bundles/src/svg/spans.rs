@@ -28,6 +28,13 @@ impl Way {
         }
     }
 
+    pub fn other(self) -> Way {
+        match self {
+            Way::Level => Way::Upright,
+            Way::Upright => Way::Level,
+        }
+    }
+
     pub fn along(self, point: Point) -> f64 {
         match self {
             Way::Level => point.x,
@@ -62,6 +69,13 @@ impl Span {
     /// Whether some of each lies beside the other, `slack` more being allowed.
     pub fn beside(&self, other: &Span, slack: f64) -> bool {
         self.low < other.high + slack && other.low < self.high + slack
+    }
+}
+
+impl Span {
+    /// Whether a line of the other way crosses it, ends not counting.
+    pub fn crosses(&self, other: &Span) -> bool {
+        self.low < other.at && other.at < self.high && other.low < self.at && self.at < other.high
     }
 }
 

@@ -9,6 +9,10 @@ use std::collections::BTreeMap;
 
 use bundle_stage::Point;
 
+use super::labels::on_trunk;
+use super::marking;
+use super::palette::mark;
+use super::pens::HEAVIEST;
 use super::scene::{Scene, corners};
 use super::spans::{Span, Way};
 
@@ -51,6 +55,9 @@ pub struct Needs {
     apart: Vec<Vec<(usize, f64)>>,
 }
 
+/// The numbers of two places, and how far they are to be from each other.
+type Need = ((usize, usize), f64);
+
 /// Whether all lines are level or upright: a slanted one would not stay where it is.
 pub fn is_straight(scene: &Scene) -> bool {
     let mut lines = scene.lines().into_iter();
@@ -71,25 +78,70 @@ impl Needs {
             places,
         };
         let all = needs.lines(scene, lines);
+        let all = beside(&all)
+            .chain(needs.runs(scene, lines))
+            .chain(needs.over_trunks(scene, lines))
+            .chain(needs.ids(scene, lines));
         let mut most = needs.ports(scene, lines);
-        for (turn, one) in all.iter().enumerate() {
-            let beside = all[turn + 1..].iter().filter(|two| two.at > one.at);
-            for two in beside.filter(|two| one.beside(two)) {
-                let far = LINES + LANE * one.lanes.max(two.lanes) + one.more.max(two.more);
-                let need = most.entry((one.at, two.at)).or_insert(far);
-                *need = far.max(*need);
-            }
-        }
-        for (start, end) in scene.lines() {
-            let ends = [start, end].map(|at| needs.number(lines.across(at)));
-            let (low, high) = (ends[0].min(ends[1]), ends[0].max(ends[1]));
-            if low < high {
-                let need = most.entry((low, high)).or_insert(RUN);
-                *need = RUN.max(*need);
-            }
+        for (pair, far) in all {
+            let need = most.entry(pair).or_insert(far);
+            *need = far.max(*need);
         }
         for ((low, high), far) in most {
             needs.apart[high].push((low, far));
+        }
+        needs
+    }
+
+    /// How long lines are to be.
+    fn runs(&self, scene: &Scene, way: Way) -> Vec<Need> {
+        let runs = scene.lines().into_iter().map(|(start, end)| {
+            let ends = [start, end].map(|at| self.number(way.across(at)));
+            ((ends[0].min(ends[1]), ends[0].max(ends[1])), RUN)
+        });
+        runs.filter(|((low, high), _)| low < high).collect()
+    }
+
+    /// Room for the id of each bundle: on its spine, where nothing goes over it for longest on the sheet.
+    fn ids(&self, scene: &Scene, way: Way) -> Vec<Need> {
+        let spans = way.spans(&scene.lines());
+        let needs = scene.trunks.iter().filter_map(|trunk| {
+            let spine = trunk.spine;
+            let part = way.other().span(spine.start, spine.end)?;
+            let over = spans.iter().filter(|span| span.crosses(&part));
+            let mut places = over.map(|span| span.at).collect::<Vec<_>>();
+            places.extend([part.low, part.high]);
+            places.sort_by(f64::total_cmp);
+            let long = |two: &&[f64]| two[1] - two[0];
+            let parts = places.windows(2);
+            let part = parts.max_by(|a, b| long(a).total_cmp(&long(b)))?;
+            let pair = (self.number(part[0]), self.number(part[1]));
+            Some((pair, on_trunk(&format!("B{}", trunk.id))))
+        });
+        needs.collect()
+    }
+
+    /// How far lines that go over a trunk one after the other are to be from each other, so that enough of it
+    /// is seen between them; those on one line are drawn in lanes.
+    fn over_trunks(&self, scene: &Scene, way: Way) -> Vec<Need> {
+        let spans = way.spans(&scene.lines());
+        let mut needs = Vec::new();
+        for (place, trunk) in scene.trunks.iter().enumerate() {
+            let pitch = marking::pitch(mark(place), HEAVIEST);
+            for (a, b) in trunk.parts() {
+                let Some(part) = way.other().span(a, b) else {
+                    continue;
+                };
+                let mut over = BTreeMap::<usize, f64>::new();
+                for span in spans.iter().filter(|span| span.crosses(&part)) {
+                    *over.entry(self.number(span.at)).or_default() += 1.0;
+                }
+                let over = over.into_iter().collect::<Vec<_>>();
+                needs.extend(over.windows(2).map(|two| {
+                    let [(low, first), (high, last)] = [two[0], two[1]];
+                    ((low, high), pitch * (first + last) / 2.0)
+                }));
+            }
         }
         needs
     }
@@ -120,40 +172,18 @@ impl Needs {
 
     /// The lines that go one way, and the ends of those that go the other, by their places.
     fn lines(&self, scene: &Scene, way: Way) -> Vec<Line> {
-        let runs = scene
-            .routes
-            .iter()
-            .flat_map(|route| route.points.windows(2));
-        let runs = runs.map(|run| ((run[0], run[1]), 0.0));
-        let trunks = scene.trunks.iter().flat_map(|trunk| trunk.parts());
-        let trunks = trunks.map(|part| (part, TRUNK));
-        let parts = runs.chain(trunks).collect::<Vec<_>>();
-        let sides = scene.nodes.iter().flat_map(|node| {
-            let [a, c] = corners(node);
-            let (b, d) = (Point { x: c.x, y: a.y }, Point { x: a.x, y: c.y });
-            [((a, b), 0.0), ((d, c), 0.0), ((a, d), 0.0), ((b, c), 0.0)]
+        let lines = spans(scene, way).into_iter().map(|(span, more)| Line {
+            at: self.number(span.at),
+            span,
+            more,
+            lanes: 0.0,
         });
-        let spans = parts.iter().copied().chain(sides);
-        let spans = spans.filter_map(|((a, b), more)| Some((way.span(a, b)?, more)));
-        let ends = parts
-            .iter()
-            .flat_map(|((a, b), more)| [(*a, *more), (*b, *more)]);
-        let ends = ends.map(|(end, more)| {
-            let (at, along) = (way.across(end), way.along(end));
-            let (low, high) = (along, along);
-            (Span { at, low, high }, more)
-        });
-        let mut lines = spans
-            .chain(ends)
-            .map(|(span, more)| Line {
-                at: self.number(span.at),
-                span,
-                more,
-                lanes: 0.0,
-            })
-            .collect::<Vec<_>>();
+        let mut lines = lines.collect::<Vec<_>>();
         lines.sort_by_key(|line| line.at);
-        let lanes = lines.iter().map(|line| lanes(line, &lines));
+        let lanes = lines.iter().map(|line| match lanes(line, &lines) {
+            0.0 => 0.0,
+            count => count * lane(scene, way, &line.span),
+        });
         let lanes = lanes.collect::<Vec<_>>();
         for (line, lanes) in lines.iter_mut().zip(lanes) {
             line.lanes = lanes;
@@ -209,7 +239,7 @@ struct Line {
     span: Span,
     /// More room beside it.
     more: f64,
-    /// How many others lie on it.
+    /// Room for others that lie on it.
     lanes: f64,
 }
 
@@ -219,6 +249,63 @@ impl Line {
         let (a, b) = (&self.span, &other.span);
         a.low < b.high && b.low < a.high
     }
+}
+
+/// How far lines beside each other are to be apart.
+fn beside(lines: &[Line]) -> impl Iterator<Item = Need> {
+    lines.iter().enumerate().flat_map(|(turn, one)| {
+        let behind = lines[turn + 1..].iter().filter(|two| two.at > one.at);
+        let beside = behind.filter(|two| one.beside(two));
+        beside.map(|two| {
+            let far = LINES + one.lanes.max(two.lanes) + one.more.max(two.more);
+            ((one.at, two.at), far)
+        })
+    })
+}
+
+/// The lines that go one way, sides of nodes too, and the ends of all lines, each with the room that is to
+/// be more beside it.
+fn spans(scene: &Scene, way: Way) -> Vec<(Span, f64)> {
+    let routes = scene.routes.iter();
+    let runs = routes.flat_map(|route| route.points.windows(2));
+    let runs = runs.map(|run| ((run[0], run[1]), 0.0));
+    let trunks = scene.trunks.iter().flat_map(|trunk| trunk.parts());
+    let trunks = trunks.map(|part| (part, TRUNK));
+    let parts = runs.chain(trunks).collect::<Vec<_>>();
+    let sides = sides(scene).map(|side| (side, 0.0));
+    let spans = parts.iter().copied().chain(sides);
+    let spans = spans.filter_map(|((a, b), more)| Some((way.span(a, b)?, more)));
+    let ends = parts
+        .iter()
+        .flat_map(|((a, b), more)| [(a, more), (b, more)]);
+    let ends = ends.map(|(end, more)| {
+        let (at, along) = (way.across(*end), way.along(*end));
+        let (low, high) = (along, along);
+        (Span { at, low, high }, *more)
+    });
+    spans.chain(ends).collect()
+}
+
+/// The sides of nodes.
+fn sides(scene: &Scene) -> impl Iterator<Item = (Point, Point)> {
+    scene.nodes.iter().flat_map(|node| {
+        let [a, c] = corners(node);
+        let (b, d) = (Point { x: c.x, y: a.y }, Point { x: a.x, y: c.y });
+        [(a, b), (d, c), (a, d), (b, c)]
+    })
+}
+
+/// The room for a lane where routes lie on one line: more over a trunk.
+fn lane(scene: &Scene, way: Way, span: &Span) -> f64 {
+    let trunks = scene.trunks.iter().enumerate();
+    let over = trunks.filter_map(|(place, trunk)| {
+        let parts = trunk.parts().map(|(a, b)| way.other().span(a, b));
+        let mut parts = parts.into_iter().flatten();
+        let crossed = parts.any(|part| span.crosses(&part));
+        crossed.then(|| marking::pitch(mark(place), HEAVIEST))
+    });
+    // Lanes take at most nine tenths of what is beside them.
+    over.fold(LANE, |most, pitch| most.max(pitch / 0.9))
 }
 
 /// How many lines lie on a line, or on one that lies on it.

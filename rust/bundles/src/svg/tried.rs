@@ -19,8 +19,8 @@ pub struct Tried {
     taps: Vec<Point>,
     /// Where its members are led off their given routes.
     led: Vec<Segment>,
-    /// Segments of bundles drawn before it, which it meets.
-    met: Vec<Segment>,
+    /// The bundles drawn before it that it meets, each with its segments.
+    met: Vec<(Id, [Segment; 2])>,
     /// Where it was refused.
     at: Option<Point>,
 }
@@ -43,7 +43,7 @@ impl Tried {
             parts: vec![refused.spine, refused.collector],
             taps: refused.taps.iter().map(|tap| tap.point).collect(),
             led: led.collect(),
-            met: met.flat_map(|of| [of.spine, of.collector]).collect(),
+            met: met.map(|of| (of.id, [of.spine, of.collector])).collect(),
             at: attempt.at.map(middle),
         };
         let all = tried.points().all(shown);
@@ -57,7 +57,8 @@ impl Tried {
     }
 
     fn lines(&self) -> impl Iterator<Item = &Segment> {
-        self.parts.iter().chain(&self.led).chain(&self.met)
+        let met = self.met.iter().flat_map(|(_, parts)| parts);
+        self.parts.iter().chain(&self.led).chain(met)
     }
 
     pub fn moved(self, to: impl Fn(Point) -> Point) -> Tried {
@@ -70,7 +71,11 @@ impl Tried {
             parts: self.parts.into_iter().map(both).collect(),
             taps: self.taps.into_iter().map(&to).collect(),
             led: self.led.into_iter().map(both).collect(),
-            met: self.met.into_iter().map(both).collect(),
+            met: self
+                .met
+                .into_iter()
+                .map(|(id, parts)| (id, parts.map(both)))
+                .collect(),
             at: self.at.map(&to),
         }
     }
@@ -84,16 +89,21 @@ impl Tried {
     /// Over everything else: dashed lines, open dots, a ring where it was refused, and words.
     pub fn draw(&self, names: &Names, width: f64) -> String {
         let (id, name) = (self.id, self.name(names));
-        let mut svg = format!(
-            "<g class=\"refused\" fill=\"none\" pointer-events=\"none\"><title>bundle {id}{} as it was \
-             tried: refused</title>\n",
-            escaped(&name)
-        );
         let d = |parts: &[Segment]| {
             let line = |part: &Segment| format!("M{}L{}", place(part.start), place(part.end));
             parts.iter().map(line).collect::<String>()
         };
-        svg.push_str(&dashed(&d(&self.met), WIDTH, GREY));
+        let met = self.met.iter().map(|(id, parts)| {
+            let lines = dashed(&d(parts), WIDTH, GREY);
+            format!("<g class=\"met\" data-of=\"bundle-{id}\" fill=\"none\">\n{lines}</g>\n")
+        });
+        let mut svg = met.collect::<String>();
+        // No other bundle has the id: it would have been refused before anything was tried.
+        svg.push_str(&format!(
+            "<g class=\"refused\" id=\"bundle-{id}\" fill=\"none\"><title>bundle {id}{} as it was \
+             tried: refused</title>\n",
+            escaped(&name)
+        ));
         svg.push_str(&dashed(&d(&self.led), WIDTH / 2.0, WARNING));
         svg.push_str(&dashed(&d(&self.parts), WIDTH, WARNING));
         for tap in &self.taps {

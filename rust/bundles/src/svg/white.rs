@@ -4,6 +4,7 @@ use bundle_stage::{Id, Point};
 
 use super::field::Rect;
 use super::lanes::NO_STEP;
+use super::marking;
 use super::paths::{flat, gaps};
 use super::pens::Pens;
 use super::ports::{ends, touched};
@@ -114,18 +115,21 @@ fn kept(scene: &Scene, strokes: &[Stroke]) -> Option<String> {
 }
 
 fn in_dashes(stroke: &Stroke) -> bool {
+    let least = marking::kept(stroke);
     // What is left behind the last gap so far.
     let mut before: Option<f64> = None;
     (0..stroke.arches.len()).any(|turn| {
         let gaps = gaps(stroke, turn);
         // A bend is shorter than its corner.
         let around = gaps.first().zip(before);
-        let corner = around.is_some_and(|(gap, before)| before + gap.from < 1.3 * KEPT);
+        let corner = around.is_some_and(|(gap, before)| before + gap.from < 1.3 * least);
         let length = stroke.piece(turn).length();
         let last = gaps.last().map(|gap| length - gap.to);
         before = last.or(before.map(|before| before + length));
         corner
-            || gaps.windows(2).any(|two| two[1].from - two[0].to < KEPT)
+            || gaps
+                .windows(2)
+                .any(|two| two[1].from - two[0].to < least - 1e-9)
             || gaps.iter().any(|gap| gap.to - gap.from > TUNNEL)
     })
 }

@@ -7,7 +7,7 @@ use super::labels::{AROUND, NODES, pill_size};
 use super::pens::Pens;
 use super::scene::{Port, Route, Trunk, corners};
 use super::spans::Way;
-use super::stroke::{Piece, Stroke};
+use super::stroke::{Piece, Stroke, apart};
 use super::xml::{wide, wide_bold};
 
 /// A node's id or name beside it is no larger.
@@ -215,53 +215,42 @@ fn along(piece: &Piece, from_end: bool, (width, height): (f64, f64), half: f64) 
 
 // ---- bundles
 
-/// One id for each bundle, a second one at the port where the spine is long.
-pub fn bundle_wishes(place: usize, trunk: &Trunk, pens: &Pens, text: &str) -> Vec<Wish> {
-    let spine = Piece {
-        start: trunk.spine.start,
-        end: trunk.spine.end,
-    };
-    let wish = |port: bool| bundle_wish(place, trunk, port, pens, text.to_string());
-    let mut wishes = vec![wish(false)];
-    if spine.length() > LONG {
-        wishes.push(wish(true));
-    }
-    wishes
+/// The end of a spine near which an id is to stand.
+#[derive(Clone, Copy, PartialEq)]
+pub enum End {
+    Collector,
+    Port,
 }
 
-fn bundle_wish(place: usize, trunk: &Trunk, port: bool, pens: &Pens, text: String) -> Wish {
-    let [spine, collector] = [trunk.spine, trunk.collector].map(|part| Piece {
+pub fn is_long(trunk: &Trunk) -> bool {
+    apart(trunk.spine.start, trunk.spine.end) > LONG
+}
+
+/// On the spine or the collector, else beside them; over a node only where there is nowhere else, as where a
+/// trunk at the far side of its node lies over it, and never with the second id, at the port.
+pub fn bundle_wish(place: usize, trunk: &Trunk, end: End, pens: &Pens, text: &str) -> Wish {
+    let parts = [trunk.spine, trunk.collector].map(|part| Piece {
         start: part.start,
         end: part.end,
     });
     let half = pens.trunk / 2.0;
+    let text = text.to_string();
     let spots = {
         let text = text.clone();
         move |size: f64| {
             let (width, height) = pill_size(&text, size);
-            let (width, height) = (width + 2.0 * AROUND, height + 2.0 * AROUND);
-            let mut rects = Vec::new();
-            let near = width / 2.0 + 2.5 * half + 0.8;
-            let length = spine.length();
-            if length > width + 4.0 * half {
-                let places = [near, 0.25 * length, 0.5 * length, 0.75 * length];
-                let places = places.map(|at| at.min(length / 2.0).max(at.min(length - near)));
-                let places = places.map(|at| if port { at } else { length - at });
-                rects.extend(places.map(|at| Rect::around(spine.at(at, 0.0), width, height)));
-            }
-            let length = collector.length();
-            let parts = [0.5, 0.25, 0.75, 0.1, 0.9].map(|part| part * length);
-            if length > height + 1.0 {
-                rects.extend(parts.map(|at| Rect::around(collector.at(at, 0.0), width, height)));
-            }
-            for part in [trunk_box(&collector, half), trunk_box(&spine, half)] {
-                rects.extend(beside(&part, width, height));
-            }
-            let on = |rect| Spot {
-                on: Some(place),
-                ..Spot::new(rect, size)
+            let box_of = (width + 2.0 * AROUND, height + 2.0 * AROUND);
+            let rects = bundle_rects(&parts, end, half, box_of);
+            let on = |over: bool| {
+                move |rect: &Rect| Spot {
+                    on: Some(place),
+                    over,
+                    ..Spot::new(*rect, size)
+                }
             };
-            rects.into_iter().map(on).collect()
+            let outside = rects.iter().map(on(false));
+            let over = rects.iter().filter(|_| end == End::Collector);
+            outside.chain(over.map(on(true))).collect()
         }
     };
     Wish {
@@ -269,6 +258,72 @@ fn bundle_wish(place: usize, trunk: &Trunk, port: bool, pens: &Pens, text: Strin
         place,
         spots: Box::new(spots),
     }
+}
+
+/// The places that are tried for a bundle's id, best first.
+fn bundle_rects(
+    [spine, collector]: &[Piece; 2],
+    end: End,
+    half: f64,
+    (width, height): (f64, f64),
+) -> Vec<Rect> {
+    let mut rects = Vec::new();
+    let near = width / 2.0 + 2.5 * half + 0.8;
+    let length = spine.length();
+    if length > width + 4.0 * half {
+        let places = [near, 0.25 * length, 0.5 * length, 0.75 * length];
+        let places = places.map(|at| at.min(length / 2.0).max(at.min(length - near)));
+        let places = places.map(|at| if end == End::Port { at } else { length - at });
+        rects.extend(places.map(|at| Rect::around(spine.at(at, 0.0), width, height)));
+    }
+    let length = collector.length();
+    let parts = [0.5, 0.25, 0.75, 0.1, 0.9].map(|part| part * length);
+    if length > height + 1.0 {
+        rects.extend(parts.map(|at| Rect::around(collector.at(at, 0.0), width, height)));
+    }
+    let boxes = [collector, spine].map(|part| trunk_box(part, half));
+    for part in &boxes {
+        rects.extend(beside(part, width, height));
+    }
+    for part in [spine, collector] {
+        rects.extend(anywhere(part, half, (width, height)));
+    }
+    for part in &boxes {
+        rects.extend(at_corners(part, width, height));
+    }
+    rects
+}
+
+/// Places all along a part of a trunk, on it and on both sides of it.
+fn anywhere(part: &Piece, half: f64, (width, height): (f64, f64)) -> Vec<Rect> {
+    let length = part.length();
+    let (long, across) = match way(part) {
+        Some(Way::Upright) => (height, width),
+        _ => (width, height),
+    };
+    let spare = length - long;
+    if spare < 0.0 {
+        return Vec::new();
+    }
+    let steps = (spare / STEP).ceil().min(MOST_STEPS);
+    let places = (0..=steps as usize).map(|step| long / 2.0 + spare * step as f64 / steps.max(1.0));
+    let beside = across / 2.0 + half + 0.4;
+    let lefts = [0.0, beside, -beside].into_iter();
+    let points = lefts.flat_map(|left| places.clone().map(move |at| part.at(at, left)));
+    points.map(|at| Rect::around(at, width, height)).collect()
+}
+
+/// From one place that is tried along a trunk to the next, in millimetres, and how many are tried.
+const STEP: f64 = 2.0;
+const MOST_STEPS: f64 = 200.0;
+
+/// Beside the corners of something, above and below its middle.
+fn at_corners(around: &Rect, width: f64, height: f64) -> Vec<Rect> {
+    let Rect { low, high } = *around;
+    let xs = [high.x + 0.5 + width / 2.0, low.x - 0.5 - width / 2.0];
+    let ys = [low.y - 0.1 - height / 2.0, high.y + 0.1 + height / 2.0];
+    let points = xs.into_iter().flat_map(|x| ys.map(|y| Point { x, y }));
+    points.map(|at| Rect::around(at, width, height)).collect()
 }
 
 fn trunk_box(piece: &Piece, half: f64) -> Rect {

@@ -1,6 +1,6 @@
 //! A board's text.
 
-use bundle_stage::{Board, Endpoint, Flags, Visits};
+use bundle_stage::{Board, Endpoint, Flags, Item, Visits};
 
 use super::{ANSWERS, FLAGS, GRANTS, OPTIONS, ROLES, SIDES, number};
 use crate::names::Names;
@@ -15,53 +15,40 @@ pub fn write(board: &Board) -> String {
 pub fn write_named(board: &Board, names: &Names) -> String {
     let mut lines = Vec::new();
     head(&mut lines, board);
-    table(&mut lines, &board.nodes, |node| {
-        format!(
-            "node {}{} at {} size {}",
-            node.id,
-            quoted(names.node(node.id)),
-            pair(node.x, node.y),
-            pair(node.width, node.height)
-        )
+    table(&mut lines, &board.nodes, |place, node| {
+        let id = node.id;
+        let name = quoted(names, Item::Node { place, id });
+        let (at, size) = (pair(node.x, node.y), pair(node.width, node.height));
+        format!("node {id}{name} at {at} size {size}")
     });
-    table(&mut lines, &board.ports, |port| {
-        format!(
-            "port {}:{}{} {} {}",
-            port.node,
-            port.id,
-            quoted(names.port(port.node, port.id)),
-            name(&SIDES, port.side),
-            number(port.offset)
-        )
+    table(&mut lines, &board.ports, |place, port| {
+        let (node, id) = (port.node, port.id);
+        let called = quoted(names, Item::Port { place, node, id });
+        let (side, offset) = (name(&SIDES, port.side), number(port.offset));
+        format!("port {node}:{id}{called} {side} {offset}")
     });
-    table(&mut lines, &board.edges, |edge| {
+    table(&mut lines, &board.edges, |place, edge| {
+        let id = edge.id;
+        let name = quoted(names, Item::Edge { place, id });
+        let (from, to) = (endpoint(edge.source), endpoint(edge.target));
         let points = edge.points.iter().map(|point| pair(point.x, point.y));
-        format!(
-            "edge {}{} from {} to {}{}",
-            edge.id,
-            quoted(names.edge(edge.id)),
-            endpoint(edge.source),
-            endpoint(edge.target),
-            list("via", points)
-        )
+        format!("edge {id}{name} from {from} to {to}{}", list("via", points))
     });
-    table(&mut lines, &board.bundles, |bundle| {
+    table(&mut lines, &board.bundles, |place, bundle| {
+        let (id, width) = (bundle.id, bundle.width);
+        let called = quoted(names, Item::Bundle { place, id });
+        let (at, role) = (endpoint(bundle.endpoint), name(&ROLES, bundle.role));
         let members = bundle.members.iter();
         let members = members.map(|member| format!("{}@{}", member.edge, member.lane));
-        format!(
-            "bundle {}{} at {} {} width {}{}",
-            bundle.id,
-            quoted(names.bundle(bundle.id)),
-            endpoint(bundle.endpoint),
-            name(&ROLES, bundle.role),
-            bundle.width,
-            list("members", members)
-        )
+        let members = list("members", members);
+        format!("bundle {id}{called} at {at} {role} width {width}{members}")
     });
     lines.join("\n") + "\n"
 }
 
-fn quoted(name: Option<&str>) -> String {
+/// A record's own name, also where another has its id.
+fn quoted(names: &Names, item: Item) -> String {
+    let name = names.of(item);
     name.map(|name| format!(" {}", quote(name)))
         .unwrap_or_default()
 }
@@ -90,10 +77,12 @@ fn settings<T, const N: usize>(
     lines.extend(said.map(|(key, value)| format!("{key} {}", word(value))));
 }
 
-fn table<T>(lines: &mut Vec<String>, rows: &[T], line: impl Fn(&T) -> String) {
+/// A line for each row, by its place and itself.
+fn table<T>(lines: &mut Vec<String>, rows: &[T], line: impl Fn(usize, &T) -> String) {
     if !rows.is_empty() {
         lines.push(String::new());
-        lines.extend(rows.iter().map(line));
+        let rows = rows.iter().enumerate();
+        lines.extend(rows.map(|(place, row)| line(place, row)));
     }
 }
 

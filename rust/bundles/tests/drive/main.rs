@@ -7,12 +7,16 @@ mod browser;
 mod ink;
 mod keys;
 mod page;
+mod pointer;
 mod print;
+mod refused;
+mod sight;
+mod twice;
 
 use std::fs;
 
 use bundle_stage::Board;
-use bundles::html::{html, html_refused};
+use bundles::html::html;
 use bundles::names::Names;
 use bundles::svg::svg;
 use bundles::text;
@@ -73,21 +77,6 @@ fn crossings() {
 }
 
 #[test]
-fn a_refused_board() {
-    let (mut board, names) = example("clock-board");
-    let mut wire = board.edges[19].clone();
-    wire.id = 81.into();
-    for (point, y) in wire.points.iter_mut().zip([150.0, 330.0]) {
-        (point.x, point.y) = (320.0, y);
-    }
-    board.edges.push(wire);
-    let refusal = board.draw().expect_err("refused");
-    let page = html_refused(&board, refusal, &names, "refused");
-    assert!(page.contains("class=\"refused\""));
-    drive("refused", &page, 8);
-}
-
-#[test]
 fn a_largest_board() {
     let page = drawn(&largest(), &Names::default(), "largest");
     drive("largest", &page, 20);
@@ -125,6 +114,83 @@ fn a_line_over_a_node() {
     }
 }
 
+/// A route that ends short of its port: its cross is lifted and pointed at with it, and it is said that nothing
+/// is joined there.
+#[test]
+fn an_end_short_of_its_port() {
+    let board = String::from_utf8(file("examples/clock-board.txt")).expect("text");
+    let board = board.replace("via 480,220 480,300", "via 480,220 480,260");
+    let text = text::read_all(board.as_bytes()).expect("a board");
+    let page = drawn(&text.board, &text.names, "short");
+    let Some(mut page) = Page::open("short", &page) else {
+        return;
+    };
+    let cross = "svg.querySelector('.loose-end')";
+    for (key, due) in [
+        ("", "1"),
+        ("route-71", "1"),
+        ("port-5-20", "1"),
+        ("bundle-3", "0.13"),
+    ] {
+        page.browser.value(&format!("choose('{key}') + ''"));
+        let shown = page
+            .browser
+            .value(&format!("getComputedStyle({cross}).opacity + ''"));
+        assert_eq!(shown, due, "{key}");
+    }
+    page.browser.value("choose('') + ''");
+    // At the end of one of its arms.
+    let at = page.browser.value(&format!(
+        "(() => {{ const at = {cross}.querySelector('path').getPointAtLength(0.1) \
+         .matrixTransform(svg.getScreenCTM()); return at.x + ' ' + at.y; }})()"
+    ));
+    let (x, y) = at.split_once(' ').expect("a point");
+    let at = (x.parse().expect("x"), y.parse().expect("y"));
+    page.browser.mouse("mouseMoved", at, "");
+    page.seen("route-71", "the mouse on the cross");
+    let told = page
+        .browser
+        .value("[...told.children].map((line) => line.className).join()");
+    assert_eq!(told, "name,note,way");
+    let note = page
+        .browser
+        .value("told.querySelector('.note').textContent.slice(2)");
+    assert!(note.starts_with("edge 71 ends at (480, 260), not at its port 5:20, "));
+}
+
+/// The id of a node that lies over the frame of another: there the frame is pointed at, beside it the id.
+#[test]
+fn an_id_over_a_frame() {
+    let text = "port_stub 10\nroute_lane_gap 10\nedge_node_clearance 0\n\
+                minimum_parallel_wire_spacing 0\nmember_endpoint_reserve 0\n\
+                node 888 at 0,0 size 200,80\nnode 2 at 100,-20 size 150,120\n";
+    let text = text::read_all(text.as_bytes()).expect("a board");
+    let page = drawn(&text.board, &text.names, "frame");
+    let Some(mut page) = Page::open("frame", &page) else {
+        return;
+    };
+    let words = "svg.querySelector('.node-id[data-of=\"node-888\"]').getBoundingClientRect()";
+    let frame = "document.querySelector('#node-2 rect').getBoundingClientRect()";
+    let number = |page: &mut Page, what: &str| {
+        let said = page.browser.value(&format!("{what} + ''"));
+        said.parse::<f64>().expect("a number")
+    };
+    let y = number(&mut page, &format!("{words}.top + {words}.height / 2"));
+    let x = number(&mut page, &format!("{frame}.left"));
+    let (left, right) = (
+        number(&mut page, &format!("{words}.left")),
+        number(&mut page, &format!("{words}.right")),
+    );
+    assert!(
+        left + 4.0 < x && x + 4.0 < right,
+        "the id is not over the frame"
+    );
+    page.browser.mouse("mouseMoved", (x, y), "");
+    page.seen("node-2", "the mouse on the frame");
+    page.browser.mouse("mouseMoved", (left + 2.0, y), "");
+    page.seen("node-888", "the mouse on the id");
+}
+
 #[test]
 fn keys() {
     let (board, names) = example("clock-board");
@@ -132,6 +198,27 @@ fn keys() {
         page.tab();
         page.slash();
         page.held();
+    }
+}
+
+#[test]
+fn pointer() {
+    let (board, names) = example("clock-board");
+    if let Some(mut page) = Page::open("pointer", &drawn(&board, &names, "pointer")) {
+        page.buttons("bundle-3");
+        page.browser.value("whole() + ''");
+        page.drags();
+        page.two_fingers("node-4");
+    }
+}
+
+#[test]
+fn sight() {
+    let (board, names) = example("clock-board");
+    if let Some(mut page) = Page::open("sight", &drawn(&board, &names, "sight")) {
+        page.search();
+        page.address();
+        page.tab_in_sight();
     }
 }
 

@@ -24,9 +24,10 @@ const SEEN: &str = r#"(key) => {
 
 /// Looks at a thing from near, and gives a point of the screen at which, and one step around it, it is on
 /// top, by what the browser itself finds there, as `x y`; `none` where there is none, and `under` where a port
-/// is none as another has the same place.
+/// is none as another has the same place, or where a bundle is not drawn.
 const POINT: &str = r#"(key) => {
   const part = document.getElementById(key);
+  if (!part) return "under";
   const box = (port) => ["x", "y", "width", "height"].map((name) => port.getAttribute(name)).join();
   const ports = [...svg.querySelectorAll(".port")];
   const above = ports.slice(ports.indexOf(part) + 1);
@@ -78,6 +79,9 @@ impl Page {
         let path = folder.join("sheet.html");
         fs::write(&path, page).expect("a page");
         browser.open(&path);
+        let twice = "(() => { const ids = [...document.querySelectorAll('[id]')].map((part) => part.id); \
+                     return ids.filter((id, place) => ids.indexOf(id) !== place).join(); })()";
+        assert_eq!(browser.value(twice), "", "{name}: ids that stand twice");
         let keys = browser.value("ways.map((way) => way.key).join(' ')");
         let keys = keys.split(' ').map(str::to_string).collect();
         Some(Page {
@@ -93,7 +97,7 @@ impl Page {
     }
 
     /// None where it lies under another in the same place.
-    fn point(&mut self, key: &str) -> Option<(f64, f64)> {
+    pub fn point(&mut self, key: &str) -> Option<(f64, f64)> {
         let said = self.browser.value(&format!("({POINT})('{key}')"));
         assert_ne!(said, "none", "{key} is nowhere on top");
         let (x, y) = said.split_once(' ')?;
@@ -119,15 +123,7 @@ impl Page {
                 self.browser.key("Escape");
                 self.seen("all", "Escape");
             }
-            self.browser.value("document.activeElement.blur() + ''");
-            self.browser
-                .value(&format!("document.getElementById('{key}').focus() + ''"));
-            self.seen(key, "the focus");
-            self.browser.key("Enter");
-            self.browser.value("find.focus() + ''");
-            self.seen(key, "Enter");
-            self.browser.key("Escape");
-            self.seen("all", "Escape in the search");
+            self.focus(key);
             let word = self.browser.value(&format!(
                 "byKey.get('{key}').name.split(' ').slice(0, 2).join(' ')"
             ));
@@ -140,6 +136,22 @@ impl Page {
                 .value("document.getElementById('none').click() + ''");
             self.seen("all", "show all");
         }
+    }
+
+    /// The focus on a thing, and Enter there. What is not drawn has none.
+    fn focus(&mut self, key: &str) {
+        let part = format!("document.getElementById('{key}')");
+        if self.browser.value(&format!("{part} + ''")) == "null" {
+            return;
+        }
+        self.browser.value("document.activeElement.blur() + ''");
+        self.browser.value(&format!("{part}.focus() + ''"));
+        self.seen(key, "the focus");
+        self.browser.key("Enter");
+        self.browser.value("find.focus() + ''");
+        self.seen(key, "Enter");
+        self.browser.key("Escape");
+        self.seen("all", "Escape in the search");
     }
 
     /// Wheel, two fingers, keys and buttons.

@@ -2,7 +2,9 @@
 
 use bundle_stage::{Board, DrawnBundle, Id, Segment, Sheet};
 
+use super::labels::{frames, ids};
 use super::lengths::lengths;
+use super::marks::marks;
 use super::ports::{Square, ports, squares};
 use super::read::{Element, Line, beside, lines, nearest};
 use super::rings::rings;
@@ -14,6 +16,8 @@ pub struct Drawn {
     pub lines: Vec<Line>,
     /// Its paths one after the other, as they are written.
     pub paths: Vec<String>,
+    /// Those of the white mark on it.
+    pub white: Vec<String>,
     /// Its taps by middle and radius, in the bundle's order.
     pub taps: Vec<Dot>,
     /// Half the width of its lines.
@@ -31,16 +35,21 @@ pub fn drawn(elements: &[Element], class: &str) -> Vec<Drawn> {
         let inside = inside
             .take_while(|element| element.depth > group.depth)
             .collect::<Vec<_>>();
-        let paths = inside
-            .iter()
-            .filter(|element| element.name == "path" && element.value("stroke") != "white");
-        let mut widths = paths.clone().map(|path| path.value("stroke-width"));
+        let paths = inside.iter().filter(|element| element.name == "path");
+        let (white, paths) =
+            paths.partition::<Vec<_>, _>(|element| element.value("stroke") == "white");
+        let paths = paths.into_iter();
+        let ways = |of: &[&&Element]| of.iter().map(|path| path.value("d").to_string()).collect();
+        let mut widths = paths
+            .clone()
+            .map(|path: &&Element| path.value("stroke-width"));
         let all = of_class(elements, "routes")[0].value("stroke-width");
         let width = widths.next().filter(|width| !width.is_empty());
         let taps = inside.iter().filter(|element| element.name == "circle");
         let half = width.unwrap_or(all).parse::<f64>().expect("a width") / 2.0;
         Drawn {
             half,
+            white: ways(&white),
             paths: paths
                 .clone()
                 .map(|path| path.value("d").to_string())
@@ -62,12 +71,16 @@ pub fn drawn(elements: &[Element], class: &str) -> Vec<Drawn> {
 /// What is white between two lines must be wider, in millimetres.
 pub const SEEN: f64 = 0.2;
 
+/// Dots that are nearer to each other, middle from middle, stand for one place of the sheet.
+const SAME: f64 = 0.06;
 /// A picture that is read back, and the sheet that it shows.
 pub struct Shown<'a> {
     pub sheet: &'a Sheet,
     pub routes: Vec<Drawn>,
     pub bundles: Vec<Drawn>,
     pub ports: Vec<Square>,
+    /// The frames of the bundles' ids.
+    pub frames: Vec<Line>,
 }
 
 impl Shown<'_> {
@@ -113,6 +126,7 @@ pub fn false_joint(picture: &str, board: &Board, sheet: &Sheet) -> Result<(), St
         routes: drawn(&elements, "route"),
         bundles: drawn(&elements, "bundle"),
         ports: squares(&elements, board),
+        frames: frames(&elements),
     };
     for place in 0..shown.routes.len() {
         routes(&shown, place)?;
@@ -123,7 +137,9 @@ pub fn false_joint(picture: &str, board: &Board, sheet: &Sheet) -> Result<(), St
         bundles(&shown, place)?;
     }
     ports(&shown)?;
+    ids(&elements, sheet)?;
     lengths(&shown)?;
+    marks(&shown)?;
     rings(&shown)
 }
 
@@ -164,6 +180,12 @@ fn dots(shown: &Shown<'_>, place: usize) -> Result<(), String> {
         let most = if held { bundle.half } else { 0.0 };
         if *radius < most + 0.1 {
             return Err(format!("no dot to be seen at {middle:?}"));
+        }
+        for (at, wide) in &bundle.taps[turn + 1..] {
+            let far = (middle.0 - at.0).hypot(middle.1 - at.1);
+            if far > SAME && far - radius - wide < SEEN {
+                return Err(format!("dots at {middle:?} and {at:?} are as one"));
+            }
         }
     }
     Ok(())

@@ -1,13 +1,58 @@
 //! Names on the sheet: every node's, there or in the legend, and no label on a line.
 
-use bundle_stage::{Answer, Board, Id};
+use std::collections::BTreeSet;
+
+use bundle_stage::{Answer, Board, Id, Sheet};
 use bundles::names::Names;
 use bundles::text;
 
 use super::apart::{drawn, false_joint};
 use super::ports::contacts;
 use super::read::{Element, Line, elements};
-use super::{checked, each_stored, example, file, of_class};
+use super::{checked, each_stored, example, file, of_class, svg};
+
+/// Every bundle of which something is drawn has its id on the sheet, in its frame. A second one, which it does
+/// not need, lies over no node.
+pub fn ids(elements: &[Element], sheet: &Sheet) -> Result<(), String> {
+    let named = |id: Id| {
+        let of = format!("bundle-{id}");
+        let mut groups = elements.iter();
+        groups.any(|group| group.name == "g" && group.value("data-of") == of)
+    };
+    let bundles = sheet.bundles.iter().filter(|bundle| {
+        let parts = [bundle.collector, bundle.spine];
+        !bundle.taps.is_empty() || parts.iter().any(|part| part.start != part.end)
+    });
+    let mut without = bundles.map(|bundle| bundle.id).filter(|id| !named(*id));
+    if let Some(id) = without.next() {
+        return Err(format!("no id beside bundle {id}"));
+    }
+    let nodes = elements
+        .windows(3)
+        .filter(|of| of[0].value("class") == "node");
+    let nodes = nodes.map(|of| of[2].rect()).collect::<Vec<_>>();
+    let mut before = BTreeSet::new();
+    let framed = elements
+        .windows(2)
+        .map(|two| (two[0].value("data-of"), two));
+    let framed = framed.filter(|(of, _)| of.starts_with("bundle-"));
+    for (of, two) in framed.filter(|(of, _)| !before.insert(*of)) {
+        let [low, high] = two[1].rect();
+        let over =
+            |[from, to]: &Line| low.0 < to.0 && from.0 < high.0 && low.1 < to.1 && from.1 < high.1;
+        if nodes.iter().any(over) {
+            return Err(format!("the second id of {of} is over a node"));
+        }
+    }
+    Ok(())
+}
+
+/// The frames of all bundles' ids on the sheet.
+pub fn frames(elements: &[Element]) -> Vec<Line> {
+    let pairs = elements.windows(2);
+    let framed = pairs.filter(|two| two[0].value("data-of").starts_with("bundle-"));
+    framed.map(|two| two[1].rect()).collect()
+}
 
 /// A name for everything: short ones, or of so many letters.
 fn names_for(board: &Board, letters: usize) -> Names {
@@ -117,11 +162,11 @@ fn names_of_the_clock_board() {
     // The one name that has no room is counted, and is there under the pointer.
     assert!(picture.contains("No room for the names of 1 port."));
     assert!(picture.contains("<title>port 5:13 pulse missing</title>"));
-    // Names move no line.
+    // Names move no line but the marks of bundles, which keep clear of labels.
     let plain = bundles::svg::svg(&board, &sheet, &Names::default(), "named").expect("clear");
     let lines = |picture: &str| {
         let paths = elements(picture).into_iter();
-        let paths = paths.filter(|of| of.name == "path");
+        let paths = paths.filter(|of| of.name == "path" && of.value("stroke") != "white");
         paths
             .map(|of| of.value("d").to_string())
             .collect::<Vec<_>>()
@@ -165,4 +210,45 @@ fn names_of_stored_boards() {
         boards > 100 && 10 * on_sheet > 8 * nodes,
         "{on_sheet} of {nodes}"
     );
+}
+
+/// Where each bundle has room for one id alone beside those of the others, none takes that of a node.
+#[test]
+fn second_ids_leave_room() {
+    let ports = [
+        25, 29, 15, 14, 17, 13, 22, 24, 2, 4, 30, 27, 12, 5, 20, 6, 10, 28, 19, 18, 8, 21, 7, 23,
+        31, 3, 16, 0, 26, 11, 1, 9,
+    ];
+    let wires = [
+        "10,10200 10,-20 10,12600",
+        "1478,12600 1478,-20 1478,12600",
+        "202,12600 202,-20 1334,-20 1334,12600",
+        "1326,12600 1326,-20 1326,12600",
+        "1326,12600 1326,-20 750,-20 750,12600",
+        "1598,12600 1598,-20 1598,12600",
+        "1598,12600 1598,-20 682,-20 682,12600",
+        "682,12600 682,-20 682,12600",
+        "938,12600 938,-20 294,-20 294,12600",
+        "294,11800 294,-20",
+    ];
+    let mut lines = vec![
+        "port_stub 1992\nroute_lane_gap 8\nedge_node_clearance 0\nminimum_parallel_wire_spacing 0\n\
+         member_endpoint_reserve 36\nseparate_collectors yes\npermit_crossings yes"
+            .to_string(),
+    ];
+    for (id, at) in ports.iter().enumerate() {
+        let y = 400 * at - 40;
+        lines.push(format!(
+            "node {at} at -100,{y} size 100,80\nport {at}:{at} east 40"
+        ));
+        lines.push(format!("bundle {id} at {at}:{at} input width 0"));
+    }
+    let edges = wires.iter().enumerate();
+    lines.extend(edges.map(|(id, way)| format!("edge {id} from 0:0 to 0:0 via {way}")));
+    let board = text::read(lines.join("\n").as_bytes()).expect("a board");
+    let sheet = board.draw().expect("a sheet");
+    let picture = svg(&board, &sheet, "seconds");
+    assert_eq!(ids(&checked(&picture), &sheet), Ok(()));
+    let shown = of_class(&elements(&picture), "node-id").len();
+    assert_eq!(shown, 32);
 }

@@ -26,13 +26,13 @@ pub fn lengths(shown: &Shown<'_>) -> Result<(), String> {
     Ok(())
 }
 
-fn length([a, b]: Line) -> f64 {
+pub fn length([a, b]: Line) -> f64 {
     (a.0 - b.0).hypot(a.1 - b.1)
 }
 
 /// The straight parts of paths that are seen, each as it goes on: the next starts where another line is
 /// over it, or elsewhere.
-fn parts(paths: &[String]) -> Vec<Vec<Line>> {
+pub fn parts(paths: &[String]) -> Vec<Vec<Line>> {
     let mut parts: Vec<Vec<Line>> = Vec::new();
     for line in paths.iter().flat_map(|path| lines(path)) {
         match parts.last_mut() {
@@ -67,7 +67,7 @@ fn kept(drawn: &Drawn) -> Result<(), String> {
 }
 
 /// Whether one line goes on in another behind a gap.
-fn straight(before: Line, after: Line) -> bool {
+pub fn straight(before: Line, after: Line) -> bool {
     let across = |a: (f64, f64), b: (f64, f64), c: (f64, f64)| {
         let (x, y) = (b.0 - a.0, b.1 - a.1);
         ((c.0 - a.0) * y - (c.1 - a.1) * x).abs() / x.hypot(y).max(1e-9)
@@ -110,6 +110,7 @@ fn what_is_measured() {
     let of = |paths: &[&str]| Drawn {
         lines: Vec::new(),
         paths: paths.iter().map(|path| path.to_string()).collect(),
+        white: Vec::new(),
         taps: Vec::new(),
         half: 0.5,
     };

@@ -6,10 +6,13 @@ mod apart;
 mod at_ports;
 mod labels;
 mod lengths;
+mod loose;
+mod marks;
 mod ports;
 mod read;
 mod refused;
 mod rings;
+mod shifts;
 
 use std::fs;
 
@@ -167,11 +170,14 @@ fn each_stored(name: &str, mut look: impl FnMut(&Board, &Answer)) {
 
 #[test]
 fn stored_jobs() {
-    let (mut drawn, mut contacts) = (0, 0);
+    let (mut drawn, mut contacts, mut crosses) = (0, 0, 0);
     for name in ["stored/jobs.bin", "stored/largest.bin"] {
         each_stored(name, |board, answer| match answer {
             Answer::Drawn(sheet) => match clear(board, sheet, name) {
-                Ok(()) => drawn += 1,
+                Ok(count) => {
+                    drawn += 1;
+                    crosses += count;
+                }
                 Err(words) => {
                     by_contact(board, sheet, &words);
                     contacts += 1;
@@ -182,8 +188,10 @@ fn stored_jobs() {
             }
         });
     }
-    println!("{drawn} pictures, {contacts} sheets with a line at a port of others");
-    assert!(drawn > 100 && contacts > 0 && 20 * contacts < drawn);
+    println!(
+        "{drawn} pictures, {contacts} sheets with a line at a port of others, {crosses} crosses"
+    );
+    assert!(drawn > 100 && contacts > 0 && 20 * contacts < drawn && crosses > 50);
 }
 
 /// There is no picture, as the sheet itself has what the words say.
@@ -194,13 +202,16 @@ fn by_contact(board: &Board, sheet: &Sheet, words: &Unclear) {
     assert!(one, "{words}: {contacts:?}");
 }
 
-/// Draws a sheet and reads the picture back: no false joint is to be seen. Or says why there is none.
-fn clear(board: &Board, sheet: &Sheet, name: &str) -> Result<(), Unclear> {
+/// Draws a sheet and reads the picture back: no false joint is to be seen. How many ends have a cross, or why
+/// there is no picture.
+fn clear(board: &Board, sheet: &Sheet, name: &str) -> Result<usize, Unclear> {
     let picture = bundles::svg::svg(board, sheet, &Names::default(), name)?;
     all_there(&checked(&picture), sheet);
     assert_eq!(contacts(board, sheet), [""; 0], "{name}");
     assert_eq!(false_joint(&picture, board, sheet), Ok(()), "{name}");
-    Ok(())
+    let marked = loose::marked(&picture, board, sheet);
+    assert!(marked.is_ok(), "{name}: {marked:?}");
+    Ok(marked.unwrap_or_default())
 }
 
 /// All jobs in the folder that PICTURE_JOBS names, files that end in `.job`: of every sheet there is a
@@ -224,7 +235,7 @@ fn jobs_of_a_folder() {
             continue;
         };
         match clear(&board, &sheet, &name) {
-            Ok(()) => drawn += 1,
+            Ok(_) => drawn += 1,
             Err(words) => {
                 if !words.to_string().contains("on paper of ") {
                     by_contact(&board, &sheet, &words);

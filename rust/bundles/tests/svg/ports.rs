@@ -73,7 +73,7 @@ impl Square {
     }
 
     /// How near lines come, and where.
-    fn to(&self, lines: &[Line]) -> (f64, (f64, f64)) {
+    pub fn to(&self, lines: &[Line]) -> (f64, (f64, f64)) {
         let mut ends = lines.iter().flatten();
         match ends.find(|end| self.near(**end, 0.0)) {
             Some(inside) => (0.0, *inside),

@@ -117,6 +117,7 @@ pub fn rings(shown: &Shown<'_>) -> Result<(), String> {
 #[test]
 fn a_ring_is_seen() {
     let of = |path: &str| Drawn {
+        white: Vec::new(),
         lines: Vec::new(),
         paths: vec![path.to_string()],
         taps: Vec::new(),

@@ -1,0 +1,142 @@
+//! The tool's commands that draw jobs.
+
+use std::fs;
+use std::path::PathBuf;
+
+use bundle_stage::{Answer, locate, locate_planned};
+use bundles::explain::{counted, places};
+use bundles::loose::{self, Loose};
+
+use crate::Done;
+use crate::files::{Loaded, called, load, of, out};
+use crate::plans::plan_of;
+use crate::usage::Settings;
+
+pub fn draw_one(name: &str, settings: Settings<'_>) -> Result<Done, String> {
+    let plan = plan_of(settings, name)?;
+    let loaded = load(name, settings.names)?;
+    let (bytes, answer) = drawn_from(&loaded, plan.as_deref())?;
+    out(&bytes)?;
+    tell(&answer, &loaded, plan.as_deref());
+    tell_loose(&answer, &loaded);
+    Ok(done(&answer))
+}
+
+/// Says a refusal on standard error, and what it is about.
+pub fn tell(answer: &Answer, loaded: &Loaded, plan: Option<&[u8]>) {
+    if let Answer::Refused(refusal) = answer {
+        eprintln!("{}: {refusal}", called(&loaded.name));
+        eprint!("{}", located(answer, loaded, plan));
+    }
+}
+
+/// Says on standard error which ends of routes a drawing leaves off their ports.
+pub fn tell_loose(answer: &Answer, loaded: &Loaded) {
+    let told = not_joined(answer, loaded);
+    if !told.is_empty() {
+        eprint!("{}: {told}", called(&loaded.name));
+    }
+}
+
+/// The same in words, in the board's coordinates; nothing where all are at their ports.
+fn not_joined(answer: &Answer, loaded: &Loaded) -> String {
+    loose::told_shortly(&ends(answer, loaded), &loaded.names, &loaded.lines)
+}
+
+/// The ends of routes that a drawing leaves off their ports.
+pub fn ends(answer: &Answer, loaded: &Loaded) -> Vec<Loose> {
+    match (answer, loaded.board()) {
+        (Answer::Drawn(_), Ok(board)) => loose::on_board(&board),
+        _ => Vec::new(),
+    }
+}
+
+/// Draws every job that can be read. One that cannot is said, and the others are drawn.
+pub fn draw_all(names: &[&str]) -> Done {
+    let mut all = Done::Well;
+    for (place, name) in names.iter().enumerate() {
+        let turn = format!("{} of {}", place + 1, names.len());
+        match draw_beside(name) {
+            Ok((said, done)) => {
+                eprintln!("{turn}: {name}: {said}");
+                if let (Done::Refused, Done::Well) = (&done, &all) {
+                    all = done;
+                }
+            }
+            Err(message) => {
+                eprintln!("{turn}: not drawn: {message}");
+                all = Done::Unreadable;
+            }
+        }
+    }
+    all
+}
+
+/// Draws a job to a file beside it; what to say of it.
+fn draw_beside(name: &str) -> Result<(String, Done), String> {
+    let to = beside(name)?;
+    let loaded = load(name, None)?;
+    let (bytes, answer) = drawn(&loaded)?;
+    fs::write(&to, bytes).map_err(of(to.display()))?;
+    let said = match &answer {
+        Answer::Drawn(sheet) => format!("{} drawn", counted(sheet.bundles.len(), "bundle")),
+        Answer::Refused(refusal) => refusal.to_string(),
+    };
+    let places = located(&answer, &loaded, None) + &not_joined(&answer, &loaded);
+    let places = places.trim_end();
+    let gap = if places.is_empty() { "" } else { "\n" };
+    Ok((
+        format!("{said}; {}{gap}{places}", to.display()),
+        done(&answer),
+    ))
+}
+
+/// The same from a plan, if one is given.
+pub fn drawn_from(loaded: &Loaded, plan: Option<&[u8]>) -> Result<(Vec<u8>, Answer), String> {
+    let Some(plan) = plan else {
+        return drawn(loaded);
+    };
+    let bytes = bundle_stage::answer_from(&loaded.job, plan);
+    let answer = Answer::from_bytes(&bytes).map_err(of(&loaded.name))?;
+    Ok((bytes, answer))
+}
+
+/// The bytes of a job's answer, and what they say.
+fn drawn(loaded: &Loaded) -> Result<(Vec<u8>, Answer), String> {
+    let bytes = bundle_stage::answer(&loaded.job);
+    let answer = Answer::from_bytes(&bytes).map_err(of(&loaded.name))?;
+    Ok((bytes, answer))
+}
+
+/// Where a job was refused, a line for each place that the refusal is about. Of a job that is drawn from a
+/// plan, if one is given.
+pub fn located(answer: &Answer, loaded: &Loaded, plan: Option<&[u8]>) -> String {
+    let Answer::Refused(refusal) = answer else {
+        return String::new();
+    };
+    let refused = match plan {
+        Some(plan) => locate_planned(&loaded.job, plan),
+        None => locate(&loaded.job),
+    };
+    // The answer may be that of another job, or the refusal that of another output.
+    let refused = refused.filter(|refused| refused.refusal == *refusal);
+    refused.map_or(String::new(), |refused| {
+        places(&refused, &loaded.names, &loaded.lines)
+    })
+}
+
+/// Where the answer to one of several jobs goes.
+fn beside(job: &str) -> Result<PathBuf, String> {
+    if job == "-" {
+        return Err("standard input can only be the one job that is drawn".to_string());
+    }
+    let stem = job.strip_suffix(".job").unwrap_or(job);
+    Ok(PathBuf::from(format!("{stem}.answer")))
+}
+
+pub fn done(answer: &Answer) -> Done {
+    match answer {
+        Answer::Drawn(_) => Done::Well,
+        Answer::Refused(_) => Done::Refused,
+    }
+}

@@ -1,0 +1,157 @@
+//! What is read: jobs and texts.
+
+use std::fs;
+
+use super::{NO_JOB, NOTICE, bundles, example, failed, folder, out, text};
+
+/// Document 02, F-1: `-0` is packed as it stands, and drawn, explained and shown as 0 is.
+#[test]
+fn minus_zero_in_a_board() {
+    let folder = folder("minus");
+    let name = |name: &str| folder.join(name).to_str().expect("text").to_string();
+    let text_of = |zero: &str| {
+        format!(
+            "port_stub 10\nroute_lane_gap 10\nedge_node_clearance {zero}\n\
+             minimum_parallel_wire_spacing {zero}\nmember_endpoint_reserve 20\n\
+             node 1 at {zero},30 size 40,40\nnode 2 at 200,{zero} size 40,100\n\
+             node 3 at {zero},{zero} size {zero},{zero}\n\
+             port 1:1 east 20\nport 2:1 west 40\nport 2:2 west 60\nport 3:1 north {zero}\n\
+             edge 1 from 1:1 to 2:1 via 40,50 60,50 60,40 200,40\n\
+             edge 2 from 1:1 to 2:2 via 40,50 60,50 60,60 200,60\n\
+             edge 3 from 3:1 to 2:1 via {zero},{zero} 200,{zero}\n\
+             bundle 1 at 1:1 input width 2 members 1@0 2@1\n"
+        )
+    };
+    let [plus, minus] = [("plus", "0"), ("minus", "-0")].map(|(board, zero)| {
+        let job = name(&format!("{board}.job"));
+        let packed = out(0, &["pack", "-"], text_of(zero).as_bytes());
+        fs::write(&job, &packed).expect("a file");
+        assert_eq!(
+            out(0, &["pack", "-"], &out(0, &["unpack", &job], b"")),
+            packed
+        );
+        let answer = out(0, &["draw", &job], b"");
+        let explained = out(0, &["explain", "-", &job], &answer);
+        let picture = out(0, &["svg", &job, "-", "--title", "a board"], &answer);
+        let refused = out(1, &["svg", &job, "-", "--title", "a board"], NOTICE);
+        (packed, [answer, explained, picture, refused])
+    });
+    let minus_zero = (-0.0_f64).to_be_bytes();
+    let held = |job: &[u8]| job.windows(8).filter(|bytes| *bytes == minus_zero).count();
+    assert_eq!((held(&plus.0), held(&minus.0)), (0, 12));
+    assert_eq!(plus.1, minus.1);
+}
+
+/// Document 02, F-2: where a number is off the grid, its line and field and what is beside it; the job
+/// is packed all the same, and refused with 15.
+#[test]
+fn numbers_off_the_grid() {
+    let folder = folder("grid");
+    let job = folder.join("off.job").to_str().expect("text").to_string();
+    let board = "port_stub 10\nroute_lane_gap 10\nedge_node_clearance 0.1\n\
+                 minimum_parallel_wire_spacing 0\nmember_endpoint_reserve 20\n# a comment\n\
+                 node 1 at 0,30 size 40,40.5\nport 1:1 east 20\n\
+                 edge 1 from 1:1 to 1:1 via 40,50 60,1048577 40,50\n";
+    let free = bundles(&["pack"], board.as_bytes());
+    assert!(free.stderr.is_empty());
+    let output = bundles(&["pack"], format!("{board}grid yes\n").as_bytes());
+    assert_eq!(output.status.code(), Some(0));
+    let due = [
+        "edge_node_clearance is 0.1, off the drafting grid; nearest to it are 0.09375 and 0.109375",
+        "the y of point 2 of edge 1 is 1048577, off the drafting grid; nearest to it is 1048576",
+    ];
+    assert_eq!(
+        text(output.stderr),
+        format!(
+            "standard input: line 3: {}\nstandard input: line 9: {}\n",
+            due[0], due[1]
+        )
+    );
+    assert_eq!(output.stdout[5], free.stdout[5] | 4);
+    fs::write(&job, output.stdout).expect("a file");
+    let drawn = bundles(&["draw", &job], b"");
+    assert_eq!(drawn.stdout, [0, 0, 0, 2, 1, 15]);
+    let said = format!("  {}\n  {}\n", due[0], due[1]);
+    assert!(text(drawn.stderr).ends_with(&said));
+    let words = text(out(1, &["explain", "-", &job], &drawn.stdout));
+    assert!(words.starts_with("refused with 15, caused by the job's writer: "));
+    assert!(words.ends_with(&said), "{words}");
+}
+
+#[test]
+fn only_65536_bytes_of_a_job_are_looked_at() {
+    // As the program sheet: the length counts what is read, and the bytes after it are not there.
+    let mut long = vec![0; 70_000];
+    long[..6].copy_from_slice(&[0, 0, 0xff, 0xfc, 1, 8]);
+    assert_eq!(out(1, &["draw"], &long)[5], 6);
+    long[3] = 0xfd;
+    assert_eq!(out(1, &["draw"], &long)[5], 1);
+}
+
+#[test]
+fn several_jobs() {
+    let folder = folder("several");
+    let name = |name: &str| folder.join(name).to_str().expect("text").to_string();
+    for job in ["a.job", "b"] {
+        fs::copy(example("board.job"), name(job)).expect("a copy");
+    }
+    let output = bundles(&["draw", &name("a.job"), &name("b")], b"");
+    assert_eq!(output.status.code(), Some(0));
+    assert!(output.stdout.is_empty());
+    let lines = text(output.stderr);
+    let due = |turn: &str, job: &str, answer: &str| {
+        format!(
+            "{turn} of 2: {}: 8 bundles drawn; {}\n",
+            name(job),
+            name(answer)
+        )
+    };
+    assert_eq!(
+        lines,
+        due("1", "a.job", "a.answer") + &due("2", "b", "b.answer")
+    );
+    let answer = fs::read(example("board.answer")).expect("an example");
+    for written in ["a.answer", "b.answer"] {
+        assert_eq!(fs::read(name(written)).expect("an answer"), answer);
+    }
+    // One of them is refused.
+    fs::write(name("c.job"), NO_JOB).expect("a file");
+    assert!(out(1, &["draw", &name("c.job"), &name("a.job")], b"").is_empty());
+    assert_eq!(fs::read(name("c.answer")).expect("a notice"), NOTICE);
+    assert!(failed(&["draw", &name("a.job"), "-"]).contains("standard input"));
+    // One cannot be read: it is told, and the others are drawn.
+    fs::remove_file(name("b.answer")).expect("a file");
+    let said = failed(&["draw", &name("not-there.job"), &name("c.job"), &name("b")]);
+    assert!(said.contains("1 of 3: not drawn: "), "{said}");
+    assert_eq!(fs::read(name("b.answer")).expect("an answer"), answer);
+}
+
+/// A text in place of a job: it is packed, and its lines and names are told.
+#[test]
+fn texts_in_place_of_jobs() {
+    let (board, job) = (example("clock-board.txt"), example("clock-board.job"));
+    let answer = fs::read(example("clock-board.answer")).expect("an example");
+    assert_eq!(out(0, &["draw", &board], b""), answer);
+    let picture = out(0, &["svg", &job, "-"], &answer);
+    assert_eq!(out(0, &["picture", &job], b""), picture);
+    assert!(text(out(0, &["picture", &board], b"")).starts_with("<svg "));
+    let words = text(out(0, &["explain", "-", &board], &answer));
+    assert!(
+        words.contains("\nB4 time code: 2:1, 5:11, 5:12 → 7:1\n"),
+        "{words}"
+    );
+    assert!(words.contains("\nnode 5: timestamp unit\n"), "{words}");
+    let named = out(0, &["explain", "-", &job, "--names", &board], &answer);
+    assert_eq!(text(named), words);
+    let folder = folder("texts");
+    let name = |name: &str| folder.join(name).to_str().expect("text").to_string();
+    let names = out(0, &["names", &board], b"");
+    fs::write(name("board.names"), &names).expect("a file");
+    let unpacked = out(0, &["unpack", &job, "--names", &name("board.names")], b"");
+    fs::write(name("unpacked.txt"), &unpacked).expect("a file");
+    assert_eq!(out(0, &["names", &name("unpacked.txt")], b""), names);
+    assert_eq!(
+        out(0, &["pack", &name("unpacked.txt")], b""),
+        fs::read(&job).expect("a job")
+    );
+}
