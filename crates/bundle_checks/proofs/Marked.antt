@@ -7,7 +7,7 @@ use mathlib.Core.Bool.{Bool, true, false, ◌||◌}
 use native.Mathlib.Omega.{arith}
 use native.Mathlib.Numerals.{add-one}
 use lib.Dec.{eqb}
-use lib.Ieee.{Float}
+use Rattle.geometry.specs.declared.Point.{Point}
 use lib.ListN.{length, get_or, set, take, drop, length-set}
 use lib.Seq.{get_or-set_same, get_or-set_other}
 use borrow.Author.Tests.{eqb-true, eqb-false}
@@ -91,5 +91,5 @@ module _ (ms : List Member) (first n : ℕ) (h : first + n ≤ length ms) where
       let w : first + n - first ≡ n = omega arith in
       m k l ∙ ap (λ (c : ℕ). among (take c (drop first ms)) k) w ∙ among_part ms n first k h
 
-pub rows_inside : (ms : List Member) (first n : ℕ) (taps : List Float) → Tabled first n (edges_of ms) taps → first + n ≤ length ms
+pub rows_inside : (ms : List Member) (first n : ℕ) (taps : List Point) → Tabled first n (edges_of ms) taps → first + n ≤ length ms
 rows_inside ms first n taps t = let m = t.members in omega (arith, m, edges_long ms)

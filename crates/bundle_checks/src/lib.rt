@@ -2,7 +2,7 @@
 //
 // Ported from cachanova/schemweave, commit c4a1a2c60a, crates/schemweave/src/boundary_bundles.rs
 // (Apache-2.0, see NOTICE). The present routes are in slots (crate route). Member k of the table of
-// members has its tap as x and y at point k of taps; a bundle's members are count places from first on.
+// members has its tap at place k of taps; a bundle's members are count places from first on.
 
 #![tactic(auto)]
 

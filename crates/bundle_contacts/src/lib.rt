@@ -18,33 +18,32 @@ ghost use Rattle.route.specs.Lent.{routes_lent};
 ghost use Rattle.checks.specs.Lent.{chosen_lent, drawn_lent, RowsLent, taps_lent};
 
 use board::DrawnBundle;
-use checks::{BundleTaps, ChosenRoutes, MemberTaps, Rules};
+use checks::{ChosenRoutes, MemberTaps, Rules};
 use contact_test::Bus;
 use drawing::GeometryVisits;
-use geometry::{Point, RouteView, Segment};
+use geometry::{RouteView, Segment};
 use refusal::Refusal;
 
-// A segment of a bundle, and the bundle's taps.
+// A segment of a bundle, and the bundle's members with their taps.
 #[derive(Clone, Copy)]
 struct TappedBus<'a> {
     bus: Bus,
-    taps: BundleTaps<'a>,
+    taps: MemberTaps<'a>,
 }
 
 // ---- verify_new_bundle_route_contacts
 
-// A bundle's segment against a run, or against a segment of another bundle.
-fn bus_on_run(
+// A bundle's segment against one of another bundle, which has no tap on it.
+fn bus_on_segment(
     rules: Rules,
     bus: Segment,
-    tap: Option<Point>,
     run: Segment,
     visits: &mut GeometryVisits,
 ) -> Result<(), Refusal>
-    ensures { told result visits.new.0 ≡ walk 11 (due (clash rules.options rules.permits_crossings bus tap run) ∷ []) visits.old.0 }
+    ensures { told result visits.new.0 ≡ walk 11 (due (clash rules.options rules.permits_crossings bus None run) ∷ []) visits.old.0 }
 {
     looks::charge(visits)?;
-    if looks::clashes(rules, bus, tap, run) {
+    if looks::clashes(rules, bus, None, run) {
         return Err(Refusal::ForbiddenContact);
     }
     Ok(())
@@ -63,7 +62,7 @@ fn bus_on_route_run(
 {
     looks::charge(visits)?;
     let spacing = rules.options.minimum_parallel_wire_spacing;
-    if contact_test::is_apart(own.bus.line, spacing, run.start, run.end) {
+    if contact_test::is_apart(own.bus.line, spacing, run) {
         return Ok(());
     }
     if looks::clashes(
@@ -98,17 +97,16 @@ fn bus_on_route(
 fn bus_on_routes(
     rules: Rules,
     segment: Segment,
-    taps: BundleTaps,
+    taps: MemberTaps,
     chosen: ChosenRoutes,
     visits: &mut GeometryVisits,
 ) -> Result<(), Refusal>
     ensures { told result visits.new.0 ≡ walk 11 (over_routes (route_tests rules.options rules.permits_crossings segment (taps_lent taps.entry)) (chosen_lent chosen.entry) (routes_lent chosen.entry.routes) 0) visits.old.0 }
 {
-    let bus = Bus {
-        segment,
-        line: contact_test::trunk_of(segment),
+    let own = TappedBus {
+        bus: contact_test::bus_of(segment),
+        taps,
     };
-    let own = TappedBus { bus, taps };
     // By index, the route's number: the mask, the slot and the tap go by it. A loop of its own beside that of
     // paid_checks: other steps, another law.
     for e in 0..chosen.routes.counts.len() {
@@ -139,10 +137,9 @@ pub fn drawn_on_routes(
     requires { Tabled d.first d.count (edges_of table.members.now) table.taps.now }
     ensures { told result visits.new.0 ≡ walk 11 (drawn_tests rules.options rules.permits_crossings (drawn_lent table.entry d) (chosen_lent chosen.entry) (routes_lent chosen.entry.routes)) visits.old.0 }
 {
-    let own = BundleTaps {
-        table,
-        first: d.first,
-        count: d.count,
+    let own = MemberTaps {
+        members: &table.members[d.first..d.first + d.count],
+        taps: &table.taps[d.first..d.first + d.count],
     };
     bus_on_routes(rules, d.collector, own, chosen, visits)?;
     bus_on_routes(rules, d.spine, own, chosen, visits)
@@ -157,8 +154,8 @@ fn bus_on_drawn(
 ) -> Result<(), Refusal>
     ensures { told result visits.new.0 ≡ walk 11 (due (clash rules.options rules.permits_crossings a None prior.collector) ∷ due (clash rules.options rules.permits_crossings a None prior.spine) ∷ []) visits.old.0 }
 {
-    bus_on_run(rules, a, None, prior.collector, visits)?;
-    bus_on_run(rules, a, None, prior.spine, visits)
+    bus_on_segment(rules, a, prior.collector, visits)?;
+    bus_on_segment(rules, a, prior.spine, visits)
 }
 
 fn drawn_on_drawn(

@@ -1,24 +1,20 @@
 -- A bundle drawn from its parts is the one that the definitions draw.
 -- Assumes nothing.
-use Rattle.std.specs.Prelude.{Option, Some, None}
-use Prim.Native.Nat.{ℕ, ◌+◌}
-use mathlib.Core.Path.{◌≡◌, refl, sym, ap, ◌∙◌}
-use mathlib.Core.List.{List, []}
-use mathlib.Core.Bool.{true, false}
-use lib.ListN.{get_or}
-use lib.Ieee.{Float}
+use Rattle.std.specs.Prelude.{◌≡◌, refl, List, map, true, false, length, Option, Some, None, Float}
+use Rattle.std.proofs.Common.{sym, ap, ◌∙◌}
 use Rattle.geometry.specs.declared.Point.{Point}
 use Rattle.geometry.specs.declared.Segment.{Segment}
 use Rattle.geometry.specs.Points.{Route}
 use Rattle.board.specs.declared.Options.{Options}
 use Rattle.board.specs.declared.Bundle.{Bundle}
 use Rattle.board.specs.declared.Member.{Member}
+use Rattle.board.specs.declared.DrawnBundle.{DrawnBundle}
 use Rattle.board.specs.Board.{Board, rail_depth, bundle_pitch}
 use Rattle.plan.specs.Depths.{endpoint_of, members_in, pitch_of}
 use Rattle.drawing.specs.Build.{pt, seg, TapOn, Drawn, trunk_taps, lowest, highest, center, rail_taps, rail_low, rail_high, counts_interior, drawn_as, drawn_inside, rail_corner, railed, inside_or, build}
-use Rattle.checks.specs.CheckRows.{taps_from, drawn_of}
-use Rattle.checks.specs.MemberSlices.{members_from, tapped_in, interior_at, rail_point, Placed, drawn_row, inside_with, corner_with, railed_with, Row, Seen}
-use Rattle.bundle_geometry.proofs.Taps.{lowest_any, highest_any, all_any, trunk_any, center_any, rail_listed, rail_low_any, rail_high_any}
+use Rattle.checks.specs.LentRows.{taps_in, taps_of, tapped_in, rail_place}
+use Rattle.checks.specs.MemberSlices.{interior_at, drawn_row, inside_with, corner_with, railed_with, Row, Seen}
+use Rattle.bundle_geometry.proofs.Taps.{bare_of, lowest_any, highest_any, all_any, rail_low_any, rail_high_any, rail_listed}
 
 abbrev drawn_by : Options → Bundle → Segment → Segment → List TapOn → Drawn
 drawn_by o u collector spine ts = record { collector = collector; spine = spine; taps = ts; interior = interior_at (rail_depth o) (bundle_pitch o u) collector spine ts }
@@ -53,39 +49,36 @@ pub railed_row : (o : Options) (u : Bundle) (end : Point) (ts : List TapOn) → 
 unfolding railed_with drawn_row
 railed_row o u end ts = record { id = refl; first = refl; count = refl }
 
-module _ (edges lanes : List ℕ) (t : List Float) (o : Options) (u : Bundle) (end : Point) where
+-- the bundle that a row stands for, with its members and their taps
+abbrev pub with_taps : List Member → List Point → DrawnBundle → Drawn
+with_taps ms t d = record { collector = d.collector; spine = d.spine; taps = taps_of ms t; interior = d.interior }
+
+module _ (ms : List Member) (t : List Point) (o : Options) (u : Bundle) (end : Point) (long : length t ≡ length ms) where
   abbrev listed : List TapOn
-  listed = taps_from edges t u.first u.count
+  listed = taps_of ms t
 
-  abbrev bare : List TapOn
-  bare = taps_from [] t u.first u.count
-
-  abbrev those : List Member
-  those = members_from edges lanes u.first u.count
-
-  row_inside : (x : Float) → drawn_of edges t (inside_with o u end x bare) ≡ inside_by o u end x listed
+  row_inside : (x : Float) → with_taps ms t (inside_with o u end x (taps_in t)) ≡ inside_by o u end x listed
   unfolding inside_with drawn_row inside_by
-  row_inside x = rw (lowest_any edges t u.first u.count end.y, highest_any edges t u.first u.count end.y, all_any edges t u.first u.count x)
+  row_inside x = rw (bare_of ms t long, lowest_any end.y listed, highest_any end.y listed, all_any x listed)
 
-  row_rail : drawn_of edges t (railed_with o u end bare) ≡ railed_by o u end listed
+  row_rail : with_taps ms t (railed_with o u end (taps_in t)) ≡ railed_by o u end listed
   unfolding railed_with drawn_row railed_by
   row_rail =
       rw (
-        rail_low_any edges t (corner_with o u end).y u.first u.count,
-        rail_high_any edges t (corner_with o u end).y u.first u.count,
-        all_any edges t u.first u.count (corner_with o u end).x,
+        bare_of ms t long,
+        rail_low_any (corner_with o u end).y listed,
+        rail_high_any (corner_with o u end).y listed,
+        all_any (corner_with o u end).x listed,
       )
 
   abbrev pub OnRail : Type 0
-  OnRail = Placed t u.first u.count (λ k. rail_point (corner_with o u end) (center (members_from [] lanes u.first u.count)) (bundle_pitch o u) (get_or lanes (u.first + k) 0))
+  OnRail = t ≡ map (rail_place (corner_with o u end) (center ms) (bundle_pitch o u)) ms
 
-  listed_rail : OnRail → listed ≡ taps_by o u end those
-  listed_rail p =
-      rail_listed edges lanes t (corner_with o u end) (center (members_from [] lanes u.first u.count)) (bundle_pitch o u) u.first u.count p
-      ∙ ap (λ (m : Float). rail_taps (corner_with o u end) m (bundle_pitch o u) those) (center_any edges lanes u.first u.count)
+  listed_rail : OnRail → listed ≡ taps_by o u end ms
+  listed_rail p = ap (taps_of ms) p ∙ rail_listed (corner_with o u end) (center ms) (bundle_pitch o u) ms
 
-  module _ (b : Board) (s : Seen b o u end those) where
-    railed_seen : OnRail → drawn_of edges t (railed_with o u end bare) ≡ railed b u
+  module _ (b : Board) (s : Seen b o u end ms) where
+    railed_seen : OnRail → with_taps ms t (railed_with o u end (taps_in t)) ≡ railed b u
     railed_seen p =
         row_rail
         ∙ ap (railed_by o u end) (listed_rail p)
@@ -96,7 +89,7 @@ module _ (edges lanes : List ℕ) (t : List Float) (o : Options) (u : Bundle) (e
         ∙ ap (λ (q : List Member). railed_by o u end (taps_by o u end q)) s.members
         )
 
-    inside_seen : (x : Float) → drawn_of edges t (inside_with o u end x bare) ≡ drawn_inside b u x listed
+    inside_seen : (x : Float) → with_taps ms t (inside_with o u end x (taps_in t)) ≡ drawn_inside b u x listed
     inside_seen x =
         row_inside x
         ∙ sym (
@@ -105,20 +98,19 @@ module _ (edges lanes : List ℕ) (t : List Float) (o : Options) (u : Bundle) (e
         ∙ ap (λ (q : Point). inside_by o u q x listed) s.endpoint
         )
 
-    trunk_seen : (x : Float) (rs : List Route) → trunk_taps u.role (pitch_of b u) x (members_in b u) rs ≡ trunk_taps u.role (bundle_pitch o u) x (members_from edges [] u.first u.count) rs
+    trunk_seen : (x : Float) (rs : List Route) → trunk_taps u.role (pitch_of b u) x (members_in b u) rs ≡ trunk_taps u.role (bundle_pitch o u) x ms rs
     trunk_seen x rs =
         ap (λ (q : Options). trunk_taps u.role (bundle_pitch q u) x (members_in b u) rs) s.options
         ∙ ap (λ (q : List Member). trunk_taps u.role (bundle_pitch o u) x q rs) s.members
-        ∙ sym (trunk_any u.role (bundle_pitch o u) x edges lanes rs u.first u.count)
 
-    pub none_built : (rs : List Route) → OnRail → drawn_of edges t (railed_with o u end bare) ≡ build b u None rs
+    pub none_built : (rs : List Route) → OnRail → with_taps ms t (railed_with o u end (taps_in t)) ≡ build b u None rs
     unfolding build
     none_built rs p = railed_seen p
 
-    pub inside_built : (x : Float) (rs : List Route) → tapped_in true edges t u.first u.count ≡ trunk_taps u.role (bundle_pitch o u) x (members_from edges [] u.first u.count) rs → drawn_of edges t (inside_with o u end x bare) ≡ build b u (Some x) rs
+    pub inside_built : (x : Float) (rs : List Route) → tapped_in true ms t ≡ trunk_taps u.role (bundle_pitch o u) x ms rs → with_taps ms t (inside_with o u end x (taps_in t)) ≡ build b u (Some x) rs
     unfolding build inside_or tapped_in
     inside_built x rs e = inside_seen x ∙ ap (λ (q : Option (List TapOn)). inside_or q b u x) (e ∙ sym (trunk_seen x rs))
 
-    pub rail_built : (x : Float) (rs : List Route) (old : List Float) → tapped_in false edges old u.first u.count ≡ trunk_taps u.role (bundle_pitch o u) x (members_from edges [] u.first u.count) rs → OnRail → drawn_of edges t (railed_with o u end bare) ≡ build b u (Some x) rs
+    pub rail_built : (x : Float) (rs : List Route) (old : List Point) → tapped_in false ms old ≡ trunk_taps u.role (bundle_pitch o u) x ms rs → OnRail → with_taps ms t (railed_with o u end (taps_in t)) ≡ build b u (Some x) rs
     unfolding build inside_or tapped_in
     rail_built x rs old e p = railed_seen p ∙ ap (λ (q : Option (List TapOn)). inside_or q b u x) (e ∙ sym (trunk_seen x rs))

@@ -1,2 +1,3 @@
 pub mod Taps
 pub mod Built
+pub mod Windows

@@ -1,69 +1,31 @@
 -- The taps of a bundle written one after the other, and what is read of them.
 -- Assumes nothing.
-use Rattle.std.specs.Prelude.{Some, None, Option}
-use Prim.Native.Nat.{ℕ, zero, suc, ◌+◌, ◌*◌, ◌-◌, ◌≤◌, ◌<◌}
-use mathlib.Core.Path.{◌≡◌, refl, sym, ap, ◌∙◌}
-use mathlib.Core.Logic.{inl, inr, ⊎_elim}
-use mathlib.Core.List.{List, [], ◌∷◌, ◌++◌, append_assoc, append-nil}
-use mathlib.Core.Bool.{Bool, true, false, ◌&&◌}
-use native.Mathlib.Omega.{arith}
-use lib.ListN.{length, get_or}
-use lib.Ieee.{Float, binary64, eq, div}
+use Rattle.std.specs.Prelude.{Some, None, Option, ℕ, suc, ◌+◌, ◌-◌, ◌≤◌, ◌<◌, ◌≡◌, refl, List, [], ◌∷◌, ◌++◌, map, Bool, true, false, ◌&&◌, length, get_or, slice_get, take, drop, set, Float}
+use Rattle.std.specs.Float.{binary64}
+use Rattle.std.specs.Float.Ieee.{eq, div}
+use Rattle.std.proofs.Common.{sym, ap, ◌∙◌, arith}
+use Rattle.std.proofs.lemmas.List.{take_more, take_more_set, take_all}
+use Rattle.std.proofs.lemmas.Option.{none-some, same_Some, slice_get-get_or}
+use Rattle.std.proofs.Math.Seq.{length-take-le}
+use mathlib.Core.List.{append_assoc, append-nil}
 use Rattle.binary64.specs.Order.{least, greatest}
 use Rattle.geometry.specs.declared.Point.{Point}
 use Rattle.geometry.specs.declared.Role.{Role}
-use Rattle.geometry.specs.Points.{Route, point_at, put_point}
-use Rattle.route.specs.Window.{put_other, put_here}
+use Rattle.geometry.specs.Points.{Route}
+use Rattle.board.specs.declared.Member.{Member}
 use Rattle.plan.specs.Depths.{number, lane_count}
+use Rattle.plan.proofs.TableReads.{rest_cons, rest_none}
 use Rattle.drawing.specs.Build.{TapOn, route_at, trunk_met, tap_then, trunk_taps, lowest, highest, rail_tap, rail_taps, rail_low, rail_high, center, all_at}
-use Rattle.checks.specs.CheckRows.{taps_from}
-use Rattle.checks.specs.MemberSlices.{members_from, tapped_in, rail_point, Untouched, Placed}
-
--- ---- a tap put into the slice
-
-pub untouched_start : (t : List Float) (first : ℕ) → Untouched t t first 0
-untouched_start t first j h = refl
-
-pub untouched_next : (s t : List Float) (first i : ℕ) (p : Point) → Untouched s t first i → Untouched s (put_point t (first + i) p) first (i + 1)
-untouched_next s t first i p u j h = put_other t (first + i) j p (λ e. ⊎_elim (λ (l : j < first). omega arith) (λ (l : first + (i + 1) ≤ j). omega arith) h) ∙ u j (⊎_elim (λ (l : j < first). inl l) (λ (l : first + (i + 1) ≤ j). inr (omega arith)) h)
-
-pub untouched_more : (s t : List Float) (first i n : ℕ) → i ≤ n → Untouched s t first i → Untouched s t first n
-untouched_more s t first i n h u j k = u j (⊎_elim (λ (l : j < first). inl l) (λ (l : first + n ≤ j). inr (omega arith)) k)
-
-pub untouched_both : (s t u : List Float) (first n : ℕ) → Untouched s t first n → Untouched t u first n → Untouched s u first n
-untouched_both s t u first n f g j k = g j k ∙ f j k
-
-pub placed_next : (t : List Float) (first i : ℕ) (q : Point) (p : ℕ → Point) → 2 * (first + i) + 1 < length t → q ≡ p i → Placed t first i p → Placed (put_point t (first + i) q) first (i + 1) p
-placed_next t first i q p h e u k l = go (i - k) refl
-  where
-    go : (d : ℕ) → i - k ≡ d → point_at (put_point t (first + i) q) (first + k) ≡ p k
-    go zero z = let y : k ≡ i = omega arith in rw y (put_here t (first + i) q h ∙ e)
-    go (suc d) z = put_other t (first + i) (first + k) q (λ y. omega arith) ∙ u k (omega arith)
-
--- ---- lists of taps
-
-pub taps_same : (edges : List ℕ) (s t : List Float) (first n : ℕ) → ((k : ℕ) → k < n → point_at s (first + k) ≡ point_at t (first + k)) → taps_from edges s first n ≡ taps_from edges t first n
-unfolding taps_from
-taps_same edges s t first zero h = refl
-taps_same edges s t first (suc n) h =
-    let e : first + 0 ≡ first = omega arith in
-    let a : point_at s first ≡ point_at t first = ap (point_at s) (sym e) ∙ h 0 (omega arith) ∙ ap (point_at t) e in
-    rw (a, taps_same edges s t (suc first) n (λ k l. let u : suc first + k ≡ first + suc k = omega arith in ap (point_at s) u ∙ h (suc k) (omega arith) ∙ ap (point_at t) (sym u)))
-
-taps_last : (edges : List ℕ) (t : List Float) (first n : ℕ) → taps_from edges t first (suc n) ≡ taps_from edges t first n ++ (record { edge = get_or edges (first + n) 0; place = point_at t (first + n) } ∷ [])
-unfolding taps_from
-taps_last edges t first zero = let z : first + 0 ≡ first = omega arith in rw z
-taps_last edges t first (suc n) =
-    let z : first + suc n ≡ suc first + n = omega arith in
-    rw z (ap (λ (l : List TapOn). record { edge = get_or edges first 0; place = point_at t first } ∷ l) (taps_last edges t (suc first) n))
-
-pub taps_put : (edges : List ℕ) (t : List Float) (first i : ℕ) (p : Point) → 2 * (first + i) + 1 < length t → taps_from edges (put_point t (first + i) p) first (i + 1) ≡ taps_from edges t first i ++ (record { edge = get_or edges (first + i) 0; place = p } ∷ [])
-taps_put edges t first i p h =
-    let z : i + 1 ≡ suc i = omega arith in
-    let stay : taps_from edges (put_point t (first + i) p) first i ≡ taps_from edges t first i = taps_same edges (put_point t (first + i) p) t first i (λ k l. put_other t (first + i) (first + k) p (λ e. omega arith)) in
-    rw (z, taps_last edges (put_point t (first + i) p) first i, put_here t (first + i) p h, stay)
+use Rattle.checks.specs.LentRows.{bare_tap, taps_in, taps_of, tapped_in, rail_place}
 
 -- ---- taps on a trunk
+
+taps_end : (ms : List Member) (ps : List Point) (m : Member) (p : Point) → length ps ≡ length ms → taps_of (ms ++ (m ∷ [])) (ps ++ (p ∷ [])) ≡ taps_of ms ps ++ (record { edge = m.edge; place = p } ∷ [])
+unfolding taps_of
+taps_end [] [] m p e = refl
+taps_end [] (q ∷ ps) m p e = absurd (omega arith)
+taps_end (n ∷ ms) [] m p e = absurd (omega arith)
+taps_end (n ∷ ms) (q ∷ ps) m p e = ap (λ (l : List TapOn). record { edge = n.edge; place = q } ∷ l) (taps_end ms ps m p (omega arith))
 
 unfoldable pub prepend : List TapOn → Option (List TapOn) → Option (List TapOn)
 prepend ts None = None
@@ -79,181 +41,158 @@ unfolding prepend tap_then
 prepend_then ts k i p None = refl
 prepend_then ts k i p (Some us) = ap (λ (l : List TapOn). Some l) (sym (append_assoc ts (record { edge = i; place = p } ∷ []) us))
 
-module _ (role : Role) (pitch x : Float) (edges : List ℕ) (first count : ℕ) (rs : List Route) where
+module _ (role : Role) (pitch x : Float) (ms : List Member) (rs : List Route) where
   abbrev pub trunk_rest : ℕ → Option (List TapOn)
-  trunk_rest i = trunk_taps role pitch x (members_from edges [] (first + i) (count - i)) rs
+  trunk_rest i = trunk_taps role pitch x (drop i ms) rs
 
-  abbrev pub trunk_at : List Float → ℕ → Option (List TapOn)
-  trunk_at t i = prepend (taps_from edges t first i) (trunk_rest i)
+  abbrev pub trunk_at : List Point → ℕ → Option (List TapOn)
+  trunk_at t i = prepend (taps_of (take i ms) (take i t)) (trunk_rest i)
 
-  pub trunk_start : (t : List Float) → trunk_at t 0 ≡ trunk_taps role pitch x (members_from edges [] first count) rs
-  unfolding taps_from
-  trunk_start t =
-      let a : first + 0 ≡ first = omega arith in
-      let b : count - 0 ≡ count = omega arith in
-      rw (a, b) (prepend_nil (trunk_taps role pitch x (members_from edges [] first count) rs))
+  pub trunk_start : (t : List Point) → trunk_at t 0 ≡ trunk_taps role pitch x ms rs
+  unfolding taps_of
+  trunk_start t = prepend_nil (trunk_taps role pitch x ms rs)
 
-  rest_next : (i : ℕ) → i < count → trunk_rest i ≡ tap_then (trunk_met role pitch x (route_at rs (get_or edges (first + i) 0))) (get_or edges (first + i) 0) (trunk_rest (i + 1))
-  unfolding trunk_taps members_from
-  rest_next i h =
-      let a : count - i ≡ suc (count - (i + 1)) = omega arith in
-      let b : first + (i + 1) ≡ suc (first + i) = omega arith in
-      rw (a, b)
+  rest_next : (i : ℕ) (d : Member) → i < length ms → trunk_rest i ≡ tap_then (trunk_met role pitch x (route_at rs (get_or ms i d).edge)) (get_or ms i d).edge (trunk_rest (i + 1))
+  unfolding trunk_taps
+  rest_next i d h = rw (rest_cons ms i d h)
 
-  pub trunk_off : (t : List Float) (i : ℕ) → i < count → trunk_met role pitch x (route_at rs (get_or edges (first + i) 0)) ≡ None → tapped_in false edges t first count ≡ trunk_at t i
+  pub trunk_off : (t : List Point) (i : ℕ) (d : Member) → i < length ms → trunk_met role pitch x (route_at rs (get_or ms i d).edge) ≡ None → tapped_in false ms t ≡ trunk_at t i
   unfolding tapped_in prepend tap_then
-  trunk_off t i h e = rw (rest_next i h, e)
+  trunk_off t i d h e = rw (rest_next i d h, e)
 
-  pub trunk_on : (t : List Float) (i k : ℕ) (p : Point) → i < count → 2 * (first + i) + 1 < length t → trunk_met role pitch x (route_at rs (get_or edges (first + i) 0)) ≡ Some (k, p) → trunk_at (put_point t (first + i) p) (i + 1) ≡ trunk_at t i
-  trunk_on t i k p h l e =
-      ap (λ (ts : List TapOn). prepend ts (trunk_rest (i + 1))) (taps_put edges t first i p l)
-      ∙ sym (prepend_then (taps_from edges t first i) k (get_or edges (first + i) 0) p (trunk_rest (i + 1)))
-      ∙ sym (ap (λ (o : Option (List TapOn)). prepend (taps_from edges t first i) o) (rest_next i h ∙ ap (λ (c : Option (ℕ × Point)). tap_then c (get_or edges (first + i) 0) (trunk_rest (i + 1))) e))
+  pub trunk_on : (t : List Point) (i k : ℕ) (d : Member) (p : Point) → length t ≡ length ms → i < length ms → trunk_met role pitch x (route_at rs (get_or ms i d).edge) ≡ Some (k, p) → trunk_at (set t i p) (i + 1) ≡ trunk_at t i
+  trunk_on t i k d p l h e =
+      let a : take (i + 1) (set t i p) ≡ take i t ++ (p ∷ []) = take_more_set t i p (omega arith) in
+      let b : take (i + 1) ms ≡ take i ms ++ (get_or ms i d ∷ []) = take_more ms i d h in
+      let q : length (take i t) ≡ length (take i ms) = length-take-le i t (omega arith) ∙ sym (length-take-le i ms (omega arith)) in
+      let w : taps_of (take (i + 1) ms) (take (i + 1) (set t i p)) ≡ taps_of (take i ms) (take i t) ++ (record { edge = (get_or ms i d).edge; place = p } ∷ []) = rw (a, b) (taps_end (take i ms) (take i t) (get_or ms i d) p q) in
+      ap (λ (ts : List TapOn). prepend ts (trunk_rest (i + 1))) w
+      ∙ sym (prepend_then (taps_of (take i ms) (take i t)) k (get_or ms i d).edge p (trunk_rest (i + 1)))
+      ∙ sym (ap (λ (o : Option (List TapOn)). prepend (taps_of (take i ms) (take i t)) o) (rest_next i d h ∙ ap (λ (c : Option (ℕ × Point)). tap_then c (get_or ms i d).edge (trunk_rest (i + 1))) e))
 
-  pub trunk_end : (t : List Float) (i : ℕ) → i ≡ count → tapped_in true edges t first count ≡ trunk_at t i
-  unfolding tapped_in trunk_taps members_from prepend
-  trunk_end t i h =
-      let a : count - i ≡ 0 = omega arith in
-      rw (a, h, append-nil (taps_from edges t first count))
+  pub trunk_end : (t : List Point) (i : ℕ) → length t ≡ length ms → length ms ≤ i → tapped_in true ms t ≡ trunk_at t i
+  unfolding tapped_in trunk_taps prepend
+  trunk_end t i l h = rw (rest_none ms i h, take_all i ms h, take_all i t (omega arith), append-nil (taps_of ms t))
 
 -- ---- what is read of taps does not depend on their edges
 
-pub lowest_any : (edges : List ℕ) (t : List Float) (first n : ℕ) (y : Float) → lowest y (taps_from [] t first n) ≡ lowest y (taps_from edges t first n)
-unfolding taps_from lowest
-lowest_any edges t first zero y = refl
-lowest_any edges t first (suc n) y = lowest_any edges t (suc first) n (least y (point_at t first).y)
+abbrev pub bare : TapOn → TapOn
+bare t = bare_tap t.place
 
-pub highest_any : (edges : List ℕ) (t : List Float) (first n : ℕ) (y : Float) → highest y (taps_from [] t first n) ≡ highest y (taps_from edges t first n)
-unfolding taps_from highest
-highest_any edges t first zero y = refl
-highest_any edges t first (suc n) y = highest_any edges t (suc first) n (greatest y (point_at t first).y)
+pub bare_of : (ms : List Member) (ps : List Point) → length ps ≡ length ms → taps_in ps ≡ map bare (taps_of ms ps)
+unfolding taps_of
+bare_of [] [] e = refl
+bare_of [] (p ∷ ps) e = absurd (omega arith)
+bare_of (m ∷ ms) [] e = absurd (omega arith)
+bare_of (m ∷ ms) (p ∷ ps) e = ap (λ (l : List TapOn). bare_tap p ∷ l) (bare_of ms ps (omega arith))
 
-pub all_any : (edges : List ℕ) (t : List Float) (first n : ℕ) (x : Float) → all_at x (taps_from [] t first n) ≡ all_at x (taps_from edges t first n)
-unfolding taps_from all_at
-all_any edges t first zero x = refl
-all_any edges t first (suc n) x = ap (λ (b : Bool). eq (point_at t first).x x && b) (all_any edges t (suc first) n x)
+pub lowest_any : (y : Float) (ts : List TapOn) → lowest y (map bare ts) ≡ lowest y ts
+unfolding lowest
+lowest_any y [] = refl
+lowest_any y (t ∷ ts) = lowest_any (least y t.place.y) ts
 
-pub trunk_any : (role : Role) (pitch x : Float) (edges lanes : List ℕ) (rs : List Route) (first n : ℕ) → trunk_taps role pitch x (members_from edges [] first n) rs ≡ trunk_taps role pitch x (members_from edges lanes first n) rs
-unfolding members_from trunk_taps
-trunk_any role pitch x edges lanes rs first zero = refl
-trunk_any role pitch x edges lanes rs first (suc n) = ap (λ (o : Option (List TapOn)). tap_then (trunk_met role pitch x (route_at rs (get_or edges first 0))) (get_or edges first 0) o) (trunk_any role pitch x edges lanes rs (suc first) n)
+pub highest_any : (y : Float) (ts : List TapOn) → highest y (map bare ts) ≡ highest y ts
+unfolding highest
+highest_any y [] = refl
+highest_any y (t ∷ ts) = highest_any (greatest y t.place.y) ts
 
--- ---- how far taps reach
+pub all_any : (x : Float) (ts : List TapOn) → all_at x (map bare ts) ≡ all_at x ts
+unfolding all_at
+all_any x [] = refl
+all_any x (t ∷ ts) = ap (λ (b : Bool). eq t.place.x x && b) (all_any x ts)
 
-module _ (t : List Float) (first n : ℕ) where
-  abbrev pub taps_rest : ℕ → List TapOn
-  taps_rest i = taps_from [] t (first + i) (n - i)
+pub rail_low_any : (y : Float) (ts : List TapOn) → rail_low (map bare ts) y ≡ rail_low ts y
+unfolding rail_low
+rail_low_any y [] = refl
+rail_low_any y (t ∷ ts) = refl
 
-  pub taps_start : taps_rest 0 ≡ taps_from [] t first n
-  taps_start =
-      let a : first + 0 ≡ first = omega arith in
-      let b : n - 0 ≡ n = omega arith in
-      rw (a, b)
+pub rail_high_any : (y : Float) (ts : List TapOn) → rail_high (map bare ts) y ≡ rail_high ts y
+unfolding rail_high
+rail_high_any y [] = refl
+rail_high_any y (t ∷ []) = refl
+rail_high_any y (t ∷ u ∷ ts) = rail_high_any y (u ∷ ts)
 
-  pub taps_next : (i : ℕ) → i < n → taps_rest i ≡ record { edge = 0; place = point_at t (first + i) } ∷ taps_rest (i + 1)
-  unfolding taps_from
-  taps_next i h =
-      let a : n - i ≡ suc (n - (i + 1)) = omega arith in
-      let b : first + (i + 1) ≡ suc (first + i) = omega arith in
-      rw (a, b)
+-- ---- how far taps reach, point after point
 
-  pub taps_end : (i : ℕ) → n ≤ i → taps_rest i ≡ []
-  unfolding taps_from
-  taps_end i h = let a : n - i ≡ 0 = omega arith in rw a
+module _ (ps : List Point) (i : ℕ) where
+  abbrev pub taps_rest : List TapOn
+  taps_rest = taps_in (drop i ps)
 
-  pub low_next : (i : ℕ) (y : Float) → i < n → lowest (least y (point_at t (first + i)).y) (taps_rest (i + 1)) ≡ lowest y (taps_rest i)
+  abbrev pub taps_later : List TapOn
+  taps_later = taps_in (drop (i + 1) ps)
+
+  pub low_next : (y : Float) (d : Point) → i < length ps → lowest (least y (get_or ps i d).y) taps_later ≡ lowest y taps_rest
   unfolding lowest
-  low_next i y h = rw (taps_next i h)
+  low_next y d h = rw (rest_cons ps i d h)
 
-  pub high_next : (i : ℕ) (y : Float) → i < n → highest (greatest y (point_at t (first + i)).y) (taps_rest (i + 1)) ≡ highest y (taps_rest i)
+  pub high_next : (y : Float) (d : Point) → i < length ps → highest (greatest y (get_or ps i d).y) taps_later ≡ highest y taps_rest
   unfolding highest
-  high_next i y h = rw (taps_next i h)
+  high_next y d h = rw (rest_cons ps i d h)
 
-  pub low_end : (i : ℕ) (y : Float) → n ≤ i → lowest y (taps_rest i) ≡ y
+  pub low_end : (y : Float) → length ps ≤ i → lowest y taps_rest ≡ y
   unfolding lowest
-  low_end i y h = rw (taps_end i h)
+  low_end y h = rw (rest_none ps i h)
 
-  pub high_end : (i : ℕ) (y : Float) → n ≤ i → highest y (taps_rest i) ≡ y
+  pub high_end : (y : Float) → length ps ≤ i → highest y taps_rest ≡ y
   unfolding highest
-  high_end i y h = rw (taps_end i h)
+  high_end y h = rw (rest_none ps i h)
 
-  pub at_next : (i : ℕ) (x : Float) → i < n → eq (point_at t (first + i)).x x ≡ true → all_at x (taps_rest (i + 1)) ≡ all_at x (taps_rest i)
+  pub at_next : (x : Float) (d : Point) → i < length ps → eq (get_or ps i d).x x ≡ true → all_at x taps_later ≡ all_at x taps_rest
   unfolding all_at
-  at_next i x h e = rw (taps_next i h, e)
+  at_next x d h e = rw (rest_cons ps i d h, e)
 
-  pub at_off : (i : ℕ) (x : Float) → i < n → eq (point_at t (first + i)).x x ≡ false → all_at x (taps_rest i) ≡ false
+  pub at_off : (x : Float) (d : Point) → i < length ps → eq (get_or ps i d).x x ≡ false → all_at x taps_rest ≡ false
   unfolding all_at
-  at_off i x h e = rw (taps_next i h, e)
+  at_off x d h e = rw (rest_cons ps i d h, e)
 
-  pub at_end : (i : ℕ) (x : Float) → n ≤ i → all_at x (taps_rest i) ≡ true
+  pub at_end : (x : Float) → length ps ≤ i → all_at x taps_rest ≡ true
   unfolding all_at
-  at_end i x h = rw (taps_end i h)
+  at_end x h = rw (rest_none ps i h)
 
--- ---- the middle of the lanes
+-- ---- the first and the last
 
-lane_last : (edges lanes : List ℕ) (first n : ℕ) → lane_count (members_from edges lanes first (suc n)) ≡ get_or lanes (first + n) 0 + 1
-unfolding lane_count members_from
-lane_last edges lanes first zero = let z : first + 0 ≡ first = omega arith in rw z
-lane_last edges lanes first (suc n) = let z : first + suc n ≡ suc first + n = omega arith in rw z (lane_last edges lanes (suc first) n)
+pub rail_none : (ps : List Point) (y : Float) → None ≡ slice_get ps 0 → (y ≡ rail_low (taps_in ps) y) × (y ≡ rail_high (taps_in ps) y)
+unfolding rail_low rail_high
+rail_none [] y e = (refl, refl)
+rail_none (p ∷ ps) y e = absurd (none-some p e)
 
-pub center_none : (edges lanes : List ℕ) (first n : ℕ) → n ≡ 0 → div binary64 (number 0) (number 2) ≡ center (members_from edges lanes first n)
-unfolding center lane_count members_from
-center_none edges lanes first n h = rw h
+pub rail_first : (ps : List Point) (a : Point) (y : Float) → Some a ≡ slice_get ps 0 → least a.y y ≡ rail_low (taps_in ps) y
+unfolding rail_low
+rail_first [] a y e = absurd (none-some a (sym e))
+rail_first (p ∷ ps) a y e = ap (λ (q : Point). least q.y y) (same_Some _ _ e)
 
-pub center_some : (edges lanes : List ℕ) (first n : ℕ) → (n ≡ 0 → ⊥) → div binary64 (number (get_or lanes (first + n - 1) 0)) (number 2) ≡ center (members_from edges lanes first n)
+pub rail_last : (ps : List Point) (b : Point) (y : Float) → Some b ≡ slice_get ps (length ps - 1) → greatest b.y y ≡ rail_high (taps_in ps) y
+unfolding rail_high
+rail_last [] b y e = absurd (none-some b (sym e))
+rail_last (p ∷ []) b y e = ap (λ (q : Point). greatest q.y y) (same_Some _ _ e)
+rail_last (p ∷ q ∷ ps) b y e =
+    let z : length (p ∷ q ∷ ps) - 1 ≡ suc (length (q ∷ ps) - 1) = omega arith in
+    rail_last (q ∷ ps) b y (e ∙ ap (slice_get (p ∷ q ∷ ps)) z)
+
+last_lane : (ms : List Member) (m : Member) → Some m ≡ slice_get ms (length ms - 1) → lane_count ms ≡ m.tap_lane + 1
+unfolding lane_count
+last_lane [] m e = absurd (none-some m (sym e))
+last_lane (n ∷ []) m e = ap (λ (k : Member). k.tap_lane + 1) (sym (same_Some _ _ e))
+last_lane (n ∷ k ∷ ms) m e =
+    let z : length (n ∷ k ∷ ms) - 1 ≡ suc (length (k ∷ ms) - 1) = omega arith in
+    last_lane (k ∷ ms) m (e ∙ ap (slice_get (n ∷ k ∷ ms)) z)
+
+pub center_some : (ms : List Member) (m : Member) → Some m ≡ slice_get ms (length ms - 1) → div binary64 (number m.tap_lane) (number 2) ≡ center ms
 unfolding center
-center_some edges lanes first zero h = absurd (h refl)
-center_some edges lanes first (suc n) h =
-    let a : first + suc n - 1 ≡ first + n = omega arith in
-    let b : get_or lanes (first + n) 0 + 1 - 1 ≡ get_or lanes (first + n) 0 = omega arith in
-    rw (a, lane_last edges lanes first n, b)
+center_some ms m e =
+    let a : m.tap_lane + 1 - 1 ≡ m.tap_lane = omega arith in
+    rw (last_lane ms m e, a)
 
-pub center_any : (edges lanes : List ℕ) (first n : ℕ) → center (members_from [] lanes first n) ≡ center (members_from edges lanes first n)
-unfolding center lane_count members_from
-center_any edges lanes first zero = refl
-center_any edges lanes first (suc n) = rw (lane_last [] lanes first n, lane_last edges lanes first n)
+pub center_none : (ms : List Member) → None ≡ slice_get ms (length ms - 1) → div binary64 (number 0) (number 2) ≡ center ms
+unfolding center lane_count
+center_none [] e = refl
+center_none (m ∷ ms) e =
+    let h : length (m ∷ ms) - 1 < length (m ∷ ms) = omega arith in
+    absurd (none-some _ (e ∙ slice_get-get_or (m ∷ ms) (length (m ∷ ms) - 1) m h))
 
 -- ---- taps on the rail
 
-pub rail_listed : (edges lanes : List ℕ) (t : List Float) (end : Point) (middle pitch : Float) (first n : ℕ) → Placed t first n (λ k. rail_point end middle pitch (get_or lanes (first + k) 0)) → taps_from edges t first n ≡ rail_taps end middle pitch (members_from edges lanes first n)
-unfolding taps_from members_from rail_taps rail_tap
-rail_listed edges lanes t end middle pitch first zero h = refl
-rail_listed edges lanes t end middle pitch first (suc n) h =
-    let e : first + 0 ≡ first = omega arith in
-    let a : point_at t first ≡ rail_point end middle pitch (get_or lanes first 0) = ap (point_at t) (sym e) ∙ h 0 (omega arith) ∙ ap (λ (k : ℕ). rail_point end middle pitch (get_or lanes k 0)) e in
-    rw (
-      a,
-      rail_listed edges lanes t end middle pitch (suc first) n (λ k l.
-          let u : suc first + k ≡ first + suc k = omega arith in
-          ap (point_at t) u ∙ h (suc k) (omega arith) ∙ ap (λ (j : ℕ). rail_point end middle pitch (get_or lanes j 0)) (sym u)),
-    )
-
-module _ (edges : List ℕ) (t : List Float) (y : Float) where
-  pub rail_none : (first n : ℕ) → n ≡ 0 → (y ≡ rail_low (taps_from edges t first n) y) × (y ≡ rail_high (taps_from edges t first n) y)
-  unfolding taps_from rail_low rail_high
-  rail_none first n h = rw h (refl, refl)
-
-  pub rail_first : (first n : ℕ) → (n ≡ 0 → ⊥) → least (point_at t (first + 0)).y y ≡ rail_low (taps_from edges t first n) y
-  unfolding taps_from rail_low
-  rail_first first zero h = absurd (h refl)
-  rail_first first (suc n) h = let z : first + 0 ≡ first = omega arith in rw z
-
-  last_from : (first n : ℕ) → rail_high (taps_from edges t first (suc n)) y ≡ greatest (point_at t (first + n)).y y
-  unfolding taps_from rail_high
-  last_from first zero = let z : first + 0 ≡ first = omega arith in rw z
-  last_from first (suc n) = let z : first + suc n ≡ suc first + n = omega arith in rw z (last_from (suc first) n)
-
-  pub rail_last : (first n : ℕ) → (n ≡ 0 → ⊥) → greatest (point_at t (first + (n - 1))).y y ≡ rail_high (taps_from edges t first n) y
-  rail_last first zero h = absurd (h refl)
-  rail_last first (suc n) h = let a : first + (suc n - 1) ≡ first + n = omega arith in rw a (sym (last_from first n))
-
-pub rail_low_any : (edges : List ℕ) (t : List Float) (y : Float) (first n : ℕ) → rail_low (taps_from [] t first n) y ≡ rail_low (taps_from edges t first n) y
-unfolding taps_from rail_low
-rail_low_any edges t y first zero = refl
-rail_low_any edges t y first (suc n) = refl
-
-pub rail_high_any : (edges : List ℕ) (t : List Float) (y : Float) (first n : ℕ) → rail_high (taps_from [] t first n) y ≡ rail_high (taps_from edges t first n) y
-unfolding taps_from rail_high
-rail_high_any edges t y first zero = refl
-rail_high_any edges t y first (suc zero) = refl
-rail_high_any edges t y first (suc (suc n)) = rail_high_any edges t y (suc first) (suc n)
+pub rail_listed : (end : Point) (middle pitch : Float) (ms : List Member) → taps_of ms (map (rail_place end middle pitch) ms) ≡ rail_taps end middle pitch ms
+unfolding taps_of rail_taps rail_tap
+rail_listed end middle pitch [] = refl
+rail_listed end middle pitch (m ∷ ms) = ap (λ (l : List TapOn). rail_tap end middle pitch m ∷ l) (rail_listed end middle pitch ms)

@@ -2,12 +2,11 @@
 //
 // Ported from cachanova/schemweave, commit c4a1a2c60a, crates/schemweave/src/boundary_bundles.rs
 // (Apache-2.0, see NOTICE). The present routes are in slots (crate route). Member k of the table of
-// members has its tap as x and y at point k of taps; a bundle's taps are lent as a view of points, as a
-// route is.
+// members has its tap at place k of taps; a bundle's members and taps are lent as slices of just these.
 
 #![tactic(auto)]
 
-ghost use Rattle.std.specs.Prelude.{◌≡◌, [], ◌+◌, ◌*◌, ◌≤◌, length, get_or, is_some};
+ghost use Rattle.std.specs.Prelude.{◌≡◌, length, map, is_some};
 ghost use Rattle.geometry.specs.Lent.{route_lent};
 ghost use Rattle.route.specs.Slots.{routes_of};
 ghost use Rattle.plan.specs.Depths.{number};
@@ -18,13 +17,12 @@ ghost use Rattle.binary64.specs.Order.{magnitude};
 ghost use Rattle.board.specs.Board.{bundle_pitch};
 ghost use Rattle.drawing.specs.Build.{pt, seg, trunk_met, trunk_taps, lowest, highest, center, rail_low, rail_high, all_at};
 ghost use Rattle.drawing.specs.Sheet.{planned_x};
-ghost use Rattle.checks.specs.CheckRows.{taps_from, drawn_of, Tabled};
+ghost use Rattle.checks.specs.CheckRows.{drawn_of, Tabled};
 ghost use Rattle.route.specs.Lent.{routes_lent};
-ghost use Rattle.checks.specs.LentRows.{taps_in};
-ghost use Rattle.checks.specs.MemberSlices.{members_from, Placed, Untouched, Known, rail_point, tapped_in, interior_at, Row, drawn_row, inside_with, railed_with, corner_with, Draws};
+ghost use Rattle.checks.specs.LentRows.{taps_in, tapped_in, rail_place, EdgesBelow};
+ghost use Rattle.checks.specs.MemberSlices.{members_from, Untouched, Known, rail_point, interior_at, Row, drawn_row, inside_with, railed_with, corner_with, Draws};
 
 use board::{Bundle, DrawnBundle, Member, Options};
-use checks::BundleRows;
 use geometry::{Point, Role, RouteView, Segment};
 use plan::Bound;
 use route::PresentRoutes;
@@ -58,41 +56,39 @@ fn trunk_tap(role: Role, pitch: f64, x: f64, route: RouteView) -> Option<(usize,
     }
 }
 
-// That there is room for each member's tap is a fact of the members and of the slice together.
+// That there is a place for each member's tap is asked: a fact of the two slices together.
 
-// Each member's tap at x, if every member's route has one; else some of the bundle's taps may have
-// been written.
+// Each member's tap at x, if every member's route has one; else some of the taps may have been written.
+#[tactic(auto, using(crate::proofs::Taps::trunk_end))]
 fn trunk_taps(
     role: Role,
     pitch: f64,
     x: f64,
-    members: BundleRows,
+    members: &[Member],
     present: PresentRoutes,
-    taps: &mut [f64],
+    taps: &mut [Point],
 ) -> Option<()>
-    requires tapped { 2 * (members.first + members.count) ≤ length taps.old }
-    requires known { Known (edges_of members.rows.now) members.first members.count (length present.counts.now) }
-    ensures told { tapped_in (is_some result) (edges_of members.entry.rows.now) taps.new members.entry.first members.entry.count ≡ trunk_taps role pitch x (members_from (edges_of members.entry.rows.now) [] members.entry.first members.entry.count) (routes_lent present.entry) }
-    ensures kept { Untouched taps.old taps.new members.entry.first members.entry.count }
+    requires tapped { length taps.old ≡ length members.now }
+    requires known { EdgesBelow (length present.counts.now) members.now }
+    ensures told { tapped_in (is_some result) members.now taps.new ≡ trunk_taps role pitch x members.now (routes_lent present.entry) }
 {
-    for i in 0..members.count {
-        let e = members.rows[members.first + i].edge;
-        let route = route_slots::slot_of(present, e);
+    for (i, member) in members.iter().enumerate() {
+        let route = route_slots::slot_of(present, member.edge);
         let (k, p) = trunk_tap(role, pitch, x, route)?;
-        route_views::put_point(&mut taps[..], members.first + i, p);
+        taps[i] = p;
     }
     Some(())
 }
 
 // How far a bundle's taps reach from y.
-fn tap_reach(y: f64, taps: RouteView) -> Reach
-    ensures low { result.low ≡ lowest y (taps_in taps.entry) }
-    ensures high { result.high ≡ highest y (taps_in taps.entry) }
+#[tactic(auto, using(crate::proofs::Taps::low_next, crate::proofs::Taps::high_next, crate::proofs::Taps::low_end, crate::proofs::Taps::high_end))]
+fn tap_reach(y: f64, taps: &[Point]) -> Reach
+    ensures low { result.low ≡ lowest y (taps_in taps.now) }
+    ensures high { result.high ≡ highest y (taps_in taps.now) }
 {
     let mut low = y;
     let mut high = y;
-    for i in 0..taps.count {
-        let p = route_views::view_point(taps, i);
+    for p in taps {
         low = binary64::min(low, p.y);
         high = binary64::max(high, p.y);
     }
@@ -102,11 +98,11 @@ fn tap_reach(y: f64, taps: RouteView) -> Reach
 // ---- the interior test of rewrite_member_routes
 
 // Whether every tap stands at x.
-fn taps_are_at(x: f64, taps: RouteView) -> bool
-    ensures { result ≡ all_at x (taps_in taps.entry) }
+#[tactic(auto, using(crate::proofs::Taps::at_next, crate::proofs::Taps::at_off, crate::proofs::Taps::at_end))]
+fn taps_are_at(x: f64, taps: &[Point]) -> bool
+    ensures { result ≡ all_at x (taps_in taps.now) }
 {
-    for i in 0..taps.count {
-        let p = route_views::view_point(taps, i);
+    for p in taps {
         if !(p.x == x) {
             return false;
         }
@@ -126,9 +122,9 @@ fn counts_interior(
     pitch: f64,
     collector: Segment,
     spine: Segment,
-    taps: RouteView,
+    taps: &[Point],
 ) -> bool
-    ensures { result ≡ interior_at depth pitch collector spine (taps_in taps.entry) }
+    ensures { result ≡ interior_at depth pitch collector spine (taps_in taps.now) }
 {
     let x = spine.end.x;
     x == collector.start.x
@@ -138,8 +134,8 @@ fn counts_interior(
 
 // The row of a bundle drawn with these taps, whose collector stands at the corner's x and whose spine
 // goes from end to the corner.
-fn drawn_with(b: PlacedBundle, corner: Point, reach: Reach, taps: RouteView) -> DrawnBundle
-    ensures { result ≡ drawn_row b.options b.bundle (seg (pt corner.x reach.low) (pt corner.x reach.high)) (seg b.end corner) (taps_in taps.entry) }
+fn drawn_with(b: PlacedBundle, corner: Point, reach: Reach, taps: &[Point]) -> DrawnBundle
+    ensures { result ≡ drawn_row b.options b.bundle (seg (pt corner.x reach.low) (pt corner.x reach.high)) (seg b.end corner) (taps_in taps.now) }
 {
     let low = Point {
         x: corner.x,
@@ -172,8 +168,8 @@ fn drawn_with(b: PlacedBundle, corner: Point, reach: Reach, taps: RouteView) -> 
 
 // With taps at the planned x.
 #[tactic(auto, unfolding(checks::specs::MemberSlices::inside_with))]
-fn build_inside(b: PlacedBundle, x: f64, taps: RouteView) -> DrawnBundle
-    ensures { result ≡ inside_with b.options b.bundle b.end x (taps_in taps.entry) }
+fn build_inside(b: PlacedBundle, x: f64, taps: &[Point]) -> DrawnBundle
+    ensures { result ≡ inside_with b.options b.bundle b.end x (taps_in taps.now) }
 {
     let reach = tap_reach(b.end.y, taps);
     let corner = Point { x, y: b.end.y };
@@ -189,14 +185,13 @@ fn half_of(lane: u32) -> f64
 }
 
 // The middle of a bundle's lanes.
-#[tactic(auto, using(crate::proofs::Taps::center_none, crate::proofs::Taps::center_some, plan::proofs::MemberColumns::lane_there))]
-fn middle_lane(members: BundleRows) -> f64
-    ensures { result ≡ center (members_from [] (lanes_of members.entry.rows.now) members.entry.first members.entry.count) }
+fn middle_lane(members: &[Member]) -> f64
+    ensures { result ≡ center members.now }
 {
-    if members.count == 0 {
-        return half_of(0);
+    match members.last() {
+        Some(member) => half_of(member.tap_lane),
+        None => half_of(0),
     }
-    half_of(members.rows[members.first + members.count - 1].tap_lane)
 }
 
 fn rail_tap(end: Point, middle: f64, pitch: f64, lane: u32) -> Point
@@ -209,39 +204,35 @@ fn rail_tap(end: Point, middle: f64, pitch: f64, lane: u32) -> Point
 }
 
 // Each member's tap on the rail.
-fn rail_taps(end: Point, middle: f64, pitch: f64, members: BundleRows, taps: &mut [f64])
-    requires { 2 * (members.first + members.count) ≤ length taps.old }
-    ensures placed { Placed taps.new members.entry.first members.entry.count (λ k. rail_point end middle pitch (get_or (lanes_of members.entry.rows.now) (members.entry.first + k) 0)) }
-    ensures kept { Untouched taps.old taps.new members.entry.first members.entry.count }
+fn rail_taps(end: Point, middle: f64, pitch: f64, members: &[Member], taps: &mut [Point])
+    requires { length taps.old ≡ length members.now }
+    ensures { taps.new ≡ map (rail_place end middle pitch) members.now }
 {
-    for i in 0..members.count {
-        let p = rail_tap(end, middle, pitch, members.rows[members.first + i].tap_lane);
-        route_views::put_point(&mut taps[..], members.first + i, p);
+    for (i, member) in members.iter().enumerate() {
+        taps[i] = rail_tap(end, middle, pitch, member.tap_lane);
     }
 }
 
 // How far the first and the last tap reach from y.
-fn rail_reach(y: f64, taps: RouteView) -> Reach
-    ensures low { result.low ≡ rail_low (taps_in taps.entry) y }
-    ensures high { result.high ≡ rail_high (taps_in taps.entry) y }
+fn rail_reach(y: f64, taps: &[Point]) -> Reach
+    ensures low { result.low ≡ rail_low (taps_in taps.now) y }
+    ensures high { result.high ≡ rail_high (taps_in taps.now) y }
 {
-    if taps.count == 0 {
-        return Reach { low: y, high: y };
+    match (taps.first(), taps.last()) {
+        (Some(a), Some(b)) => Reach {
+            low: binary64::min(a.y, y),
+            high: binary64::max(b.y, y),
+        },
+        _ => Reach { low: y, high: y },
     }
-    let a = route_views::view_point(taps, 0);
-    let b = route_views::view_last(taps);
-    let low = binary64::min(a.y, y);
-    let high = binary64::max(b.y, y);
-    Reach { low, high }
 }
 
 // A bundle drawn at the rail, its taps written.
 #[tactic(auto, unfolding(checks::specs::MemberSlices::railed_with))]
-fn build_rail(b: PlacedBundle, members: BundleRows, taps: &mut [f64]) -> DrawnBundle
-    requires { 2 * (members.first + members.count) ≤ length taps.old }
-    ensures row { result ≡ railed_with b.options b.bundle b.end (taps_from [] taps.new members.entry.first members.entry.count) }
-    ensures placed { Placed taps.new members.entry.first members.entry.count (λ k. rail_point (corner_with b.options b.bundle b.end) (center (members_from [] (lanes_of members.entry.rows.now) members.entry.first members.entry.count)) (bundle_pitch b.options b.bundle) (get_or (lanes_of members.entry.rows.now) (members.entry.first + k) 0)) }
-    ensures kept { Untouched taps.old taps.new members.entry.first members.entry.count }
+fn build_rail(b: PlacedBundle, members: &[Member], taps: &mut [Point]) -> DrawnBundle
+    requires { length taps.old ≡ length members.now }
+    ensures row { result ≡ railed_with b.options b.bundle b.end (taps_in taps.new) }
+    ensures placed { taps.new ≡ map (rail_place (corner_with b.options b.bundle b.end) (center members.now) (bundle_pitch b.options b.bundle)) members.now }
 {
     let depth = board::boundary_bundle_rail_depth(b.options);
     let pitch = board::pitch_of_bundle(b.options, b.bundle);
@@ -249,14 +240,9 @@ fn build_rail(b: PlacedBundle, members: BundleRows, taps: &mut [f64]) -> DrawnBu
     let x = plan_numbers::inward(role, b.end.x, depth);
     let corner = Point { x, y: b.end.y };
     let middle = middle_lane(members);
-    rail_taps(corner, middle, pitch, members, &mut taps[..]);
-    let written = RouteView {
-        points: &taps[..],
-        start: members.first,
-        count: members.count,
-    };
-    let reach = rail_reach(corner.y, written);
-    drawn_with(b, corner, reach, written)
+    rail_taps(corner, middle, pitch, members, taps);
+    let reach = rail_reach(corner.y, taps);
+    drawn_with(b, corner, reach, taps)
 }
 
 // ---- build_geometry
@@ -270,7 +256,7 @@ pub fn build_geometry(
     planned: Bound,
     table: &[Member],
     present: PresentRoutes,
-    taps: &mut [f64],
+    taps: &mut [Point],
 ) -> DrawnBundle
     requires tabled { Tabled u.first u.count (edges_of table.now) taps.old }
     requires known { Known (edges_of table.now) u.first u.count (length present.counts.now) }
@@ -283,25 +269,17 @@ pub fn build_geometry(
         bundle: u,
         end,
     };
-    let members = BundleRows {
-        rows: table,
-        first: u.first,
-        count: u.count,
-    };
+    let members = &table[u.first..u.first + u.count];
+    let own = &mut taps[u.first..u.first + u.count];
     match planned {
-        Bound::None => build_rail(b, members, &mut taps[..]),
+        Bound::None => build_rail(b, members, own),
         Bound::At(x) => {
             let pitch = board::pitch_of_bundle(o, u);
             let role = u.role;
-            if trunk_taps(role, pitch, x, members, present, &mut taps[..]).is_some() {
-                let written = RouteView {
-                    points: &taps[..],
-                    start: u.first,
-                    count: u.count,
-                };
-                return build_inside(b, x, written);
+            if trunk_taps(role, pitch, x, members, present, own).is_some() {
+                return build_inside(b, x, own);
             }
-            build_rail(b, members, &mut taps[..])
+            build_rail(b, members, own)
         }
     }
 }

@@ -57,10 +57,7 @@ pub fn search_checked<'a>(
 fn is_collector_bounds(bounds: Option<Bounds>) -> bool
     ensures { result ≡ collector_bounds_fit bounds }
 {
-    match bounds {
-        None => true,
-        Some(b) => search_refusals::is_bounds(b),
-    }
+    bounds.is_none_or(|b| search_refusals::is_bounds(b))
 }
 
 pub fn promotion_checked<'a>(

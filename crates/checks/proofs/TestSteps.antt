@@ -4,6 +4,7 @@ use Prim.Native.Nat.{ℕ, zero, suc, ◌+◌, ◌*◌, ◌-◌, ◌≤◌, ◌<�
 use Rattle.std.specs.Prelude.{◌≡◌, refl, Bool, false, cond, length, get_or, drop, Float, Option, Some, None}
 use Rattle.std.proofs.Math.Path.{sym, ap}
 use Rattle.std.proofs.Common.{◌∙◌, add-one, drop_of_length-le}
+use mathlib.Core.Logic.{◌⊎◌, inl, inr}
 use mathlib.Core.List.{List, [], ◌∷◌, ◌++◌, map}
 use Rattle.std.proofs.Math.Bool.{true}
 use native.Mathlib.Omega.{arith}
@@ -24,6 +25,7 @@ use Rattle.board.specs.declared.Options.{Options}
 use Rattle.board.specs.declared.DrawnBundle.{DrawnBundle}
 use Rattle.board.specs.declared.PlacedNode.{PlacedNode}
 use Rattle.board.specs.declared.Edge.{Edge}
+use Rattle.board.specs.declared.Member.{Member}
 use Rattle.board.specs.Board.{Board}
 use Rattle.geometry.specs.Contact.{slanted}
 use Rattle.geometry.specs.Enters.{passes_inside}
@@ -31,7 +33,8 @@ use Rattle.drawing.specs.Build.{tap_of}
 use Rattle.drawing.specs.Check.{Test, due, barred, clean, failed, walk, own, node_tests, inside_tests, member_tests, clash, run_tests, over_routes, drawn_tests, pair_tests, prior_tests}
 use Rattle.drawing.proofs.CleanChecks.{walk_on, walk_off}
 use Rattle.checks.specs.Purse.{charged}
-use Rattle.checks.specs.CheckRows.{taps_from, drawn_of, inside_route, Sliced, Tabled, AllTabled}
+use Rattle.checks.specs.CheckRows.{drawn_of, inside_route, Sliced, Tabled, AllTabled}
+use Rattle.checks.specs.LentRows.{taps_of}
 
 -- ---- one test, and tests after tests
 
@@ -124,30 +127,24 @@ pub apart_clean : (o : Options) (allow : Bool) (bus : Segment) (tap : Option Poi
 unfolding clash
 apart_clean o allow bus tap run h = rw (kind_contact bus run.start run.end tap allow, apart_contact bus o.minimum_parallel_wire_spacing run.start run.end tap allow h, apart_spacing bus o.minimum_parallel_wire_spacing run.start run.end h)
 
--- ---- tap after tap
+-- ---- tap after tap: the members ms and the taps ps that are left
 
--- the taps from member i on, before member n
-module _ (edges : List ℕ) (taps : List Float) (n e : ℕ) where
-  abbrev pub tap_at : ℕ → Option Point
-  tap_at i = tap_of (taps_from edges taps i (n - i)) e
+module _ (ms : List Member) (ps : List Point) (e : ℕ) where
+  module _ (m : Member) (p : Point) (ms' : List Member) (ps' : List Point) (a : ms ≡ m ∷ ms') (b : ps ≡ p ∷ ps') where
+    pub tap_here : m.edge ≡ e → Some p ≡ tap_of (taps_of ms ps) e
+    unfolding taps_of tap_of
+    tap_here q = rw (a, b, eq-eqb m.edge e q)
 
-  pub tap_start : (first m : ℕ) → n ≡ first + m → tap_at first ≡ tap_of (taps_from edges taps first m) e
-  tap_start first m h = let a : n - first ≡ m = omega arith in rw a
+    pub tap_next : (m.edge ≡ e → ⊥) → tap_of (taps_of ms' ps') e ≡ tap_of (taps_of ms ps) e
+    unfolding taps_of tap_of
+    tap_next q = rw (a, b, ne_eqb m.edge e q)
 
-  pub tap_here : (i : ℕ) → i < n → get_or edges i 0 ≡ e → tap_at i ≡ Some (point_at taps i)
-  unfolding taps_from tap_of
-  tap_here i h q = let a : n - i ≡ suc (n - (i + 1)) = omega arith in rw (a, eq-eqb (get_or edges i 0) e q)
-
-  pub tap_next : (i : ℕ) → i < n → (get_or edges i 0 ≡ e → ⊥) → tap_at (i + 1) ≡ tap_at i
-  unfolding taps_from tap_of
-  tap_next i h q =
-      let a : n - i ≡ suc (n - (i + 1)) = omega arith in
-      let b : suc i ≡ i + 1 = omega arith in
-      rw (a, ne_eqb (get_or edges i 0) e q, b)
-
-  pub tap_none : (i : ℕ) → n ≤ i → tap_at i ≡ None
-  unfolding taps_from tap_of
-  tap_none i h = let a : n - i ≡ 0 = omega arith in rw a
+pub tap_none : (ms : List Member) (ps : List Point) (e : ℕ) → (length ms ≡ 0) ⊎ (length ps ≡ 0) → None ≡ tap_of (taps_of ms ps) e
+unfolding taps_of tap_of
+tap_none [] ps e h = refl
+tap_none (m ∷ ms) [] e h = refl
+tap_none (m ∷ ms) (p ∷ ps) e (inl q) = absurd (omega arith)
+tap_none (m ∷ ms) (p ∷ ps) e (inr q) = absurd (omega arith)
 
 -- ---- route after route, for either check
 
@@ -181,10 +178,10 @@ module _ (er : ℕ) (f : ℕ → Route → List Test) (chosen : ℕ → Bool) (s
 
 -- ---- bundle after bundle
 
-pub tabled_at : (ds : List DrawnBundle) (i : ℕ) (d : DrawnBundle) (edges : List ℕ) (taps : List Float) → AllTabled ds edges taps → i < length ds → Tabled (get_or ds i d).first (get_or ds i d).count edges taps
+pub tabled_at : (ds : List DrawnBundle) (i : ℕ) (d : DrawnBundle) (edges : List ℕ) (taps : List Point) → AllTabled ds edges taps → i < length ds → Tabled (get_or ds i d).first (get_or ds i d).count edges taps
 tabled_at ds i d edges taps t h = every_at (λ x. Tabled x.first x.count edges taps) ds d t i h
 
-module _ (o : Options) (allow : Bool) (new : DrawnBundle) (changed : ℕ → Bool) (edges : List ℕ) (taps : List Float) (rs : List Route) (ds : List DrawnBundle) where
+module _ (o : Options) (allow : Bool) (new : DrawnBundle) (changed : ℕ → Bool) (edges : List ℕ) (taps : List Point) (rs : List Route) (ds : List DrawnBundle) where
   abbrev pub priors_at : ℕ → List Test
   priors_at i = prior_tests o allow (drawn_of edges taps new) changed (map (drawn_of edges taps) (drop i ds)) rs
 

@@ -6,8 +6,8 @@ use Rattle.plan.specs.MemberColumns.{edges_of}
 use Rattle.drawing.specs.Build.{TapOn, Drawn}
 use Rattle.checks.specs.declared.ChosenRoutes.{ChosenRoutes}
 use Rattle.checks.specs.declared.MemberTaps.{MemberTaps}
-use Rattle.checks.specs.declared.BundleTaps.{BundleTaps}
-use Rattle.checks.specs.CheckRows.{taps_from, drawn_of, chosen_by, AllTabled}
+use Rattle.checks.specs.CheckRows.{drawn_of, chosen_by, AllTabled}
+use Rattle.checks.specs.LentRows.{taps_of}
 
 -- which of them are chosen
 abbrev pub chosen_lent : ChosenRoutes → ℕ → Bool
@@ -21,6 +21,6 @@ drawn_lent t d = drawn_of (edges_of t.members.now) t.taps.now d
 abbrev pub RowsLent : MemberTaps → List DrawnBundle → Type 0
 RowsLent t ds = AllTabled ds (edges_of t.members.now) t.taps.now
 
--- a bundle's taps
-abbrev pub taps_lent : BundleTaps → List TapOn
-taps_lent b = taps_from (edges_of b.table.members.now) b.table.taps.now b.first b.count
+-- the taps of the members
+abbrev pub taps_lent : MemberTaps → List TapOn
+taps_lent t = taps_of t.members.now t.taps.now

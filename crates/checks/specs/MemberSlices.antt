@@ -8,7 +8,7 @@ use Rattle.binary64.specs.Order.{magnitude}
 use Rattle.geometry.specs.declared.Point.{Point}
 use Rattle.geometry.specs.declared.Role.{Role}
 use Rattle.geometry.specs.declared.Segment.{Segment}
-use Rattle.geometry.specs.Points.{Route, point_at}
+use Rattle.geometry.specs.Points.{Route}
 use Rattle.route.specs.Slots.{Held, routes_of}
 use Rattle.board.specs.declared.Member.{Member}
 use Rattle.board.specs.declared.Bundle.{Bundle}
@@ -19,7 +19,7 @@ use Rattle.plan.specs.Depths.{number, inward, endpoint_of, members_in}
 use Rattle.drawing.specs.Build.{pt, seg, TapOn, Drawn, build, lowest, highest, rail_low, rail_high, all_at}
 use Rattle.drawing.specs.Verdict.{Verdict, Clean, Refused}
 use Rattle.drawing.specs.Check.{among}
-use Rattle.checks.specs.CheckRows.{taps_from}
+use Rattle.checks.specs.CheckRows.{no_point}
 use Rattle.drawing.specs.Rewrite.{rewritten, two_points}
 
 -- count members from place first on
@@ -60,16 +60,12 @@ pub record Roomy (edges : List ℕ) (first i count : ℕ) (points : List Float) 
 -- ---- taps
 
 -- the taps outside count places from first on are as they were
-abbrev pub Untouched : List Float → List Float → ℕ → ℕ → Type 0
-Untouched old new first count = (j : ℕ) → (j < first) ⊎ (first + count ≤ j) → point_at new j ≡ point_at old j
+abbrev pub Untouched : List Point → List Point → ℕ → ℕ → Type 0
+Untouched old new first count = (j : ℕ) → (j < first) ⊎ (first + count ≤ j) → get_or new j no_point ≡ get_or old j no_point
 
 -- those inside are p 0, p 1 and so on
-abbrev pub Placed : List Float → ℕ → ℕ → (ℕ → Point) → Type 0
-Placed taps first count p = (k : ℕ) → k < count → point_at taps (first + k) ≡ p k
-
--- what a bundle's taps are, if all went well
-unfoldable pub tapped_in : Bool → List ℕ → List Float → ℕ → ℕ → Option (List TapOn)
-tapped_in done edges taps first count = cond done (Some (taps_from edges taps first count)) None
+abbrev pub Placed : List Point → ℕ → ℕ → (ℕ → Point) → Type 0
+Placed taps first count p = (k : ℕ) → k < count → get_or taps (first + k) no_point ≡ p k
 
 -- the tap of a lane on the rail
 abbrev pub rail_point : Point → Float → Float → ℕ → Point

@@ -41,22 +41,16 @@ pub fn of_role(role: Role, ranges: &[Range], order: &[usize]) -> Places
 fn bound_of(role: Role, b: Option<Bounds>) -> f64
     ensures { result ≡ bound_in role b }
 {
-    match b {
-        None => 0.0,
-        Some(r) => match role {
-            Role::Input => r.minimum,
-            Role::Output => r.maximum,
-        },
-    }
+    b.map_or(0.0, |r| match role {
+        Role::Input => r.minimum,
+        Role::Output => r.maximum,
+    })
 }
 
 fn desired_of(b: Option<Bounds>) -> f64
     ensures { result ≡ if_between b zero64 (λ (s : Bounds). s.desired) }
 {
-    match b {
-        None => 0.0,
-        Some(r) => r.desired,
-    }
+    b.map_or(0.0, |r| r.desired)
 }
 
 // The larger of two for inputs, the smaller for outputs.
@@ -100,8 +94,8 @@ pub fn drop_all(which: &[usize], p: Planning) -> Planning
 
 // ---- every component
 
-// The x that the first search found. A match, as in desired_of: with `Bound::from(b.map(|r| r.desired))` it was
-// proved, but a wrong field in the closure was refused by a search that finds nothing, and at no fact.
+// The x that the first search found. A match: with `b.map_or(..)`, as in desired_of, it was proved, but a wrong
+// field in the closure was refused by a search that finds nothing, and at no fact.
 fn initial_x(b: Option<Bounds>) -> Bound
     ensures { result ≡ if_between b None (λ (s : Bounds). At s.desired) }
 {
@@ -111,7 +105,11 @@ fn initial_x(b: Option<Bounds>) -> Bound
     }
 }
 
-// The plan of the first pass.
+// The plan of the first pass. By index, as the others that write a row at each turn:
+// plan_depths::corridor_depth_offsets, plan_searches::first_pass, plan_neighbours::adjacent_row and adjacency,
+// planner::member_windows, bundle_ends and reaches, separation::separate, draw_job::tap_rows. With
+// `rows.iter_mut().zip(ranges)` the proof did not close: after an adapter of `iter_mut` a proof knows how many
+// rows there are, and not what they hold.
 pub fn initial(ranges: &[Range], left: TapVisits) -> Planning
     requires { length ranges.now ≤ max_bundles }
     ensures { plan_in (length ranges.now) result ≡ record { xs = map initial_x (ranges_in ranges.now); left = left.0 } }

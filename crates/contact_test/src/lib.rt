@@ -35,32 +35,32 @@ pub fn preserved_point_matches(left: Point, right: Point) -> bool
 
 // ---- segments_have_disallowed_contact, told apart by kind
 
-pub fn is_slanted(a: Point, b: Point) -> bool
-    ensures { result ≡ slanted a b }
+pub fn is_slanted(run: Segment) -> bool
+    ensures { result ≡ slanted run.start run.end }
 {
-    !(a.y == b.y) & !(a.x == b.x)
+    !(run.start.y == run.end.y) & !(run.start.x == run.end.x)
 }
 
 // span_across and span_upright stay apart: the coordinates that the one reads the other passes over, and a
 // point with its two exchanged would have to be made for one to serve.
 
-pub fn span_across(a: Point, b: Point) -> Span
-    ensures { result ≡ across a b }
+pub fn span_across(run: Segment) -> Span
+    ensures { result ≡ across run.start run.end }
 {
     Span {
-        fixed: a.y,
-        low: binary64::min(a.x, b.x),
-        high: binary64::max(a.x, b.x),
+        fixed: run.start.y,
+        low: binary64::min(run.start.x, run.end.x),
+        high: binary64::max(run.start.x, run.end.x),
     }
 }
 
-pub fn span_upright(a: Point, b: Point) -> Span
-    ensures { result ≡ upright a b }
+pub fn span_upright(run: Segment) -> Span
+    ensures { result ≡ upright run.start run.end }
 {
     Span {
-        fixed: a.x,
-        low: binary64::min(a.y, b.y),
-        high: binary64::max(a.y, b.y),
+        fixed: run.start.x,
+        low: binary64::min(run.start.y, run.end.y),
+        high: binary64::max(run.start.y, run.end.y),
     }
 }
 
@@ -111,31 +111,24 @@ fn meet_crossing(h: Span, v: Span) -> Meet
     Meet::Apart
 }
 
-// Where a bus and a run meet, neither being slanted. A run is two points, and no Segment as the bus is:
-// docs/DECISIONS.md, "A run is passed as two points".
+// Where a bus and a run meet, neither being slanted.
 #[tactic(auto, unfolding(geometry::specs::Contact::meet))]
-pub fn meeting(bus: Segment, route_start: Point, route_end: Point) -> Meet
-    ensures { result ≡ meet bus route_start route_end }
+pub fn meeting(bus: Segment, run: Segment) -> Meet
+    ensures { result ≡ meet bus run.start run.end }
 {
-    let s = bus.start;
-    let e = bus.end;
-    if s.y == e.y {
-        let h = span_across(s, e);
-        if route_start.y == route_end.y {
-            let r = span_across(route_start, route_end);
-            meet_in_line(true, h, r)
+    if bus.start.y == bus.end.y {
+        let h = span_across(bus);
+        if run.start.y == run.end.y {
+            meet_in_line(true, h, span_across(run))
         } else {
-            let r = span_upright(route_start, route_end);
-            meet_crossing(h, r)
+            meet_crossing(h, span_upright(run))
         }
     } else {
-        let v = span_upright(s, e);
-        if route_start.y == route_end.y {
-            let r = span_across(route_start, route_end);
-            meet_crossing(r, v)
+        let v = span_upright(bus);
+        if run.start.y == run.end.y {
+            meet_crossing(span_across(run), v)
         } else {
-            let r = span_upright(route_start, route_end);
-            meet_in_line(false, v, r)
+            meet_in_line(false, v, span_upright(run))
         }
     }
 }
@@ -147,33 +140,27 @@ fn is_at_tap(tap: Option<Point>, p: Point) -> bool
 }
 
 // Whether p is in the same place as none of the four ends.
-fn is_strict(bus: Segment, route_start: Point, route_end: Point, p: Point) -> bool
-    ensures { result ≡ strict bus route_start route_end p }
+fn is_strict(bus: Segment, run: Segment, p: Point) -> bool
+    ensures { result ≡ strict bus run.start run.end p }
 {
     !preserved_point_matches(bus.start, p)
         & !preserved_point_matches(bus.end, p)
-        & !preserved_point_matches(route_start, p)
-        & !preserved_point_matches(route_end, p)
+        & !preserved_point_matches(run.start, p)
+        & !preserved_point_matches(run.end, p)
 }
 
 // The kind of a bus and a run that meet at p alone.
-fn kind_at(
-    bus: Segment,
-    route_start: Point,
-    route_end: Point,
-    tap: Option<Point>,
-    p: Point,
-) -> Contact
-    ensures { result ≡ kind_at bus route_start route_end tap p }
+fn kind_at(bus: Segment, run: Segment, tap: Option<Point>, p: Point) -> Contact
+    ensures { result ≡ kind_at bus run.start run.end tap p }
 {
-    let perpendicular = (bus.start.y == bus.end.y) != (route_start.y == route_end.y);
-    let inner = is_strict(bus, route_start, route_end, p);
+    let perpendicular = (bus.start.y == bus.end.y) != (run.start.y == run.end.y);
+    let inner = is_strict(bus, run, p);
     if perpendicular & inner {
         return Contact::StrictCrossing;
     }
     let tapped = is_at_tap(tap, p);
-    let at_a = preserved_point_matches(route_start, p);
-    let at_b = preserved_point_matches(route_end, p);
+    let at_a = preserved_point_matches(run.start, p);
+    let at_b = preserved_point_matches(run.end, p);
     if tapped & (at_a | at_b) {
         return Contact::TouchAtTap;
     }
@@ -181,47 +168,30 @@ fn kind_at(
 }
 
 // The kind by where the two meet, neither being slanted.
-fn kind_of(
-    bus: Segment,
-    route_start: Point,
-    route_end: Point,
-    tap: Option<Point>,
-    m: Meet,
-) -> Contact
-    ensures { result ≡ kind_of bus route_start route_end tap m }
+fn kind_of(bus: Segment, run: Segment, tap: Option<Point>, m: Meet) -> Contact
+    ensures { result ≡ kind_of bus run.start run.end tap m }
 {
     match m {
         Meet::Apart => Contact::Apart,
         Meet::Overlap => Contact::Overlap,
-        Meet::One(p) => kind_at(bus, route_start, route_end, tap, p),
+        Meet::One(p) => kind_at(bus, run, tap, p),
     }
 }
 
 // The test of a bus against a run: request F-6.
 #[tactic(auto, unfolding(geometry::specs::Kind::kind))]
-pub fn contact_kind(
-    bus: Segment,
-    route_start: Point,
-    route_end: Point,
-    tap: Option<Point>,
-) -> Contact
-    ensures { result ≡ kind bus route_start route_end tap }
+pub fn contact_kind(bus: Segment, run: Segment, tap: Option<Point>) -> Contact
+    ensures { result ≡ kind bus run.start run.end tap }
 {
-    if (route_start.x == route_end.x) & (route_start.y == route_end.y) {
+    if (run.start.x == run.end.x) & (run.start.y == run.end.y) {
         return Contact::Apart;
     }
-    let bus_slanted = is_slanted(bus.start, bus.end);
-    let route_slanted = is_slanted(route_start, route_end);
+    let bus_slanted = is_slanted(bus);
+    let route_slanted = is_slanted(run);
     if bus_slanted | route_slanted {
         return Contact::Slanted;
     }
-    kind_of(
-        bus,
-        route_start,
-        route_end,
-        tap,
-        meeting(bus, route_start, route_end),
-    )
+    kind_of(bus, run, tap, meeting(bus, run))
 }
 
 // Which kinds a caller disallows: segments_have_disallowed_contact by the kind. permitted is flag
@@ -239,22 +209,22 @@ pub fn is_disallowed(kind: Contact, permitted: bool) -> bool
 pub fn is_strict_crossing(kind: Contact) -> bool
     ensures { result ≡ is_strict kind }
 {
-    matches!(kind, Contact::StrictCrossing)
+    kind == Contact::StrictCrossing
 }
 
 // Where a bus and a run that cross strictly do: no number is worked out.
-pub fn crossing_point(bus: Segment, route_start: Point) -> Point
-    ensures { result ≡ crossing_place bus route_start }
+pub fn crossing_point(bus: Segment, run: Segment) -> Point
+    ensures { result ≡ crossing_place bus run.start }
 {
     if bus.start.y == bus.end.y {
         Point {
-            x: route_start.x,
+            x: run.start.x,
             y: bus.start.y,
         }
     } else {
         Point {
             x: bus.start.x,
-            y: route_start.y,
+            y: run.start.y,
         }
     }
 }
@@ -299,13 +269,23 @@ pub fn parallel_segments_are_too_close(left: Segment, right: Segment, spacing: f
 pub fn trunk_of(bus: Segment) -> Trunk
     ensures { result ≡ trunk bus }
 {
-    if is_slanted(bus.start, bus.end) {
+    if is_slanted(bus) {
         return Trunk::Slanted;
     }
     if bus.start.y == bus.end.y {
-        return Trunk::Level(span_across(bus.start, bus.end));
+        return Trunk::Level(span_across(bus));
     }
-    Trunk::Upright(span_upright(bus.start, bus.end))
+    Trunk::Upright(span_upright(bus))
+}
+
+// A bus of this segment.
+pub fn bus_of(segment: Segment) -> Bus
+    ensures { result.segment ≡ segment }
+{
+    Bus {
+        segment,
+        line: trunk_of(segment),
+    }
 }
 
 fn is_over(h: Span, v: Span) -> bool
@@ -324,22 +304,22 @@ fn is_beside(s: Span, at: f64, spacing: f64) -> bool
 // Whether a run has no contact with a bus and is not too close to it, as far as a few comparisons
 // tell: most looks of the contact check end here.
 #[tactic(auto, unfolding(geometry::specs::Apart::apart))]
-pub fn is_apart(t: Trunk, spacing: f64, route_start: Point, route_end: Point) -> bool
-    ensures { result ≡ apart t spacing route_start route_end }
+pub fn is_apart(t: Trunk, spacing: f64, run: Segment) -> bool
+    ensures { result ≡ apart t spacing run.start run.end }
 {
     match t {
         Trunk::Slanted => false,
         Trunk::Level(span) => {
-            if route_start.y == route_end.y {
-                return is_beside(span, route_start.y, spacing);
+            if run.start.y == run.end.y {
+                return is_beside(span, run.start.y, spacing);
             }
-            route_start.x == route_end.x && !is_over(span, span_upright(route_start, route_end))
+            run.start.x == run.end.x && !is_over(span, span_upright(run))
         }
         Trunk::Upright(span) => {
-            if route_start.y == route_end.y {
-                return !is_over(span_across(route_start, route_end), span);
+            if run.start.y == run.end.y {
+                return !is_over(span_across(run), span);
             }
-            route_start.x == route_end.x && is_beside(span, route_start.x, spacing)
+            run.start.x == run.end.x && is_beside(span, run.start.x, spacing)
         }
     }
 }

@@ -1,4 +1,4 @@
--- Entries written one after the other, and rows sorted by their indices. Assumes nothing.
+-- Entries written one after the other, and rows sorted. Assumes nothing.
 use Prim.Native.Nat.{ℕ, zero, suc, ◌+◌, ◌/◌, ◌≤◌, ◌<◌}
 use Rattle.std.specs.Prelude.{◌≡◌, Bool, true, false, cond, get_or, take, drop, Float}
 use Rattle.std.proofs.Math.Path.{refl, ap}
@@ -18,11 +18,8 @@ use Rattle.answer.proofs.Stores.{sets_then, point_length}
 use Rattle.sorting.specs.Lists.{Every}
 use Rattle.sorting.specs.Sort.{insert, sorted}
 use Rattle.sorting.specs.Sorted.{every_sorted, sorted_length}
-use Rattle.place_order.specs.Index.{index_key, count_from}
-use Rattle.place_order.specs.Laws.{counted_length}
 use Rattle.limits.specs.Limits.{max_crossings, crossing_bytes}
-use Rattle.crossing_rows.specs.declared.Ids.{Ids}
-use Rattle.crossing_rows.specs.Rows.{Row, row_at, rows_from}
+use Rattle.crossing_rows.specs.declared.Row.{Row}
 use Rattle.crossing_bytes.specs.Bytes.{entry_bytes}
 use Rattle.crossing_bytes.specs.RowBytes.{row_bytes, rows_bytes, row_key}
 
@@ -39,23 +36,23 @@ entry_joined out at p u e =
     let b : at + 16 ≡ at + length (point_bytes p) = let k = point_length p in omega arith in
     sets_then (sets out at (point_bytes p)) (at + 16) (at + 20) (bytes 4 u) (bytes 4 e) a ∙ sets_then out at (at + 16) (point_bytes p) (bytes 4 u ++ bytes 4 e) b
 
--- what is left to write from index i on
-module _ (p : List Float) (m : ℕ → Ids) (order : List ℕ) where
-  abbrev pub entries_at : ℕ → List ℕ
-  entries_at i = all_bytes row_bytes (map (row_at p m) (drop i order))
+-- what is left to write from row i on
+module _ (rows : List Row) where
+  abbrev pub rows_at : ℕ → List ℕ
+  rows_at i = all_bytes row_bytes (drop i rows)
 
-  pub entry_next : (out out' : List ℕ) (i at : ℕ) → i < length order → out' ≡ sets out at (row_bytes (row_at p m (get_or order i 0))) → sets out' (at + crossing_bytes) (entries_at (i + 1)) ≡ sets out at (entries_at i)
+  pub row_next : (out out' : List ℕ) (i at : ℕ) (r : Row) → i < length rows → out' ≡ sets out at (row_bytes (get_or rows i r)) → sets out' (at + crossing_bytes) (rows_at (i + 1)) ≡ sets out at (rows_at i)
   unfolding all_bytes
-  entry_next out out' i at h e =
-      let r = row_at p m (get_or order i 0) in
-      let k : at + crossing_bytes ≡ at + length (row_bytes r) = let q = entry_length r.place r.bundle r.edge in omega arith in
-      rw (e, add-one, drop-cons order i 0 h) (sets_then out at (at + crossing_bytes) (row_bytes r) (entries_at (suc i)) k)
+  row_next out out' i at r h e =
+      let x = get_or rows i r in
+      let k : at + crossing_bytes ≡ at + length (row_bytes x) = let q = entry_length x.place x.bundle x.edge in omega arith in
+      rw (e, add-one, drop-cons rows i r h) (sets_then out at (at + crossing_bytes) (row_bytes x) (rows_at (suc i)) k)
 
-  pub entry_end : (i : ℕ) → length order ≤ i → entries_at i ≡ []
+  pub row_end : (i : ℕ) → length rows ≤ i → rows_at i ≡ []
   unfolding all_bytes
-  entry_end i h = rw (drop_of_length-le order h)
+  row_end i h = rw (drop_of_length-le rows h)
 
--- ---- rows by their indices
+-- ---- rows sorted, from what they are made of
 
 module _ {A B : Type 0} (f : A → B) (key : A → ℕ) (key' : B → ℕ) where
   map_insert : (a : A) (m : List A) → key a ≡ key' (f a) → Every (λ x. key x ≡ key' (f x)) m → map f (insert key a m) ≡ insert key' (f a) (map f m)
@@ -77,56 +74,9 @@ module _ {A B : Type 0} (f : A → B) (key : A → ℕ) (key' : B → ℕ) where
   map_sorted [] h = refl
   map_sorted (a ∷ l) h = map_insert a (sorted key l) h.0 (every_sorted key (λ x. key x ≡ key' (f x)) l h.1) ∙ ap (insert key' (f a)) (map_sorted l h.1)
 
--- the rows that the slices hold, by their indices
-module _ (p : List Float) (m : ℕ → Ids) where
-  rows_counted : (i n : ℕ) → map (row_at p m) (count_from i n) ≡ rows_from p m i n
-  unfolding rows_from count_from
-  rows_counted i zero = refl
-  rows_counted i (suc n) = ap (λ (l : List Row). row_at p m i ∷ l) (rows_counted (suc i) n)
-
-  index_same : (i : ℕ) → i < length p / 2 → index_key p i ≡ row_key (row_at p m i)
-  unfolding index_key row_at
-  index_same i h = rw (lt-ltb i (length p / 2) h)
-
-  counted_same : (i n : ℕ) → i + n ≤ length p / 2 → Every (λ k. index_key p k ≡ row_key (row_at p m k)) (count_from i n)
-  unfolding count_from
-  counted_same i zero h = tt
-  counted_same i (suc n) h = let g : suc i + n ≤ length p / 2 = omega arith in (index_same i (omega arith), counted_same (suc i) n g)
-
-  pub sorted_rows : (n : ℕ) → n ≤ length p / 2 → map (row_at p m) (sorted (index_key p) (count_from 0 n)) ≡ sorted row_key (rows_from p m 0 n)
-  sorted_rows n h = map_sorted (row_at p m) (index_key p) row_key (count_from 0 n) (counted_same 0 n (omega arith)) ∙ ap (sorted row_key) (rows_counted 0 n)
-
-counted_below : (i n k : ℕ) → i + n ≤ k → Every (λ j. j < k) (count_from i n)
-unfolding count_from
-counted_below i zero k h = tt
-counted_below i (suc n) k h = let g : suc i + n ≤ k = omega arith in (omega arith, counted_below (suc i) n k g)
-
 -- the count, and the entries behind it
 pub list_joined : (out : List ℕ) (l : List Row) (n : ℕ) → n ≡ length l → sets (sets out 0 (bytes 2 n)) 2 (all_bytes row_bytes l) ≡ sets out 0 (rows_bytes l)
 unfolding rows_bytes
 list_joined out l n e =
     let k : 2 ≡ 0 + length (bytes 2 n) = let q = bytes_length 2 n in omega arith in
     sets_then out 0 2 (bytes 2 n) (all_bytes row_bytes l) k ∙ ap (λ (x : ℕ). sets out 0 (bytes 2 x ++ all_bytes row_bytes l)) e
-
--- ---- the order that is written
-
-module _ (p : List Float) (m : ℕ → Ids) (first order : List ℕ) (n : ℕ) (f : first ≡ count_from 0 n) (e : order ≡ sorted (index_key p) first) where
-  order_is : order ≡ sorted (index_key p) (count_from 0 n)
-  order_is = e ∙ ap (sorted (index_key p)) f
-
-  pub order_below : n ≤ max_crossings → Every (λ k. k < max_crossings) order
-  order_below h = subst (Every (λ k. k < max_crossings)) (sym order_is) (every_sorted (index_key p) (λ k. k < max_crossings) (count_from 0 n) (counted_below 0 n max_crossings (omega arith)))
-
-  pub order_length : length order ≡ n
-  order_length = ap length order_is ∙ sorted_length (index_key p) (count_from 0 n) ∙ counted_length 0 n
-
-  pub order_written : n ≤ length p / 2 → rows_bytes (map (row_at p m) order) ≡ rows_bytes (sorted row_key (rows_from p m 0 n))
-  order_written h = ap (λ (l : List ℕ). rows_bytes (map (row_at p m) l)) order_is ∙ ap rows_bytes (sorted_rows p m n h)
-
--- ---- as many rows as a front part has places for
-
-pub front_fits : (n k : ℕ) (l : List ℕ) → n ≤ k → n ≤ length l → length (take n l) ≤ k
-front_fits n k l h fits = omega (arith, length-take-le n l fits, h)
-
-pub front_written : (p : List Float) (m : ℕ → Ids) (n : ℕ) (l out out' : List ℕ) → n ≤ length l → out' ≡ sets out 0 (rows_bytes (sorted row_key (rows_from p m 0 (length (take n l))))) → out' ≡ sets out 0 (rows_bytes (sorted row_key (rows_from p m 0 n)))
-front_written p m n l out out' fits e = e ∙ ap (λ (k : ℕ). sets out 0 (rows_bytes (sorted row_key (rows_from p m 0 k)))) (length-take-le n l fits)

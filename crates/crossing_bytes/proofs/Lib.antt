@@ -1,3 +1,4 @@
 pub mod Counted
+pub mod FlatRows
 pub mod Laws
 pub mod Link

@@ -24,7 +24,8 @@ use Rattle.answer.proofs.Stores.{all_length}
 use Rattle.drawing.specs.Build.{Drawn, tap_of}
 use Rattle.crossings.specs.List.{Crossing, crossing_of, run_crossings, route_crossings, bundle_crossings, sheet_crossings, order_key, crossing_list, listed}
 use Rattle.limits.specs.Limits.{crossing_bytes}
-use Rattle.crossing_rows.specs.Rows.{Row, row, one_row, run_rows, route_rows, bundle_rows, sheet_rows, id_of}
+use Rattle.crossing_rows.specs.declared.Row.{Row}
+use Rattle.crossing_rows.specs.Rows.{row, one_row, run_rows, route_rows, bundle_rows, sheet_rows, id_of}
 use Rattle.crossing_bytes.specs.Bytes.{crossing_entry, list_bytes}
 use Rattle.crossing_bytes.specs.RowBytes.{row_bytes, rows_bytes, row_key}
 use Rattle.crossing_bytes.proofs.Laws.{entry_length, map_sorted}

@@ -1,4 +1,4 @@
--- The bytes of rows that the slices hold. Definitions of inner contracts.
+-- The bytes of rows. Definitions of inner contracts.
 -- Assumes nothing.
 use Rattle.std.specs.Prelude.{ℕ, List, [], ◌++◌, Bool, ◌||◌, cond, ltb, length}
 use Rattle.wire.specs.Bytes.{bytes}
@@ -6,7 +6,7 @@ use Rattle.answer.specs.Answer.{all_bytes}
 use Rattle.place_order.specs.Order.{place_key}
 use Rattle.sorting.specs.Sort.{sorted}
 use Rattle.limits.specs.Limits.{max_crossings}
-use Rattle.crossing_rows.specs.Rows.{Row}
+use Rattle.crossing_rows.specs.declared.Row.{Row}
 use Rattle.crossing_bytes.specs.Bytes.{entry_bytes}
 
 abbrev pub row_bytes : Row → List ℕ

@@ -5,49 +5,35 @@
 
 #![tactic(auto)]
 
-ghost use Rattle.std.specs.Prelude.{◌≡◌, map, ◌+◌, ◌*◌, ◌<◌, ◌≤◌, length};
+ghost use Rattle.std.specs.Prelude.{◌≡◌, ◌+◌, ◌*◌, ◌≤◌, length};
 ghost use Rattle.std.proofs.lemmas.List.Edits.{sets};
 ghost use Rattle.answer.specs.Answer.{all_bytes};
-ghost use Rattle.sorting.specs.Lists.{Every};
 ghost use Rattle.sorting.specs.Sort.{sorted};
 ghost use Rattle.limits.specs.Limits.{max_crossings, crossing_bytes, crossings_room};
-ghost use Rattle.crossing_rows.specs.Lent.{row_lent, rows_lent};
-ghost use Rattle.crossing_bytes.specs.Bytes.{entry_bytes};
 ghost use Rattle.crossing_bytes.specs.RowBytes.{row_bytes, rows_bytes, row_key};
 
-use crossing_rows::RowsView;
-use geometry::Point;
+use crossing_rows::Row;
 use limits::{CROSSING_BYTES, MAX_CROSSINGS};
 
 #[tactic(auto, using(crossing_bytes::proofs::Laws::entry_joined))]
-fn put_entry(out: &mut [u8], at: usize, p: Point, bundle: u64, edge: u64)
+fn put_row(out: &mut [u8], at: usize, row: &Row)
     requires { at + crossing_bytes ≤ length out.old }
-    ensures { out.new ≡ sets out.old at (entry_bytes p bundle edge) }
+    ensures { out.new ≡ sets out.old at (row_bytes row.now) }
 {
-    answer::put_point(out, at, p);
-    answer::put_id(out, at + 16, bundle);
-    answer::put_id(out, at + 20, edge);
+    answer::put_point(out, at, row.place);
+    answer::put_id(out, at + 16, row.bundle);
+    answer::put_id(out, at + 20, row.edge);
 }
 
-// Row k.
-fn put_row(out: &mut [u8], at: usize, kept: RowsView, k: usize)
-    requires { (at + crossing_bytes ≤ length out.old) × (k < max_crossings) }
-    ensures { out.new ≡ sets out.old at (row_bytes (row_lent kept.entry k)) }
-{
-    let p = route_views::point_at(kept.places, k);
-    let ids = kept.names[k];
-    put_entry(out, at, p, ids.bundle, ids.edge);
-}
-
-// The rows that order names, behind the count.
-#[tactic(auto, using(crossing_bytes::proofs::Laws::entry_next, crossing_bytes::proofs::Laws::entry_end))]
-fn put_rows(out: &mut [u8], kept: RowsView, order: &[usize])
-    requires { (2 + crossing_bytes * length order.now ≤ length out.old) × Every (λ k. k < max_crossings) order.now }
-    ensures { out.new ≡ sets out.old 2 (all_bytes row_bytes (map (row_lent kept.entry) order.now)) }
+// The entries, behind the count.
+#[tactic(auto, using(crossing_bytes::proofs::Laws::row_next, crossing_bytes::proofs::Laws::row_end))]
+fn put_rows(out: &mut [u8], rows: &[Row])
+    requires { 2 + crossing_bytes * length rows.now ≤ length out.old }
+    ensures { out.new ≡ sets out.old 2 (all_bytes row_bytes rows.now) }
 {
     let mut at = 2;
-    for k in order {
-        put_row(out, at, kept, *k);
+    for row in rows {
+        put_row(out, at, row);
         at += CROSSING_BYTES;
     }
 }
@@ -55,30 +41,20 @@ fn put_rows(out: &mut [u8], kept: RowsView, order: &[usize])
 // out is a part of the caller's buffer, which C lends with its length: that it has room is asked.
 
 #[tactic(auto, using(crossing_bytes::proofs::Laws::list_joined, std::proofs::lemmas::Grind::common_steps))]
-fn put_list(out: &mut [u8], kept: RowsView, order: &[usize])
-    requires { (length order.now ≤ max_crossings) × (crossings_room ≤ length out.old) × Every (λ k. k < max_crossings) order.now }
-    ensures { out.new ≡ sets out.old 0 (rows_bytes (map (row_lent kept.entry) order.now)) }
+fn put_list(out: &mut [u8], rows: &[Row])
+    requires { (length rows.now ≤ max_crossings) × (crossings_room ≤ length out.old) }
+    ensures { out.new ≡ sets out.old 0 (rows_bytes rows.now) }
 {
-    answer::put_count(out, 0, order.len());
-    put_rows(out, kept, order);
-}
-
-// The rows, sorted and written, where order has a place for each.
-fn put_sorted(kept: RowsView, order: &mut [usize], spare: &mut [usize], out: &mut [u8])
-    requires { (length order.old ≡ kept.count) × (max_crossings ≤ length spare.old) × (crossings_room ≤ length out.old) }
-    ensures { out.new ≡ sets out.old 0 (rows_bytes (sorted row_key (rows_lent kept.entry))) }
-{
-    place_sort::count_up(order);
-    place_sort::sort(kept.places, order, spare);
-    put_list(out, kept, order);
+    answer::put_count(out, 0, rows.len());
+    put_rows(out, rows);
 }
 
 // The rows, sorted and written.
-pub fn put_crossings(kept: RowsView, out: &mut [u8])
-    requires { crossings_room ≤ length out.old }
-    ensures { out.new ≡ sets out.old 0 (rows_bytes (sorted row_key (rows_lent kept.entry))) }
+pub fn put_crossings(rows: &mut [Row], out: &mut [u8])
+    requires { (length rows.old ≤ max_crossings) × (crossings_room ≤ length out.old) }
+    ensures { out.new ≡ sets out.old 0 (rows_bytes (sorted row_key rows.old)) }
 {
-    let mut order = [0; MAX_CROSSINGS];
-    let mut spare = [0; MAX_CROSSINGS];
-    put_sorted(kept, &mut order[..kept.count], &mut spare[..], out);
+    let mut spare = [Row::default(); MAX_CROSSINGS];
+    place_sort::sort(rows, &mut spare[..]);
+    put_list(out, rows);
 }

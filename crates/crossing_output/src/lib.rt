@@ -9,9 +9,8 @@ ghost use Rattle.refusal.specs.declared.Refusal.TheVariants.{TooManyCrossings};
 ghost use Rattle.crossing_rows.specs.Rows.{rows_met};
 ghost use Rattle.crossing_bytes.specs.RowBytes.{written_rows};
 
+use arrayvec::ArrayVec;
 use board::{DrawnBundle, Edge};
-use crossing_rows::{Ids, Rows, RowsView};
-use limits::{CROSSING_NUMBERS, MAX_CROSSINGS};
 use refusal::Refusal;
 use route::PresentRoutes;
 
@@ -33,31 +32,12 @@ pub fn list_crossings(
     ensures refusal { IfErr result (λ r. r ≡ TooManyCrossings) }
     ensures bytes { out.new ≡ sets out.old 0 (written_rows withheld (rows_met permitted table.now drawn.now present.entry.points.now present.entry.counts.now)) }
 {
-    let mut places = [0.0; CROSSING_NUMBERS];
-    let mut names = [Ids { bundle: 0, edge: 0 }; MAX_CROSSINGS];
-    let mut kept = Rows {
-        places: &mut places[..],
-        names: &mut names[..],
-        count: 0,
-    };
-    crossing_walk::sheet_crossings(permitted, table, drawn, present, &mut kept);
-    let too_many = kept.count > MAX_CROSSINGS;
-    if too_many {
-        return Err(Refusal::TooManyCrossings);
-    }
+    let mut kept = ArrayVec::new();
+    crossing_walk::sheet_crossings(permitted, table, drawn, present, &mut kept)?;
+    let rows = kept.as_mut_slice();
     if withheld {
         return Ok(());
     }
-    let Rows {
-        places,
-        names,
-        count,
-    } = kept;
-    let rows = RowsView {
-        places,
-        names,
-        count,
-    };
     crossing_list::put_crossings(rows, out);
     Ok(())
 }

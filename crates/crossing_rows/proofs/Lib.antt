@@ -1,1 +1,1 @@
-pub mod FlatNames
+pub mod FlatRows

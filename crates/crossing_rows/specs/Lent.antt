@@ -1,25 +1,13 @@
--- What the rows that are lent hold. Definitions of inner contracts.
+-- What a walk does to the rows that it is lent. Definitions of inner contracts.
 -- Assumes nothing.
-use Rattle.std.specs.Prelude.{ℕ, List, ◌≡◌}
-use Rattle.crossing_rows.specs.declared.Rows.{Rows}
-use Rattle.crossing_rows.specs.declared.RowsView.{RowsView}
-use Rattle.crossing_rows.specs.Rows.{Row, Kept, Grown, ids_in, row_at, rows_from}
+use Rattle.std.specs.Prelude.{List, ◌++◌, ◌≡◌, ◌<◌, Result, IfErr, OnOk, length}
+use Rattle.arrayvec.specs.ArrayVec.{ArrayVec}
+use Rattle.limits.specs.Limits.{max_crossings}
+use Rattle.refusal.specs.declared.Refusal.{Refusal}
+use Rattle.refusal.specs.declared.Refusal.TheVariants.{TooManyCrossings}
+use Rattle.crossing_rows.specs.declared.Row.{Row}
 
--- they lend the slices that they lent before
-abbrev pub SameSlices : Rows → Rows → Type 0
-SameSlices old k = (k.places.ghost_name ≡ old.places.ghost_name) × (k.names.ghost_name ≡ old.names.ghost_name)
-
--- they hold the rows l; of more than 1,024 only that they are more
-abbrev pub KeptIn : List Row → Rows → Type 0
-KeptIn l k = Kept l k.places.now (ids_in k.names.now) k.count
-
--- a walk that met the rows new, whatever they held before it
-abbrev pub GrownBy : Rows → Rows → List Row → Type 0
-GrownBy old k new = Grown old.places.now (ids_in old.names.now) old.count k.places.now (ids_in k.names.now) k.count new
-
--- row i of a view, and all its rows
-abbrev pub row_lent : RowsView → ℕ → Row
-row_lent k i = row_at k.places.now (ids_in k.names.now) i
-
-abbrev pub rows_lent : RowsView → List Row
-rows_lent k = rows_from k.places.now (ids_in k.names.now) 0 k.count
+-- the rows met stand behind those kept before, or there is no room for all of them
+pub record Adds (old new : List Row) (met : List Row) (r : Result (Unit {0}) Refusal) : Type 0 where
+  pub kept : OnOk r (new ≡ old ++ met)
+  pub many : IfErr r (λ e. (e ≡ TooManyCrossings) × (max_crossings < length (old ++ met)))

@@ -23,9 +23,8 @@ use Rattle.geometry.proofs.KindContact.{kind_contact}
 use Rattle.board.specs.declared.DrawnBundle.{DrawnBundle}
 use Rattle.board.specs.declared.Edge.{Edge}
 use Rattle.limits.specs.Limits.{slot_points}
-use Rattle.crossing_rows.specs.declared.Ids.{Ids}
-use Rattle.crossing_rows.specs.Rows.{Row, row, one_row, run_rows, route_rows, bundle_rows, sheet_rows, id_of, rows_met, rows_from, Kept, Grown}
-use Rattle.crossing_rows.specs.Keep.{grown_then}
+use Rattle.crossing_rows.specs.declared.Row.{Row}
+use Rattle.crossing_rows.specs.Rows.{row, one_row, run_rows, route_rows, bundle_rows, sheet_rows, id_of}
 
 -- ---- a run that is apart from a bus does not cross it
 
@@ -44,9 +43,6 @@ pub apart_crosses : (bus : Segment) (t : Trunk) (z : Float) (a b : Point) (tap :
 apart_crosses bus t z a b tap r d e h = sym (apart_uncrossed bus z a b tap (ap (λ (w : Trunk). apart w z a b) (sym d) ∙ sym e ∙ h))
 
 -- ---- one run
-
-pub grown_as : (p : List Float) (m : ℕ → Ids) (n : ℕ) (q : List Float) (o : ℕ → Ids) (k : ℕ) (x y : List Row) → x ≡ y → Grown p m n q o k x → Grown p m n q o k y
-grown_as p m n q o k x y e g = subst (Grown p m n q o k) e g
 
 module _ (bus : Segment) (u e : ℕ) (r : Segment) where
   pub row_hit : (t : Bool) (z : Point) → t ≡ is_strict (kind bus r.start r.end None) → t ≡ true → z ≡ crossing_place bus r.start → row z u e ∷ [] ≡ one_row bus u e r
@@ -120,30 +116,7 @@ module _ (l : List DrawnBundle) (n : ℕ) (ids : List ℕ) (rs : List Route) whe
       let b : length (take n l) ≤ i = rw length-take-le h in
       drawn_end (take n l) ids rs i b
 
--- ---- one route, the collector first
-pub route_grown : (d : DrawnBundle) (e : ℕ) (r : Route) (p q w : List Float) (m o s : ℕ → Ids) (i j k : ℕ) → Grown p m i q o j (run_rows d.collector d.id e (runs r)) → Grown q o j w s k (run_rows d.spine d.id e (runs r)) → Grown p m i w s k (route_rows d e r)
-unfolding route_rows
-route_grown d e r p q w m o s i j k f g = grown_then p q w m o s i j k (run_rows d.collector d.id e (runs r)) (run_rows d.spine d.id e (runs r)) f g
-
--- ---- from nothing
-pub kept_all : (p : List Float) (m : ℕ → Ids) (q : List Float) (o : ℕ → Ids) (n : ℕ) (all : List Row) → Grown p m 0 q o n all → Kept all q o n
-unfolding rows_from
-kept_all p m q o n all g = g [] (record { count = refl; rows = λ h. refl })
-
 -- ---- the ids of the edges, one after the other
 
 pub ids_more : (ids : List ℕ) (rows : List Edge) (d : Edge) (i n : ℕ) → n ≡ id_of (get_or rows i d) → i < length ids → i < length rows → take i ids ≡ map id_of (take i rows) → take (i + 1) (set ids i n) ≡ map id_of (take (i + 1) rows)
 ids_more ids rows d i n v h k e = rw (add-one, take-suc-set ids i n h, take-suc rows i d k, map-append id_of (take i rows) (get_or rows i d ∷ []), e, v)
-
--- ---- crossings permitted, or not
-
-pub none_kept : (permitted : Bool) (table : List Edge) (drawn : List DrawnBundle) (points : List Float) (counts : List ℕ) (p : List Float) (m : ℕ → Ids) → not permitted ≡ true → Kept (rows_met permitted table drawn points counts) p m 0
-unfolding rows_from rows_met
-none_kept true table drawn points counts p m e = absurd (true≢false (sym e))
-none_kept false table drawn points counts p m e = record { count = refl; rows = λ h. refl }
-
-pub permitted_kept : (permitted : Bool) (table : List Edge) (drawn : List DrawnBundle) (points : List Float) (counts ids : List ℕ) (p : List Float) (m : ℕ → Ids) (n : ℕ) → not permitted ≡ false → ids ≡ map id_of table
-    → Kept (sheet_rows drawn ids (routes_of points counts)) p m n → Kept (rows_met permitted table drawn points counts) p m n
-unfolding rows_met
-permitted_kept true table drawn points counts ids p m n e i k = subst (λ (l : List ℕ). Kept (sheet_rows drawn l (routes_of points counts)) p m n) i k
-permitted_kept false table drawn points counts ids p m n e i k = absurd (true≢false e)

@@ -7,7 +7,7 @@ use native.Mathlib.Omega.{arith}
 use lib.ListN.{length, get_or, take, drop}
 use lib.Seq.{get_or-take, length-take-le}
 use lib.Ieee.{Float}
-use Rattle.geometry.specs.Points.{point_at}
+use Rattle.geometry.specs.declared.Point.{Point}
 use Rattle.board.specs.declared.Edge.{Edge}
 use Rattle.board.specs.declared.Member.{Member}
 use Rattle.board.specs.declared.Bundle.{Bundle}
@@ -20,7 +20,7 @@ use Rattle.plan.specs.BoardTables.{no_bundle}
 use Rattle.planner.specs.Members.{member_at}
 use Rattle.planner.proofs.MemberTurns.{window_cons}
 use Rattle.drawing.specs.Check.{no_edge}
-use Rattle.checks.specs.CheckRows.{taps_from, drawn_of}
+use Rattle.checks.specs.CheckRows.{no_point, taps_from, drawn_of}
 use Rattle.checks.specs.MemberSlices.{Row}
 use Rattle.turns.specs.TurnTables.{Rows}
 use Rattle.route.specs.Slots.{routes_of}
@@ -37,18 +37,18 @@ use Rattle.job_tables.specs.Came.{Sizes, job_in}
 use Rattle.draw_job.specs.JobTables.{TapsOf, OnSheet, finished}
 
 null_tap : DrawnTap
-null_tap = record { edge = 0; point = point_at [] 0 }
+null_tap = record { edge = 0; point = no_point }
 
-module _ (table : List Edge) (members : List Member) (edges : List ℕ) (taps : List Float) (t : DrawnTaps) (of : TapsOf table members taps t) (kt : length members ≤ length t.rows)
+module _ (table : List Edge) (members : List Member) (edges : List ℕ) (taps : List Point) (t : DrawnTaps) (of : TapsOf table members taps t) (kt : length members ≤ length t.rows)
     (are : (k : ℕ) → get_or edges k 0 ≡ (member_at members k).edge) where
   abbrev listed : List DrawnTap
   listed = take (length members) t.rows
 
-  tap_same : (k : ℕ) → k < length members → get_or listed k null_tap ≡ tap_told table (record { edge = get_or edges k 0; place = point_at taps k })
+  tap_same : (k : ℕ) → k < length members → get_or listed k null_tap ≡ tap_told table (record { edge = get_or edges k 0; place = get_or taps k no_point })
   tap_same k h =
       get_or-take (length members) t.rows k null_tap h
       ∙ of.row_is k h null_tap
-      ∙ ap (λ (e : ℕ). record { edge = (get_or table e no_edge).id; point = point_at taps k }) (sym (are k))
+      ∙ ap (λ (e : ℕ). record { edge = (get_or table e no_edge).id; point = get_or taps k no_point }) (sym (are k))
 
   taps_same : (k first : ℕ) → first + k ≤ length members → window first k listed ≡ map (tap_told table) (taps_from edges taps first k)
   unfolding taps_from
@@ -56,7 +56,7 @@ module _ (table : List Edge) (members : List Member) (edges : List ℕ) (taps : 
   taps_same (suc k) first h =
       rw (window_cons listed first k null_tap (omega (arith, length-take-le (length members) t.rows kt)))
       (ap (λ (d : DrawnTap). d ∷ window (suc first) k listed) (tap_same first (omega arith))
-      ∙ ap (λ (l : List DrawnTap). tap_told table (record { edge = get_or edges first 0; place = point_at taps first }) ∷ l) (taps_same k (suc first) (omega arith)))
+      ∙ ap (λ (l : List DrawnTap). tap_told table (record { edge = get_or edges first 0; place = get_or taps first no_point }) ∷ l) (taps_same k (suc first) (omega arith)))
 
   trunk_same : (u : Bundle) (d : DrawnBundle) → d.id ≡ u.id → d.first + d.count ≤ length members → trunk_of listed d ≡ bundle_told table u (drawn_of edges taps d)
   trunk_same u d e h =
@@ -98,7 +98,7 @@ rows_alike [] (d ∷ ds) r = absurd r
 rows_alike (u ∷ us) [] r = absurd r
 rows_alike (u ∷ us) (d ∷ ds) r = let e = rows_alike us ds r.1 in omega arith
 
-module _ (j : code.Job) (edges : List ℕ) (ds : DrawnBundles) (points : List Float) (counts : List ℕ) (taps : List Float) (on : OnSheet j edges ds points counts taps) (sizes : Sizes j) where
+module _ (j : code.Job) (edges : List ℕ) (ds : DrawnBundles) (points : List Float) (counts : List ℕ) (taps : List Point) (on : OnSheet j edges ds points counts taps) (sizes : Sizes j) where
   short : ds.count ≤ length j.bundles.rows
   short = omega (arith, on.all_drawn, on.fits.bundles, sizes.bundles)
 
@@ -120,7 +120,7 @@ module _ (j : code.Job) (edges : List ℕ) (ds : DrawnBundles) (points : List Fl
       let k : i < ds.count = omega (arith, h, length-take-le ds.count j.bundles.rows short) in
       subst (λ (u : Bundle). u.first + u.count ≤ length (take j.members.count j.members.rows)) (sym (get_or-take ds.count j.bundles.rows i no_bundle k)) (omega (arith, on.windows i k, members_long))
 
-  module _ (buffer : List Float) (p : Planning) (rest : ℕ) (l : Laid) (after shifted : List Float) (t : DrawnTaps) (of : TapsOf (take j.edges.count j.edges.rows) (take j.members.count j.members.rows) shifted t)
+  module _ (buffer : List Float) (p : Planning) (rest : ℕ) (l : Laid) (after : List Float) (shifted : List Point) (t : DrawnTaps) (of : TapsOf (take j.edges.count j.edges.rows) (take j.members.count j.members.rows) shifted t)
       (page : page_in edges l after counts shifted ≡ page_of (sheet_in edges (take j.nodes.count j.nodes.rows) (take ds.count ds.rows) points counts taps)) (as_many : l.drawn.count ≡ ds.count)
       (kept : map heading (take l.drawn.count l.drawn.rows) ≡ map heading (take ds.count ds.rows)) where
     abbrev frame : Frame

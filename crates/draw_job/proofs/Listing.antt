@@ -8,6 +8,7 @@ use lib.Dec.{ltb}
 use lib.ListN.{length, take}
 use lib.Seq.{sets}
 use lib.Ieee.{Float}
+use Rattle.geometry.specs.declared.Point.{Point}
 use Rattle.sorting.specs.Sort.{sorted}
 use Rattle.route.specs.Slots.{routes_of}
 use Rattle.board.specs.declared.Bundle.{Bundle}
@@ -37,7 +38,7 @@ same_ids [] (d ∷ ds) r = absurd r
 same_ids (u ∷ us) [] r = absurd r
 same_ids (u ∷ us) (d ∷ ds) r = rw (r.0.id, same_ids us ds r.1)
 
-module _ (j : code.Job) (buffer : List Float) (p : Planning) (edges : List ℕ) (ds : DrawnBundles) (points : List Float) (counts : List ℕ) (taps : List Float) (rest : ℕ) (on : OnSheet j edges ds points counts taps) where
+module _ (j : code.Job) (buffer : List Float) (p : Planning) (edges : List ℕ) (ds : DrawnBundles) (points : List Float) (counts : List ℕ) (taps : List Point) (rest : ℕ) (on : OnSheet j edges ds points counts taps) where
   abbrev f : Finished
   f = finished j buffer p edges ds points counts taps rest
 
@@ -77,7 +78,7 @@ pub record Listed (w : Wants) (f : Finished) (withheld : Bool) (before after : L
   pub few : too_many w f ≡ false
   pub bytes : after ≡ sets before 0 (cond withheld [] (cond w.crossings (list_bytes f.said.board (list_of f)) []))
 
-pub wanted_listed : (j : code.Job) (buffer : List Float) (p : Planning) (edges : List ℕ) (ds : DrawnBundles) (points : List Float) (counts : List ℕ) (taps : List Float) (rest : ℕ) → OnSheet j edges ds points counts taps
+pub wanted_listed : (j : code.Job) (buffer : List Float) (p : Planning) (edges : List ℕ) (ds : DrawnBundles) (points : List Float) (counts : List ℕ) (taps : List Point) (rest : ℕ) → OnSheet j edges ds points counts taps
     → (w : Wants) (withheld r : Bool) (before after : List ℕ) → w.crossings ≡ true → r ≡ ltb max_crossings (length (rows_met j.flags.permits_crossings (take j.edges.count j.edges.rows) (take ds.count ds.rows) points counts)) → after ≡ sets before 0 (written_rows withheld (rows_met j.flags.permits_crossings (take j.edges.count j.edges.rows) (take ds.count ds.rows) points counts)) → r ≡ false
     → Listed w (finished j buffer p edges ds points counts taps rest) withheld before after
 wanted_listed j buffer p edges ds points counts taps rest on w withheld r before after wanted is left h =

@@ -10,7 +10,8 @@ use lib.ListN.{length, take, get_or}
 use lib.Seq.{sets, length-take-le, get_or-take, take-length}
 use Rattle.std.proofs.lemmas.List.{take-take}
 use lib.Ieee.{Float}
-use Rattle.limits.specs.Limits.{max_edges, max_members, answer_room, id_columns, tap_numbers, slot_numbers}
+use Rattle.geometry.specs.declared.Point.{Point}
+use Rattle.limits.specs.Limits.{max_edges, max_members, answer_room, id_columns, slot_numbers}
 use Rattle.route.specs.Slots.{routes_of, Held}
 use Rattle.board.specs.declared.PlacedNode.{PlacedNode}
 use Rattle.board.specs.declared.DrawnBundle.{DrawnBundle}
@@ -240,16 +241,16 @@ pub ended_refused : (r : Result ⊤ Refusal) (n m : ℕ) (e : Refusal) → m ≡
 ended_refused r n m e h is = ap (λ (z : Result ⊤ Refusal). told z n) is ∙ ap (λ (k : ℕ). failed k n) (sym h)
 
 -- what was in the slots does not matter, and the taps are cut to those of the members
-pub lent_as : (j : code.Job) (taps points points' : List Float) (counts : List ℕ) (mask : List Bool) (scratch : List Float) → length points' ≡ length points → Lent j taps points counts mask scratch → Lent j (take (2 * j.members.count) taps) points' counts mask scratch
+pub lent_as : (j : code.Job) (taps : List Point) (points points' : List Float) (counts : List ℕ) (mask : List Bool) (scratch : List Float) → length points' ≡ length points → Lent j taps points counts mask scratch → Lent j (take j.members.count taps) points' counts mask scratch
 lent_as j taps points points' counts mask scratch e lent = record {
   counts_long = lent.counts_long;
-  room = record { places = omega (arith, length-take-le (2 * j.members.count) taps lent.room.places); slots = omega (arith, lent.room.slots, e); masked = lent.room.masked };
+  room = record { places = omega (arith, length-take-le j.members.count taps lent.room.places); slots = omega (arith, lent.room.slots, e); masked = lent.room.masked };
   spare = lent.spare;
 }
 
 -- the sheet after the last turn, all bundles drawn
-module _ (j : code.Job) (buffer : List Float) (from : Came j buffer) (sizes : Sizes j) (t : BoardTables) (same : board_lent t ≡ (job_in j buffer).board) (taps points : List Float) (counts : List ℕ) (mask : List Bool) (scratch : List Float) (lent : Lent j taps points counts mask scratch)
-    (v : Verdict) (ds : DrawnBundles) (taps' points' : List Float) (counts' : List ℕ) (taps_kept : length taps' ≡ length taps) (Points-kept : length points' ≡ length points) (counts_kept : length counts' ≡ length counts) where
+module _ (j : code.Job) (buffer : List Float) (from : Came j buffer) (sizes : Sizes j) (t : BoardTables) (same : board_lent t ≡ (job_in j buffer).board) (taps : List Point) (points : List Float) (counts : List ℕ) (mask : List Bool) (scratch : List Float) (lent : Lent j taps points counts mask scratch)
+    (v : Verdict) (ds : DrawnBundles) (taps' : List Point) (points' : List Float) (counts' : List ℕ) (taps_kept : length taps' ≡ length taps) (Points-kept : length points' ≡ length points) (counts_kept : length counts' ≡ length counts) where
   pub on_sheet : (q : GeometryVisits) → v ≡ Clean q → Rows (take ds.count t.bundles.now) (take ds.count ds.rows) → Full v ds.count (length t.bundles.now) → Held counts'
       → OnSheet j (edges_of t.members.now) ds points' counts' taps'
   on_sheet q e each full held =
@@ -276,13 +277,13 @@ sheet_room t f s room e is h = rw is (rw e at h)
 pub told_room : (s t : Told) (room : ℕ) → s ≡ t → length (told_bytes s) ≤ room → length (told_bytes t) ≤ room
 told_room s t room e h = subst (λ (z : Told). length (told_bytes z) ≤ room) e h
 
-pub room_for : (members n : ℕ) (taps points : List Float) (counts : List ℕ) (mask : List Bool) → members ≤ max_members → n ≤ max_edges → length taps ≡ tap_numbers → slot_numbers * n ≤ length points → length counts ≡ n → max_edges ≤ length mask → Room members taps points counts mask
+pub room_for : (members n : ℕ) (taps : List Point) (points : List Float) (counts : List ℕ) (mask : List Bool) → members ≤ max_members → n ≤ max_edges → length taps ≡ max_members → slot_numbers * n ≤ length points → length counts ≡ n → max_edges ≤ length mask → Room members taps points counts mask
 room_for members n taps points counts mask hm hn t p c m = record { places = omega arith; slots = omega arith; masked = omega arith }
 
 -- ---- the answer
 
 module _ (j : code.Job) (buffer : List Float) (from : Came j buffer) (sizes : Sizes j) (t : BoardTables) (lent : board_lent t ≡ (job_in j buffer).board) (given : Bool) (plan : List ℕ) (r : Result Planning Refusal) (is : told_plan j.bundles.count r ≡ plan_phase given (job_in j buffer) plan)
-    (p : Planning) (on_going : r ≡ Ok p) (offsets : List Float) (v : Verdict) (edges : List ℕ) (ds : DrawnBundles) (points : List Float) (counts : List ℕ) (taps : List Float)
+    (p : Planning) (on_going : r ≡ Ok p) (offsets : List Float) (v : Verdict) (edges : List ℕ) (ds : DrawnBundles) (points : List Float) (counts : List ℕ) (taps : List Point)
     (as_offsets : OffsetsLent t offsets)
     (ends : ends_as v (routes_of points counts) (drawn_in edges taps ds)
     ≡ sheet_of (board_lent t) j.flags.permits_crossings (turns_from t.bundles.now (map x_of (take (length t.bundles.now) p.rows)) (take (length t.bundles.now) offsets)) (blank (tables.given_routes buffer t.edges.now) j.grants.geometry_visits)) where
@@ -296,7 +297,7 @@ module _ (j : code.Job) (buffer : List Float) (from : Came j buffer) (sizes : Si
   all_drawn q e = phase_going j buffer given plan r is p on_going ∙ sheet_clean j buffer from sizes t lent p offsets v (routes_of points counts) (drawn_in edges taps ds) as_offsets ends q e
 
   -- the answer of the tables after the last shift
-  pub all_told : (q : GeometryVisits) → OnSheet j edges ds points counts taps → (l : Laid) (after shifted : List Float) (rows : DrawnTaps) → TapsOf (take j.edges.count j.edges.rows) (take j.members.count j.members.rows) shifted rows → page_in edges l after counts shifted ≡ page_of (sheet_in edges (take j.nodes.count j.nodes.rows) (take ds.count ds.rows) points counts taps)
+  pub all_told : (q : GeometryVisits) → OnSheet j edges ds points counts taps → (l : Laid) (after : List Float) (shifted : List Point) (rows : DrawnTaps) → TapsOf (take j.edges.count j.edges.rows) (take j.members.count j.members.rows) shifted rows → page_in edges l after counts shifted ≡ page_of (sheet_in edges (take j.nodes.count j.nodes.rows) (take ds.count ds.rows) points counts taps)
       → l.drawn.count ≡ ds.count → map heading (take l.drawn.count l.drawn.rows) ≡ map heading (take ds.count ds.rows)
       → answer.sheet_of (record { tap_visits = p.left.0; geometry_visits = q.0; width = l.width; height = l.height }) (take l.nodes.count l.nodes.rows) (take j.edges.count j.edges.rows) after counts (take l.drawn.count l.drawn.rows) (take rows.count rows.rows) ≡ answer_of (finished j buffer p edges ds points counts taps q.0)
   all_told q on l after shifted rows of page as_many kept = sheet_same j edges ds points counts taps on sizes buffer p q.0 l after shifted rows of page as_many kept

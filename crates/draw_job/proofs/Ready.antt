@@ -7,6 +7,7 @@ use mathlib.Core.List.{List, [], ◌∷◌, map}
 use native.Mathlib.Omega.{arith}
 use lib.ListN.{length, get_or, drop}
 use lib.Ieee.{Float}
+use Rattle.geometry.specs.declared.Point.{Point}
 use Rattle.board.specs.declared.Bundle.{Bundle}
 use Rattle.board.specs.Board.{Board}
 use Rattle.wire.proofs.All.{All}
@@ -39,7 +40,7 @@ module _ (j : code.Job) (buffer : List Float) (came : Came j buffer) (sizes : Si
   once_a_role = subst (λ (b : Board). Once b.members b.bundles) (sym lent) (once (job_in j buffer) (good j buffer came sizes))
 
   -- the slices are as long as the tables, and have room
-  module _ (taps points : List Float) (counts : List ℕ) (mask : List Bool) (scratch : List Float) (work : Lent j taps points counts mask scratch) where
+  module _ (taps : List Point) (points : List Float) (counts : List ℕ) (mask : List Bool) (scratch : List Float) (work : Lent j taps points counts mask scratch) where
     pub exact : length counts ≡ length t.edges.now
     exact = omega (arith, work.counts_long, edges_lent j buffer came sizes t lent)
 

@@ -6,18 +6,18 @@
 
 #![tactic(auto)]
 
-ghost use Rattle.std.specs.Prelude.{◌≡◌, false, ℕ, ◌*◌, ◌≤◌, length};
+ghost use Rattle.std.specs.Prelude.{◌≡◌, false, ℕ, ◌≤◌, length};
 ghost use Rattle.limits.specs.Limits.{max_members, page_room, crossings_room, candidate_room, search_work};
 ghost use Rattle.components.specs.Settled.{step_in};
 ghost use Rattle.promise.specs.Stage.{told_bytes};
 ghost use Rattle.plan_stage.specs.Entries.{after_search, plan_phase, after_taking};
 ghost use Rattle.plan_reader.specs.Reading.{told_plan};
 ghost use Rattle.outputs.specs.Outputs.{lacks, after_all, outputs_told};
-ghost use Rattle.job_tables.specs.Came.{job_in, Came};
+ghost use Rattle.job_tables.specs.Came.{job_in, Came, Sizes};
 ghost use Rattle.draw_job.specs.JobTables.{Writes, Ended, TapsOf, MembersOn, Lent};
 
 use answer::Frame;
-use board::{DrawnTap, DrawnTaps, Edge, Member};
+use board::{DrawnTap, DrawnTaps, Edge, Member, NO_TAP};
 use components::NoRoom;
 use drawing::GeometryVisits;
 use geometry::Point;
@@ -30,13 +30,13 @@ use route::PresentRoutes;
 use search::TapVisits;
 use turns::TurnWork;
 
-// What a sheet is drawn in, lent, beside the slots of the present routes: of each member its tap as x and y,
+// What a sheet is drawn in, lent, beside the slots of the present routes: the tap of each member,
 // of each route how many points it has, and the mask and the scratch of a turn. That scratch has room is
 // asked, and no TurnWork is a field: of a struct that holds a `&mut` the borrow checker covers neither a
 // ghost field, where it is written through in a loop, nor a field lent as `&mut` itself.
 #[derive(Drop)]
 pub struct SheetWork<'a> {
-    pub taps: &'a mut [f64],
+    pub taps: &'a mut [Point],
     pub counts: &'a mut [usize],
     pub mask: &'a mut [bool],
     pub scratch: &'a mut [f64],
@@ -66,17 +66,16 @@ pub fn work_for<'a>(work: SheetWork<'a>, routes: usize) -> SheetWork<'a>
 // ---- the sheet (10, 11, 12, 14) and the answer
 
 // A tap for each member, with the id of its edge.
-pub fn tap_rows(table: &[Edge], members: &[Member], taps: &[f64]) -> DrawnTaps
-    requires members_le_max_members { (length members.now ≤ max_members) × (2 * length members.now ≤ length taps.now) }
+pub fn tap_rows(table: &[Edge], members: &[Member], taps: &[Point]) -> DrawnTaps
+    requires members_le_max_members { (length members.now ≤ max_members) × (length members.now ≤ length taps.now) }
     requires members_on { MembersOn table.now members.now }
     ensures { TapsOf table.now members.now taps.now result }
 {
-    let p = Point { x: 0.0, y: 0.0 };
-    let mut rows = [DrawnTap { edge: 0, point: p }; MAX_MEMBERS];
+    let mut rows = [NO_TAP; MAX_MEMBERS];
     for (i, m) in members.iter().enumerate() {
         rows[i] = DrawnTap {
             edge: table[m.edge].id,
-            point: route_views::point_at(taps, i),
+            point: taps[i],
         };
     }
     DrawnTaps {
@@ -94,14 +93,13 @@ fn own_plan(s: Result<Planning, NoRoom>) -> Result<Planning, Refusal>
 }
 
 // The plan, one that is given (17, 18) or our own (13), the sheet of it and the last shift, in lent
-// slices; the answer, the page and the list of crossings, or a refusal, and nothing is written then. One
-// function for all of it: a job that is handed on by value is copied. The three outputs stay apart: of a
-// struct that lends them each contract would have to say besides that it still lends the same memory. The
-// search keeps its stretches and sorts in the slots of the present routes: nothing is in them before the
-// sheet.
+// slices; the answer, the page and the list of crossings, or a refusal, and nothing is written then. The
+// job is lent: one that is handed on by value is copied. The three outputs stay apart: of a struct that
+// lends them each contract would have to say besides that it still lends the same memory. The search keeps
+// its stretches and sorts in the slots of the present routes: nothing is in them before the sheet.
 fn drawn_in(
     wants: Wants,
-    j: Job,
+    j: &Job,
     plan: &[u8],
     given: &[f64],
     sorted: &mut [f64],
@@ -111,13 +109,14 @@ fn drawn_in(
     page: &mut [u8],
     crossings: &mut [u8],
 ) -> Result<usize, Refusal>
-    requires came { Came j given.now × (lacks wants.page (length page.old) page_room ≡ false) × (lacks wants.crossings (length crossings.old) crossings_room ≡ false) }
-    requires plan_in_bounds { length (told_bytes (after_taking (job_in j given.now) (plan_phase wants.plan (job_in j given.now) plan.now))) ≤ length answer.old }
+    requires came { Came j.now given.now × (lacks wants.page (length page.old) page_room ≡ false) × (lacks wants.crossings (length crossings.old) crossings_room ≡ false) }
+    requires plan_in_bounds { length (told_bytes (after_taking (job_in j.now given.now) (plan_phase wants.plan (job_in j.now given.now) plan.now))) ≤ length answer.old }
     requires search_work_in_bounds { (search_work ≤ length points.old) × (length sorted.old ≡ candidate_room) }
-    requires lent { Lent j work.taps.now points.old work.counts.now work.mask.now work.scratch.now }
-    ensures { Ended (record { answer = answer.old; page = page.old; crossings = crossings.old }) (record { answer = answer.new; page = page.new; crossings = crossings.new }) result (outputs_told wants (after_all wants (after_taking (job_in j given.now) (plan_phase wants.plan (job_in j given.now) plan.now)))) }
+    requires sizes { Sizes j.now }
+    requires lent { Lent j.now work.taps.now points.old work.counts.now work.mask.now work.scratch.now }
+    ensures { Ended (record { answer = answer.old; page = page.old; crossings = crossings.old }) (record { answer = answer.new; page = page.new; crossings = crossings.new }) result (outputs_told wants (after_all wants (after_taking (job_in j.now given.now) (plan_phase wants.plan (job_in j.now given.now) plan.now)))) }
 {
-    let board = job_tables::board_tables(&j);
+    let board = job_tables::board_tables(j);
     let offsets = plan_depths::corridor_depth_offsets(board);
     let p = if wants.plan {
         plan_reader::read_plan(plan, j.bundles.count, j.grants.tap_visits, j.flags.on_grid)
@@ -140,7 +139,7 @@ fn drawn_in(
         mask,
         scratch,
     } = work;
-    let taps = &mut taps[..2 * j.members.count];
+    let taps = &mut taps[..j.members.count];
     let mut turn_work = TurnWork {
         mask: &mut mask[..],
         scratch: &mut scratch[..],
@@ -227,7 +226,7 @@ pub fn draw_in(
     ensures { Writes (record { answer = answer.old; page = page.old; crossings = crossings.old }) (record { answer = answer.new; page = page.new; crossings = crossings.new }) result (outputs_told wants (after_all wants (after_taking (job_in j given.now) (plan_phase wants.plan (job_in j given.now) plan.now)))) }
 {
     let ended = drawn_in(
-        wants, j, plan, given, sorted, work, points, answer, page, crossings,
+        wants, &j, plan, given, sorted, work, points, answer, page, crossings,
     );
     match ended {
         Ok(length) => length,

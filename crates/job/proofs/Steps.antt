@@ -1,16 +1,15 @@
 -- The whole reader, step by step: what the outcome is once this much has been read. Assumes nothing.
-use Rattle.std.specs.Prelude.{ℕ, ◌-◌, ◌≤◌, ◌<◌, ◌≡◌, Bool, ◌&&◌, ◌||◌, List, [], take, drop, get_or, Result, Ok, Err, Some}
+use Rattle.std.specs.Prelude.{ℕ, ◌-◌, ◌≤◌, ◌≡◌, Bool, ◌&&◌, ◌||◌, List, [], leb, take, Result, Ok, Err, Some}
 use Rattle.std.proofs.Math.Path.{refl}
-use Rattle.std.proofs.Common.{ap, ◌∙◌, arith}
-use Rattle.std.proofs.Math.Bool.{true, false}
+use Rattle.std.proofs.Common.{sym, ap, ◌∙◌, arith}
+use Rattle.std.proofs.Math.Bool.{true, false, and-false}
 use Rattle.std.proofs.Math.ListN.{length, length-drop}
 use borrow.Author.Tests.{le-leb, lt-leb, eq-eqb, ne_eqb}
 use Rattle.refusal.specs.declared.Refusal.{Refusal}
 use Rattle.refusal.specs.Refusal.{refusal_number}
 use Rattle.wire.specs.Bytes.{number}
-use Rattle.wire.proofs.BytesLaws.{number_one}
-use Rattle.wire.specs.Read.{Read, refused, got, after, many}
-use Rattle.wire.specs.ReadLaws.{field_at}
+use Rattle.wire.specs.Read.{Read, refused, got, after, field, many}
+use Rattle.wire.specs.ReadLaws.{field_got, field_missed}
 use Rattle.board.specs.declared.PlacedNode.{PlacedNode}
 use Rattle.board.specs.declared.Port.{Port}
 use Rattle.board.specs.declared.Edge.{Edge}
@@ -61,18 +60,14 @@ module _ (grid : Bool) (c : Counts) (s : List ℕ) (g : Tables → List ℕ → 
         unfolding outcome after
         bundles_refused r e = rw (en, ep, ee, e)
 
-        module _ (bs : BundleList) (at : ℕ) (w : List ℕ) (eb : many c.bundles next_bundle (record { bundles = []; members = [] }) v ≡ got bs (drop at w)) where
-          pub bytes_remain : at < length w → outcome (tables grid c s) g ≡ refusal 4
+        module _ (bs : BundleList) (w : List ℕ) (eb : many c.bundles next_bundle (record { bundles = []; members = [] }) v ≡ got bs w) where
+          pub bytes_remain : (length w ≡ 0 → ⊥) → outcome (tables grid c s) g ≡ refusal 4
           unfolding outcome after ended
-          bytes_remain h =
-              let k : length (drop at w) ≡ 0 → ⊥ = λ z. omega (arith, length-drop at w) in
-              rw (en, ep, ee, eb, ne_eqb (length (drop at w)) 0 k)
+          bytes_remain h = rw (en, ep, ee, eb, ne_eqb (length w) 0 h)
 
-          pub all_read : length w ≤ at → outcome (tables grid c s) g ≡ g (record { nodes = ns; ports = ps; edges = es; bundles = bs }) (drop at w)
+          pub all_read : length w ≡ 0 → outcome (tables grid c s) g ≡ g (record { nodes = ns; ports = ps; edges = es; bundles = bs }) w
           unfolding outcome after ended
-          all_read h =
-              let k : length (drop at w) ≡ 0 = omega (arith, length-drop at w) in
-              rw (en, ep, ee, eb, eq-eqb (length (drop at w)) 0 k)
+          all_read h = rw (en, ep, ee, eb, eq-eqb (length w) 0 h)
 
 -- ---- 8 and 9
 module _ (h : Header) (t : Tables) (nk pk ek bk mk : List Key) (r : Keyed nk pk ek bk mk t) (x : Bool) (found : x ≡ (twice nk || (twice pk || (twice ek || (twice bk || twice mk))))) where
@@ -114,29 +109,46 @@ module _ (h : Header) (t : Tables) (nk pk ek bk mk : List Key) (r : Keyed nk pk 
 
 -- ---- from the first byte on
 module _ (s : List ℕ) where
-  pub too_short : length s < 5 → read_job s ≡ refusal 1
+  -- no length is there
+  pub no_length : (r : ℕ) → field 4 s ≡ refused r → read_job s ≡ refusal 1
   unfolding read_job lengths_fit
-  too_short h = rw (lt-leb 5 (length s) h)
+  no_length r e = rw (lt-leb 5 (length s) (omega (arith, field_missed 4 s r e)))
 
-  module _ (long : 5 ≤ length s) where
-    pub wrong_length : (number (take 4 s) ≡ length s - 4 → ⊥) → read_job s ≡ refusal 1
+  module _ (n : ℕ) (t : List ℕ) (word : field 4 s ≡ got n t) where
+    pub wrong_length : (n ≡ length t → ⊥) → read_job s ≡ refusal 1
     unfolding read_job lengths_fit
-    wrong_length h = rw (le-leb 5 (length s) long, ne_eqb (number (take 4 s)) (length s - 4) h)
+    wrong_length h =
+        let f = field_got 4 s n t word in
+        let k : number (take 4 s) ≡ length s - 4 → ⊥ = λ z. h (sym f.1 ∙ z ∙ omega (arith, ap length f.2, length-drop 4 s)) in
+        rw (ne_eqb (number (take 4 s)) (length s - 4) k, and-false (leb 5 (length s)))
 
-    module _ (right : number (take 4 s) ≡ length s - 4) where
-      read_on : read_job s ≡ version (get_or s 4 0) (drop 5 s)
-      unfolding read_job lengths_fit outcome
-      read_on = rw (le-leb 5 (length s) long, eq-eqb (number (take 4 s)) (length s - 4) right, field_at 1 4 s long, number_one s 4 long)
+    module _ (right : n ≡ length t) where
+      -- and no version
+      pub no_version : (r : ℕ) → field 1 t ≡ refused r → read_job s ≡ refusal 1
+      unfolding read_job lengths_fit
+      no_version r e =
+          let f = field_got 4 s n t word in
+          rw (lt-leb 5 (length s) (omega (arith, field_missed 1 t r e, ap length f.2, length-drop 4 s)))
 
-      pub wrong_version : (get_or s 4 0 ≡ 1 → ⊥) → read_job s ≡ refusal 3
-      unfolding version
-      wrong_version h = read_on ∙ rw (ne_eqb (get_or s 4 0) 1 h)
+      module _ (v : ℕ) (u : List ℕ) (byte : field 1 t ≡ got v u) where
+        read_on : read_job s ≡ version v u
+        unfolding read_job lengths_fit outcome
+        read_on =
+            let f = field_got 4 s n t word in
+            let g = field_got 1 t v u byte in
+            let l : length s - 4 ≡ length t = omega (arith, ap length f.2, length-drop 4 s) in
+            let k : 5 ≤ length s = omega (arith, g.0, ap length f.2, length-drop 4 s) in
+            rw (le-leb 5 (length s) k, eq-eqb (number (take 4 s)) (length s - 4) (f.1 ∙ right ∙ sym l), f.2, byte)
 
-      module _ (one : get_or s 4 0 ≡ 1) where
-        pub head_refused : (r : ℕ) → header (drop 5 s) ≡ refused r → read_job s ≡ refusal r
-        unfolding version fields outcome
-        head_refused r e = read_on ∙ rw (eq-eqb (get_or s 4 0) 1 one, e)
+        pub wrong_version : (v ≡ 1 → ⊥) → read_job s ≡ refusal 3
+        unfolding version
+        wrong_version h = read_on ∙ rw (ne_eqb v 1 h)
 
-        pub head_read : (h : Header) (t : List ℕ) → header (drop 5 s) ≡ got h t → read_job s ≡ outcome (tables h.flags.on_grid h.counts t) (λ x rest. settled h x)
-        unfolding version fields outcome
-        head_read h t e = read_on ∙ rw (eq-eqb (get_or s 4 0) 1 one, e)
+        module _ (one : v ≡ 1) where
+          pub head_refused : (r : ℕ) → header u ≡ refused r → read_job s ≡ refusal r
+          unfolding version fields outcome
+          head_refused r e = read_on ∙ rw (eq-eqb v 1 one, e)
+
+          pub head_read : (h : Header) (t : List ℕ) → header u ≡ got h t → read_job s ≡ outcome (tables h.flags.on_grid h.counts t) (λ x rest. settled h x)
+          unfolding version fields outcome
+          head_read h t e = read_on ∙ rw (eq-eqb v 1 one, e)

@@ -2,16 +2,17 @@
 
 #![tactic(auto)]
 
-ghost use Rattle.std.specs.Prelude.{◌≡◌, ◌<◌, ◌≤◌, length};
+ghost use Rattle.std.specs.Prelude.{◌≡◌, ◌≤◌, length};
 ghost use Rattle.limits.specs.Limits.{max_bundles, max_members};
 ghost use Rattle.job.specs.Job.{bundle_of, member_of};
 ghost use Rattle.job.specs.Reads.{BundlesTold};
 
-use board::{Bundle, Bundles, Member, Members, NO_BUNDLE};
+use board::{Bundle, Bundles, Member, Members, NO_BUNDLE, NO_MEMBER};
 use job::{BundlesRead, RawBundle, RawMember};
 use job_keys::TableKeys;
 use limits::{MAX_BUNDLES, MAX_MEMBERS};
 use refusal::Refusal;
+use wire::Unread;
 
 // ---- rows
 
@@ -20,8 +21,8 @@ use refusal::Refusal;
 fn bundle_row(b: RawBundle, tables: TableKeys) -> Option<Bundle>
     ensures { result ≡ bundle_of tables.entry.nodes.now tables.entry.ports.now b }
 {
-    job_keys::find(tables.nodes, 0, (b.node, 0))?;
-    let port = job_keys::find(tables.ports, 0, (b.node, b.port))?;
+    job_keys::find(tables.nodes, (b.node, 0))?;
+    let port = job_keys::find(tables.ports, (b.node, b.port))?;
     Some(Bundle {
         id: b.id,
         port,
@@ -37,7 +38,7 @@ fn bundle_row(b: RawBundle, tables: TableKeys) -> Option<Bundle>
 fn member_row(m: RawMember, tables: TableKeys) -> Option<Member>
     ensures { result ≡ member_of tables.entry.edges.now m }
 {
-    let edge = job_keys::find(tables.edges, 0, (m.edge, 0))?;
+    let edge = job_keys::find(tables.edges, (m.edge, 0))?;
     Some(Member {
         edge,
         tap_lane: m.tap_lane,
@@ -50,34 +51,28 @@ fn member_row(m: RawMember, tables: TableKeys) -> Option<Member>
 // an edge and its role, to the front of another. An id is looked up in the keys of the tables before.
 
 pub fn read_bundles<'a>(
-    s: &[u8],
-    from: usize,
+    s: &mut Unread<'_>,
     tables: TableKeys<'a>,
     keys: &mut [(u64, u64)],
     member_keys: &mut [(u64, u64)],
 ) -> Result<BundlesRead, Refusal>
-    requires { (from < 60000) × (length keys.old ≤ max_bundles) × (length member_keys.old ≡ max_members) }
-    ensures { BundlesTold s.now from (length keys.old) tables.entry.nodes.now tables.entry.ports.now tables.entry.edges.now keys.new member_keys.new result }
+    requires { (length keys.old ≤ max_bundles) × (length member_keys.old ≡ max_members) }
+    ensures { BundlesTold s.old.bytes.now s.new.bytes.now (length keys.old) tables.entry.nodes.now tables.entry.ports.now tables.entry.edges.now keys.new member_keys.new result }
 {
-    let nobody = Member {
-        edge: 0,
-        tap_lane: 0,
-    };
     let mut rows = [NO_BUNDLE; MAX_BUNDLES];
-    let mut member_rows = [nobody; MAX_MEMBERS];
+    let mut member_rows = [NO_MEMBER; MAX_MEMBERS];
     let count = keys.len();
     let mut known = true;
     let mut members_known = true;
-    let mut at = from;
     let mut total = 0;
     for i in 0..count {
-        let b = job_records::bundle_head_at(s, at, total)?;
+        let b = job_records::bundle_head(s, total)?;
         let role_key = u64::from(b.role);
-        for j in 0..b.count {
-            let x = job_records::member_at(s, at + 19 + 6 * j, b.role)?;
+        for _ in 0..b.count {
+            let x = job_records::member(s, b.role)?;
             let row = member_row(x, tables);
             members_known = members_known & row.is_some();
-            member_rows[total] = row.unwrap_or(nobody);
+            member_rows[total] = row.unwrap_or(NO_MEMBER);
             member_keys[total] = (x.edge, role_key);
             total += 1;
         }
@@ -85,10 +80,8 @@ pub fn read_bundles<'a>(
         known = known & row.is_some();
         rows[i] = row.unwrap_or(NO_BUNDLE);
         keys[i] = (b.id, 0);
-        at += 19 + 6 * b.count;
     }
     Ok(BundlesRead {
-        at,
         known,
         bundles: Bundles { rows, count },
         members_known,

@@ -7,7 +7,7 @@
 #![tactic(auto)]
 
 ghost use Rattle.std.specs.Prelude.{◌≡◌, false, ◌≤◌, length};
-ghost use Rattle.limits.specs.Limits.{max_edges, max_members, answer_room, page_room, crossings_room, point_numbers, tap_numbers, slot_numbers, candidate_room};
+ghost use Rattle.limits.specs.Limits.{max_edges, max_members, answer_room, page_room, crossings_room, point_numbers, slot_numbers, candidate_room};
 ghost use Rattle.plan_stage.specs.Entries.{told_with};
 ghost use Rattle.outputs.specs.Outputs.{lacks, after_all, outputs_told};
 ghost use Rattle.draw_job.specs.JobTables.{Writes};
@@ -38,7 +38,7 @@ pub fn read_and_draw(
 ) -> usize
     requires given_len { (length given.old ≡ point_numbers) × (answer_room ≤ length answer.old) × (lacks wants.page (length page.old) page_room ≡ false) × (lacks wants.crossings (length crossings.old) crossings_room ≡ false) }
     requires sorted_len { length sorted.old ≡ candidate_room }
-    requires edges_len { (length work.taps.now ≡ tap_numbers) × (length work.counts.now ≡ max_edges) × (max_edges ≤ length work.mask.now) × (slot_numbers ≤ length work.scratch.now) }
+    requires edges_len { (length work.taps.now ≡ max_members) × (length work.counts.now ≡ max_edges) × (max_edges ≤ length work.mask.now) × (slot_numbers ≤ length work.scratch.now) }
     ensures { Writes (record { answer = answer.old; page = page.old; crossings = crossings.old }) (record { answer = answer.new; page = page.new; crossings = crossings.new }) result (outputs_told wants (after_all wants (told_with wants.plan job.now plan.now))) }
 {
     let j = match job_reader::read_job(job, given) {

@@ -19,18 +19,19 @@ use search::TapVisits;
 
 // That the points are the job's is a fact of the job and the slice that it was read into.
 
-// The plan (13) of a job that was read: its bytes, or 13 and nothing written.
-fn plan_in(
-    j: Job,
-    given: &[f64],
+// A job read and planned: the plan's bytes, or a refusal (1, 3 to 9, 15, 13) and nothing written.
+fn planned_in(
+    job: &[u8],
+    given: &mut [f64],
     sorted: &mut [f64],
     work: &mut [f64],
     plan: &mut [u8],
 ) -> Result<usize, Refusal>
-    requires came { Came j given.now × (plan_room ≤ length plan.old) }
+    requires given_len { (length given.old ≡ point_numbers) × (plan_room ≤ length plan.old) }
     requires sorted_len { (length sorted.old ≡ candidate_room) × (length work.old ≡ search_work) }
-    ensures { PlanEnded plan.old plan.new result (after_search (planned (job_in j given.now))) }
+    ensures { PlanEnded plan.old plan.new result (plan_told job.now) }
 {
+    let j = job_reader::read_job(job, given)?;
     let t = job_tables::board_tables(&j);
     let offsets = plan_depths::corridor_depth_offsets(t);
     let made = planner::plan_interior_collectors(
@@ -45,7 +46,7 @@ fn plan_in(
     Ok(plan_writer::write_plan(plan, &made.rows[..j.bundles.count], made.left))
 }
 
-// Reads the job and plans it. The reader's refusal and the plan's have one notice, at the end.
+// The same, with the notice of a refusal.
 pub fn read_and_plan(
     job: &[u8],
     given: &mut [f64],
@@ -57,11 +58,7 @@ pub fn read_and_plan(
     requires sorted_len { (length sorted.old ≡ candidate_room) × (length work.old ≡ search_work) }
     ensures { PlanWrites plan.old plan.new result (plan_told job.now) }
 {
-    let ended = match job_reader::read_job(job, given) {
-        Ok(j) => plan_in(j, given, sorted, work, plan),
-        Err(r) => Err(r),
-    };
-    match ended {
+    match planned_in(job, given, sorted, work, plan) {
         Ok(length) => length,
         Err(r) => answer::write_notice(plan, u8::from(r)),
     }

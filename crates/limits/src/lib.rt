@@ -44,9 +44,6 @@ pub const PLAN_ROOM: usize = 4 + 1 + 4 + 9 * MAX_BUNDLES;
 // The coordinates of all given points.
 pub const POINT_NUMBERS: usize = 2 * MAX_POINTS;
 
-// The coordinates of all taps.
-pub const TAP_NUMBERS: usize = 2 * MAX_MEMBERS;
-
 // ---- present routes
 
 // A route after its rewritings, one for each role, each of two points more at most.
@@ -139,9 +136,6 @@ pub const PAGE_ROOM: usize = MAX_BUNDLES * LINE_BYTES;
 
 // F-7: "19 when .. there are more than 1,024 crossings".
 pub const MAX_CROSSINGS: usize = 1024;
-
-// The coordinates of that many places.
-pub const CROSSING_NUMBERS: usize = 2 * MAX_CROSSINGS;
 
 // An entry of the list: a point and two ids.
 pub const CROSSING_BYTES: usize = 16 + 4 + 4;

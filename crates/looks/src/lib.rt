@@ -14,7 +14,7 @@ ghost use Rattle.checks.specs.Purse.{charged};
 ghost use Rattle.checks.specs.Lent.{taps_lent, chosen_lent};
 
 use board::Edge;
-use checks::{BundleTaps, ChosenRoutes, Rules};
+use checks::{ChosenRoutes, MemberTaps, Rules};
 use drawing::GeometryVisits;
 use geometry::{Point, Segment};
 use refusal::Refusal;
@@ -40,10 +40,7 @@ pub fn is_chosen(chosen: ChosenRoutes, e: usize) -> bool
     requires { e < length chosen.routes.counts.now }
     ensures { result ≡ chosen_lent chosen.entry e }
 {
-    match chosen.mask {
-        Some(mask) => mask[e],
-        None => true,
-    }
+    chosen.mask.is_none_or(|mask| mask[e])
 }
 
 // ---- verify_new_bundle_route_contacts
@@ -53,19 +50,18 @@ pub fn clashes(rules: Rules, bus: Segment, tap: Option<Point>, run: Segment) -> 
     ensures { result ≡ clash rules.options rules.permits_crossings bus tap run }
 {
     let spacing = rules.options.minimum_parallel_wire_spacing;
-    let kind = contact_test::contact_kind(bus, run.start, run.end, tap);
+    let kind = contact_test::contact_kind(bus, run, tap);
     contact_test::is_disallowed(kind, rules.permits_crossings)
         || contact_test::parallel_segments_are_too_close(bus, run, spacing)
 }
 
 // A route's tap among those of a bundle.
-#[tactic(auto, using(checks::proofs::TestSteps::tap_here, checks::proofs::TestSteps::tap_next, checks::proofs::TestSteps::tap_none, plan::proofs::MemberColumns::edge_there, plan::proofs::MemberColumns::edges_long))]
-pub fn tap_on_route(own: BundleTaps, e: usize) -> Option<Point>
+pub fn tap_on_route(own: MemberTaps, e: usize) -> Option<Point>
     ensures { result ≡ tap_of (taps_lent own.entry) e }
 {
-    for i in own.first..own.first + own.count {
-        if own.table.members[i].edge == e {
-            return Some(route_views::point_at(own.table.taps, i));
+    for (member, &tap) in own.members.iter().zip(own.taps) {
+        if member.edge == e {
+            return Some(tap);
         }
     }
     None

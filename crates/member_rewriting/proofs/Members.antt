@@ -14,7 +14,7 @@ use borrow.Author.Tests.{lt-ltb, le-ltb}
 use Rattle.limits.specs.Limits.{slot_points}
 use Rattle.geometry.specs.declared.Point.{Point}
 use Rattle.geometry.specs.declared.Role.{Role}
-use Rattle.geometry.specs.Points.{Route, point_at, points_from}
+use Rattle.geometry.specs.Points.{Route, points_from}
 use Rattle.route.specs.Window.{points_length}
 use Rattle.route.specs.Slots.{routes_of, Held, Stored, held_set, slot_is}
 use Rattle.route.specs.Contract.{told, left_in, Leaves}
@@ -24,7 +24,12 @@ use Rattle.plan.specs.MemberColumns.{edges_of, lanes_of}
 use Rattle.plan.proofs.MemberColumns.{edge_got, lane_got}
 use Rattle.drawing.specs.Build.{route_at}
 use Rattle.drawing.specs.Rewrite.{rewritten, two_points, corridor_depth, rewrite_one, put_route, then_routes, rewrite_all}
-use Rattle.checks.specs.CheckRows.{taps_from}
+use Rattle.checks.specs.CheckRows.{no_point, taps_from}
+use Rattle.geometry.specs.declared.Role.TheVariants.{Input, Output}
+use Rattle.member_rewriting.specs.declared.Way.{Way}
+use Rattle.member_rewriting.specs.declared.Way.TheVariants.{Trunk, Corridor}
+use borrow.Author.Rules.{rules}
+use Rattle.member_rewriting.specs.Ways.{way_of, is_trunk, depth_of}
 use Rattle.checks.specs.MemberSlices.{members_from, depth_at, rewrite_with, routes_in, CountsKept, Roomy}
 
 pub same_kept : (ns : List ℕ) (e : ℕ) → Held ns → CountsKept ns ns e
@@ -84,12 +89,12 @@ counts_made s t v ns ms e m l h y =
 
 -- ---- the members that are left
 
-module _ (inside : Bool) (role : Role) (pitch offset : Float) (edges lanes : List ℕ) (taps : List Float) (first count : ℕ) where
+module _ (inside : Bool) (role : Role) (pitch offset : Float) (edges lanes : List ℕ) (taps : List Point) (first count : ℕ) where
   abbrev pub rest_all : ℕ → List Route → Option (List Route)
   rest_all i rs = rewrite_all inside role pitch offset (taps_from edges taps (first + i) (count - i)) (members_from edges lanes (first + i) (count - i)) rs
 
   abbrev pub one_of : ℕ → List Route → Option (List Route)
-  one_of i rs = put_route (rewrite_with inside role pitch (depth_at offset pitch (get_or lanes (first + i) 0)) (point_at taps (first + i)) (route_at rs (get_or edges (first + i) 0))) (get_or edges (first + i) 0) rs
+  one_of i rs = put_route (rewrite_with inside role pitch (depth_at offset pitch (get_or lanes (first + i) 0)) (get_or taps (first + i) no_point) (route_at rs (get_or edges (first + i) 0))) (get_or edges (first + i) 0) rs
 
   pub all_start : (rs : List Route) → rest_all 0 rs ≡ rewrite_all inside role pitch offset (taps_from edges taps first count) (members_from edges lanes first count) rs
   all_start rs =
@@ -122,9 +127,31 @@ module _ (inside : Bool) (role : Role) (pitch offset : Float) (edges lanes : Lis
   unfolding rewrite_all taps_from members_from routes_in
   all_end i p c h = let a : count - i ≡ 0 = omega arith in rw a
 
--- what is made of a member's route, by its row
-pub one_read : (inside : Bool) (role : Role) (pitch offset : Float) (ms : List Member) (taps : List Float) (first i count : ℕ) (rs : List Route) → one_of inside role pitch offset (edges_of ms) (lanes_of ms) taps first count i rs ≡ put_route (rewrite_with inside role pitch (depth_at offset pitch (get_or ms (first + i) no_member).tap_lane) (point_at taps (first + i)) (route_at rs (get_or ms (first + i) no_member).edge)) (get_or ms (first + i) no_member).edge rs
-one_read inside role pitch offset ms taps first i count rs = rw (edge_got ms (first + i), lane_got ms (first + i))
+-- the way of the route at a lane
+pub way_trunk : (inside : Bool) (offset depth : Float) → Trunk ≡ way_of inside offset → Trunk ≡ way_of inside depth
+unfolding way_of
+way_trunk true offset depth e = refl
+way_trunk false offset depth e = search rules
+
+pub way_corridor : (inside : Bool) (x offset pitch : Float) (lane : ℕ) → Corridor x ≡ way_of inside offset → Corridor (depth_at x pitch lane) ≡ way_of inside (depth_at offset pitch lane)
+unfolding way_of depth_of
+way_corridor true x offset pitch lane e = search rules
+way_corridor false x offset pitch lane e = ap (λ (w : Way). Corridor (depth_at (depth_of w) pitch lane)) e
+
+-- a way as a test and a depth leads as these do: through the trunk the depth says nothing
+with_way : (inside : Bool) (role : Role) (pitch depth : Float) (tap : Point) (r : Route) (w : Way) → w ≡ way_of inside depth → rewrite_with inside role pitch depth tap r ≡ rewrite_with (is_trunk w) role pitch (depth_of w) tap r
+unfolding rewrite_with rewritten way_of is_trunk depth_of
+with_way true Input pitch depth tap r w e = rw e
+with_way true Output pitch depth tap r w e = rw e
+with_way false role pitch depth tap r w e = rw e
+
+-- what is made of a member's route, by its row and its way
+pub one_read : (inside : Bool) (role : Role) (pitch offset : Float) (w : Way) (ms : List Member) (taps : List Point) (first i count : ℕ) (rs : List Route) → w ≡ way_of inside (depth_at offset pitch (get_or ms (first + i) no_member).tap_lane) → one_of inside role pitch offset (edges_of ms) (lanes_of ms) taps first count i rs ≡ put_route (rewrite_with (is_trunk w) role pitch (depth_of w) (get_or taps (first + i) no_point) (route_at rs (get_or ms (first + i) no_member).edge)) (get_or ms (first + i) no_member).edge rs
+one_read inside role pitch offset w ms taps first i count rs e =
+    rw (edge_got ms (first + i), lane_got ms (first + i))
+    (ap
+    (λ (o : Option Route). put_route o (get_or ms (first + i) no_member).edge rs)
+    (with_way inside role pitch (depth_at offset pitch (get_or ms (first + i) no_member).tap_lane) (get_or taps (first + i) no_point) (route_at rs (get_or ms (first + i) no_member).edge) w e))
 
 pub roomy_next : (edges : List ℕ) (first i count : ℕ) (p q : List Float) (c d : List ℕ) → Roomy edges first i count p c → CountsKept c d (get_or edges (first + i) 0) → length d ≡ length c → length q ≡ length p → i < count → Roomy edges first (i + 1) count q d
 roomy_next edges first i count p q c d r k x y h =

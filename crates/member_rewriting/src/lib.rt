@@ -2,11 +2,11 @@
 //
 // Ported from cachanova/schemweave, commit c4a1a2c60a, crates/schemweave/src/boundary_bundles.rs
 // (Apache-2.0, see NOTICE). The present routes are in slots (crate route). Member k of the table of
-// members has its tap as x and y at point k of taps.
+// members has its tap at place k of taps.
 
 #![tactic(auto)]
 
-ghost use Rattle.std.specs.Prelude.{ℕ, ◌≡◌, suc, ◌+◌, ◌*◌, ◌-◌, ◌<◌, ◌≤◌, length, get_or, is_ok, IfErr};
+ghost use Rattle.std.specs.Prelude.{ℕ, Bool, Float, ◌≡◌, suc, ◌+◌, ◌*◌, ◌-◌, ◌<◌, ◌≤◌, length, get_or, is_ok, IfErr};
 ghost use Rattle.limits.specs.Limits.{max_lane, slot_points, slot_numbers};
 ghost use Rattle.geometry.specs.Lent.{route_lent};
 ghost use Rattle.refusal.specs.declared.Refusal.TheVariants.{TapUnreachable};
@@ -19,6 +19,7 @@ ghost use Rattle.drawing.specs.Rewrite.{rewritten, put_route, rewrite_all};
 ghost use Rattle.checks.specs.CheckRows.{taps_from};
 ghost use Rattle.checks.specs.LentRows.{rows_lent};
 ghost use Rattle.checks.specs.MemberSlices.{depth_at, rewrite_with, routes_in, CountsKept, Roomy};
+ghost use Rattle.member_rewriting.specs.Ways.{way_of, is_trunk, depth_of};
 
 use checks::BundleRows;
 use geometry::{Point, Role, RouteView};
@@ -44,39 +45,51 @@ fn corridor_depth(offset: f64, pitch: f64, lane: u32) -> f64
     offset + lane_number(lane) * pitch
 }
 
-// How a bundle's routes are led to their taps: through its trunk if it counts as interior, else each by
-// a corridor.
+// How a route is led to its tap: through its bundle's trunk, or by a corridor. Of a bundle's routes the
+// number is where their corridors begin, of one route how deep its own is.
+#[derive(Clone, Copy)]
+pub enum Way {
+    Trunk,
+    Corridor(f64),
+}
+
+// How a bundle's routes are led to their taps: through its trunk if it counts as interior.
 #[derive(Clone, Copy)]
 pub struct Lead {
-    pub inside: bool,
+    pub way: Way,
     pub role: Role,
     pub pitch: f64,
 }
 
-// A route rewritten into out, a corridor being of this depth. The four functions are the Rust's: one
-// call with a role would only move the match.
-#[tactic(auto, unfolding(drawing::specs::Rewrite::rewritten))]
-fn rewrite_route(
-    lead: Lead,
-    depth: f64,
-    tap: Point,
-    route: RouteView,
-    out: &mut [f64],
-) -> Option<usize>
-    requires { 2 * (route.count + 2) ≤ length out.old }
-    ensures { Leaves result out.old out.new route.entry.count (rewritten lead.inside lead.role lead.pitch depth tap (route_lent route.entry)) }
+// The way of the route at a tap lane.
+fn way_at(way: Way, pitch: f64, lane: u32) -> Way
+    requires { lane ≤ max_lane }
+    ensures { (inside : Bool) (offset : Float) → way ≡ way_of inside offset → result ≡ way_of inside (depth_at offset pitch lane) }
 {
-    match lead.role {
-        Role::Input => {
-            if lead.inside {
-                return route_rewriting::rewrite_input_shared_trunk(route, tap, lead.pitch, out);
-            }
+    match way {
+        Way::Trunk => Way::Trunk,
+        Way::Corridor(offset) => Way::Corridor(corridor_depth(offset, pitch, lane)),
+    }
+}
+
+// A route rewritten into out. The four functions are the Rust's: one call with a role would only move the
+// match.
+#[tactic(auto, unfolding(drawing::specs::Rewrite::rewritten, crate::specs::Ways::is_trunk, crate::specs::Ways::depth_of))]
+fn rewrite_route(lead: Lead, tap: Point, route: RouteView, out: &mut [f64]) -> Option<usize>
+    requires { 2 * (route.count + 2) ≤ length out.old }
+    ensures { Leaves result out.old out.new route.entry.count (rewritten (is_trunk lead.way) lead.role lead.pitch (depth_of lead.way) tap (route_lent route.entry)) }
+{
+    match (lead.way, lead.role) {
+        (Way::Trunk, Role::Input) => {
+            route_rewriting::rewrite_input_shared_trunk(route, tap, lead.pitch, out)
+        }
+        (Way::Trunk, Role::Output) => {
+            route_rewriting::rewrite_output_shared_trunk(route, tap, lead.pitch, out)
+        }
+        (Way::Corridor(depth), Role::Input) => {
             route_rewriting::rewrite_input_route(route, tap, depth, out)
         }
-        Role::Output => {
-            if lead.inside {
-                return route_rewriting::rewrite_output_shared_trunk(route, tap, lead.pitch, out);
-            }
+        (Way::Corridor(depth), Role::Output) => {
             route_rewriting::rewrite_output_route(route, tap, depth, out)
         }
     }
@@ -86,7 +99,6 @@ fn rewrite_route(
 // they are. points and counts stay two parameters, as in crate route_slots.
 fn rewrite_member(
     lead: Lead,
-    depth: f64,
     tap: Point,
     e: usize,
     points: &mut [f64],
@@ -94,7 +106,7 @@ fn rewrite_member(
     scratch: &mut [f64],
 ) -> Result<(), Refusal>
     requires { (e < length counts.old) × (slot_numbers * length counts.old ≤ length points.old) × Held counts.old × (get_or counts.old e 0 ≤ slot_points - 2) × (slot_numbers ≤ length scratch.old) }
-    ensures told { routes_in (is_ok result) points.new counts.new ≡ put_route (rewrite_with lead.inside lead.role lead.pitch depth tap (route_at (routes_of points.old counts.old) e)) e (routes_of points.old counts.old) }
+    ensures told { routes_in (is_ok result) points.new counts.new ≡ put_route (rewrite_with (is_trunk lead.way) lead.role lead.pitch (depth_of lead.way) tap (route_at (routes_of points.old counts.old) e)) e (routes_of points.old counts.old) }
     ensures refusal { IfErr result (λ r. r ≡ TapUnreachable) }
     ensures kept { CountsKept counts.old counts.new e }
 {
@@ -108,9 +120,7 @@ fn rewrite_member(
         start: SLOT_POINTS * e,
         count: n,
     };
-    let m = rewrite_route(lead, depth, tap, given, &mut scratch[..]).ok_or(
-        Refusal::TapUnreachable,
-    )?;
+    let m = rewrite_route(lead, tap, given, &mut scratch[..]).ok_or(Refusal::TapUnreachable)?;
     if m < 2 {
         return Err(Refusal::TapUnreachable);
     }
@@ -127,30 +137,27 @@ fn rewrite_member(
 #[tactic(auto, using(plan::proofs::MemberColumns::edge_got))]
 pub fn rewrite_member_routes(
     lead: Lead,
-    offset: f64,
     members: BundleRows,
-    taps: &[f64],
+    taps: &[Point],
     points: &mut [f64],
     counts: &mut [usize],
     scratch: &mut [f64],
 ) -> Result<(), Refusal>
     requires roomy { Roomy (edges_of members.rows.now) members.first 0 members.count points.old counts.old }
     requires small { (k : ℕ) → get_or (lanes_of members.rows.now) k 0 ≤ max_lane }
-    requires tapped { 2 * (members.first + members.count) ≤ length taps.now }
+    requires tapped { members.first + members.count ≤ length taps.now }
     requires scratch { slot_numbers ≤ length scratch.old }
-    ensures told { routes_in (is_ok result) points.new counts.new ≡ rewrite_all lead.inside lead.role lead.pitch offset (taps_from (edges_of members.entry.rows.now) taps.now members.entry.first members.entry.count) (rows_lent members.entry) (routes_of points.old counts.old) }
+    ensures told { (inside : Bool) (offset : Float) → lead.way ≡ way_of inside offset → routes_in (is_ok result) points.new counts.new ≡ rewrite_all inside lead.role lead.pitch offset (taps_from (edges_of members.entry.rows.now) taps.now members.entry.first members.entry.count) (rows_lent members.entry) (routes_of points.old counts.old) }
     ensures refusal { IfErr result (λ r. r ≡ TapUnreachable) }
     ensures hold { Held counts.new }
 {
     for i in 0..members.count {
         let k = members.first + i;
         let m = members.rows[k];
-        let depth = corridor_depth(offset, lead.pitch, m.tap_lane);
-        let tap = route_views::point_at(taps, k);
+        let way = way_at(lead.way, lead.pitch, m.tap_lane);
         rewrite_member(
-            lead,
-            depth,
-            tap,
+            Lead { way, ..lead },
+            taps[k],
             m.edge,
             &mut points[..],
             &mut counts[..],

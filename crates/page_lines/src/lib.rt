@@ -31,7 +31,8 @@ fn column_of(n: u64, fill: u8) -> u8
     if n == 0 { fill } else { b'0' + (n % 10) as u8 }
 }
 
-// w columns of digits, from the last to the first.
+// w columns of digits, from the last to the first. By index: of what `iter_mut().rev()` writes a proof knows
+// nothing.
 #[tactic(auto, using(crate::specs::LineStores::last_first, crate::specs::LineStores::none_left))]
 fn put_columns(out: &mut [u8], at: usize, w: usize, n: u64, fill: u8)
     requires { at + w ≤ length out.old }

@@ -96,6 +96,7 @@ pub fn reach_all(
 {
     let across = other(role);
     let mut d = Bound::None;
+    // By index: a member's row and its route are taken by one number, and the search has the windows in two columns.
     for i in 0..u.count {
         let k = u.first + i;
         let corridor = plan_corridors::corridor_of(across, corridors, members[k].edge);

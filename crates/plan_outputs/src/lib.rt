@@ -31,7 +31,7 @@ fn run_end(role: Role, pitch: f64, x: f64, route: RouteView) -> Bound
 {
     for i in 0..route.count.saturating_sub(1) {
         let run = route_views::view_run(route, i);
-        let s = shapes::shared_trunk_horizontal_range(run.start, run.end, role, pitch);
+        let s = shapes::shared_trunk_horizontal_range(run, role, pitch);
         if shapes::stretch_holds(s, x) {
             return Bound::At(run.end.x);
         }

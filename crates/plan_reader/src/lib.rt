@@ -2,40 +2,27 @@
 
 #![tactic(auto)]
 
-ghost use Rattle.std.specs.Prelude.{◌≡◌, ◌+◌, ◌≤◌, ◌<◌, drop};
+ghost use Rattle.std.specs.Prelude.{◌≡◌, ◌≤◌};
 ghost use Rattle.limits.specs.Limits.{max_bundles};
-ghost use Rattle.plan_bytes.specs.PlanBytes.{marked, entry, read_plan};
-ghost use Rattle.plan_reader.specs.Reading.{as_17, told_number, told_entry, told_plan, judged, EntriesTold};
+ghost use Rattle.plan_bytes.specs.PlanBytes.{entry, read_plan};
+ghost use Rattle.plan_reader.specs.Reading.{told_entry, told_plan, judged, EntriesTold, BodyTold};
 
 use grid::Grid;
 use limits::MAX_BUNDLES;
 use plan::{Bound, Planned, Planning};
 use refusal::Refusal;
 use search::TapVisits;
+use wire::Unread;
 
-// Places are asked to be below 2^20, and are numbers, as in crate wire.
-
-// The pattern of an entry's number.
-fn pattern_at(s: &[u8], at: usize) -> Result<u64, Refusal>
-    requires { at < 1048576 }
-    ensures { told_number result at s.now ≡ as_17 (marked 1 (drop (at + 1) s.now)) }
+// The next entry: none, or a number's pattern. Any refusal of the form is 17 in the end.
+#[tactic(auto, unfolding(wire::specs::Read::after, plan_bytes::specs::PlanBytes::marked, crate::specs::Reading::told_entry))]
+fn next_entry(s: &mut Unread<'_>) -> Result<Option<u64>, Refusal>
+    ensures { told_entry result s.new.bytes.now ≡ entry s.old.bytes.now }
 {
-    if at + 9 <= s.len() {
-        Ok(wire::be64(s, at + 1))
-    } else {
-        Err(Refusal::PlanMismatch)
-    }
-}
-
-// The entry at a place: none, or a number's pattern.
-fn entry_at(s: &[u8], at: usize) -> Result<Option<u64>, Refusal>
-    requires { at < 1048576 }
-    ensures { told_entry result at s.now ≡ as_17 (entry (drop at s.now)) }
-{
-    let mark = *s.get(at).ok_or(Refusal::PlanMismatch)?;
+    let mark = s.byte()?;
     match mark {
         0 => Ok(None),
-        1 => Ok(Some(pattern_at(s, at)?)),
+        1 => Ok(Some(s.double()?)),
         _ => Err(Refusal::PlanMismatch),
     }
 }
@@ -57,53 +44,71 @@ fn judged_number(b: u64, grid: bool) -> Option<f64>
     (small & (other & grid::is_on(Grid::Plan, x))).then_some(x)
 }
 
-// The entries of some bundles, all with their marks and their bytes: where they end, and their rows if every
-// number passes.
-struct Entries {
-    at: usize,
-    rows: Option<[Planned; MAX_BUNDLES]>,
-}
-
-// The entries of n bundles from a place on. All are read also where a number does not pass, as 17 is
-// looked for before 18.
-fn read_entries(s: &[u8], from: usize, n: usize, grid: bool) -> Result<Entries, Refusal>
-    requires { (n ≤ max_bundles) × (from ≤ 9) }
-    ensures { EntriesTold grid s.now from n result }
+// The entries of n bundles, all with their marks and their bytes: their rows, if every number passes. All are
+// read also where one does not, as 17 is looked for before 18.
+fn read_entries(
+    s: &mut Unread<'_>,
+    n: usize,
+    grid: bool,
+) -> Result<Option<[Planned; MAX_BUNDLES]>, Refusal>
+    requires { n ≤ max_bundles }
+    ensures { EntriesTold grid s.old.bytes.now s.new.bytes.now n result }
 {
     let mut rows = [Planned { x: Bound::None }; MAX_BUNDLES];
     let mut passes = true;
-    let mut at = from;
-    for i in 0..n {
+    let front = &mut rows[..n];
+    for row in front.iter_mut() {
         let mut x = Bound::None;
-        if let Some(b) = entry_at(s, at)? {
+        if let Some(b) = next_entry(s)? {
             match judged_number(b, grid) {
                 Some(y) => x = Bound::At(y),
                 None => passes = false,
             }
-            at += 8;
         }
-        rows[i] = Planned { x };
-        at += 1;
+        *row = Planned { x };
     }
-    Ok(Entries {
-        at,
-        rows: passes.then_some(rows),
-    })
+    Ok(passes.then_some(rows))
+}
+
+// What stands behind a plan's length: the visits left, and the rows, if every number passes.
+struct Body {
+    left: u32,
+    rows: Option<[Planned; MAX_BUNDLES]>,
+}
+
+#[tactic(auto, using(crate::proofs::Taken::no_version, crate::proofs::Taken::wrong_version, crate::proofs::Taken::no_visits, crate::proofs::Taken::no_entries, crate::proofs::Taken::body_read))]
+fn read_body(s: &mut Unread<'_>, n: usize, grid: bool) -> Result<Body, Refusal>
+    requires { n ≤ max_bundles }
+    ensures { BodyTold grid s.old.bytes.now s.new.bytes.now n result }
+{
+    let version = s.byte()?;
+    if version != 1 {
+        return Err(Refusal::PlanMismatch);
+    }
+    let left = s.word()?;
+    let rows = read_entries(s, n, grid)?;
+    Ok(Body { left, rows })
 }
 
 // The plan that some bytes are, for a job with n bundles and such a grant of tap visits, its numbers on
 // the grid or not.
+#[tactic(auto, using(crate::proofs::Taken::no_length, crate::proofs::Taken::wrong_length, crate::proofs::Taken::broken), unfolding(crate::specs::Reading::told_plan))]
 pub fn read_plan(s: &[u8], n: usize, grant: u32, grid: bool) -> Result<Planning, Refusal>
     requires { n ≤ max_bundles }
     ensures { told_plan n result ≡ read_plan grid n grant s.now }
 {
-    if s.len() < 9 {
+    let mut rest = Unread { bytes: s };
+    let Ok(size) = rest.word() else {
+        return Err(Refusal::PlanMismatch);
+    };
+    if size as usize != rest.bytes.len() {
         return Err(Refusal::PlanMismatch);
     }
-    let size = wire::be32(s, 0);
-    let left = wire::be32(s, 5);
-    let Entries { at: end, rows } = read_entries(s, 9, n, grid)?;
-    let fits = (size as usize == s.len() - 4) & (s[4] == 1) & (s.len() <= end) & (left <= grant);
+    let Ok(body) = read_body(&mut rest, n, grid) else {
+        return Err(Refusal::PlanMismatch);
+    };
+    let Body { left, rows } = body;
+    let fits = rest.bytes.is_empty() & (left <= grant);
     if !fits {
         return Err(Refusal::PlanMismatch);
     }

@@ -41,12 +41,10 @@ fn divergence_at(routes: MemberRoutes, pitch: f64, u: Bundle, x: Bound) -> Bound
 }
 
 fn put_divergences(layout: Layout, p: Planning, out: &mut Written) {
-    let n = layout.reaches.len();
-    out.put_count(n);
-    for i in 0..n {
-        let u = layout.reaches[i].bundle;
-        let d = divergence_at(layout.setting.routes, layout.setting.pitch, u, p.rows[i].x);
-        out.put_bound(d);
+    let setting = layout.setting;
+    out.put_count(layout.reaches.len());
+    for (reached, row) in layout.reaches.iter().zip(&p.rows) {
+        out.put_bound(divergence_at(setting.routes, setting.pitch, reached.bundle, row.x));
     }
 }
 

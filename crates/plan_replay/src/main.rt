@@ -8,7 +8,7 @@ ghost use Rattle.std.specs.Prelude.{◌≡◌, ◌≤◌, length};
 ghost use Rattle.limits.specs.Limits.{max_members};
 ghost use Rattle.plan.specs.Lent.{OffsetsLent};
 ghost use Rattle.plan.specs.Prepared.{Short};
-ghost use Rattle.job_tables.specs.Came.{Came};
+ghost use Rattle.job_tables.specs.Came.{Came, Sizes};
 
 use asked::{plan_at, put_asked};
 use corridors::{put_corridors, put_offsets};
@@ -79,7 +79,7 @@ fn put_reached(
     };
     let layout = Layout {
         setting,
-        reaches: &reaches.rows[..reaches.count],
+        reaches: reaches.as_slice(),
     };
     put_layout(q, layout, work, out);
 }
@@ -129,17 +129,18 @@ fn call(q: Request, work: &mut SearchWork, out: &mut Written) {
 // The same of a job that was read: its tables are as long as their types say, so what they name is
 // there.
 fn call_read<'x>(
-    j: Job,
+    j: &Job,
     record: Record<'x>,
     points: &'x [f64; POINT_NUMBERS],
     work: &mut SearchWork,
     out: &mut Written,
 )
-    requires { Came j points.now }
+    requires came { Came j.now points.now }
+    requires sizes { Sizes j.now }
 {
     let q = Request {
         record,
-        tables: job_tables::board_tables(&j),
+        tables: job_tables::board_tables(j),
         points,
         separates: j.flags.separates_collectors,
         granted: TapVisits(j.grants.tap_visits),
@@ -179,7 +180,7 @@ fn answer(
                 bytes,
                 size,
             };
-            call_read(j, record, points, work, out);
+            call_read(&j, record, points, work, out);
         }
         Err(r) => out.put_mark(u64::from(u8::from(r))),
     }

@@ -56,7 +56,7 @@ fn last_met<F: Fn(Segment) -> Option<Point>>(route: RouteView, on_run: F) -> Opt
 fn trunk_on_run(run: Segment, x: f64, role: Role, minimum_length: f64) -> Option<Point>
     ensures { result ≡ on_trunk role minimum_length x run.start run.end }
 {
-    shapes::shared_trunk_horizontal_intersection(run.start, run.end, x, role, minimum_length)
+    shapes::shared_trunk_horizontal_intersection(run, x, role, minimum_length)
 }
 
 #[tactic(auto, unfolding(route::specs::Intersection::first_vertical_line_intersection))]
@@ -65,7 +65,7 @@ pub fn first_vertical_line_intersection(route: RouteView, x: f64) -> Option<(usi
     ensures within { Within result route.entry.count }
 {
     first_met(route, |run| {
-        shapes::segment_vertical_line_intersection(run.start, run.end, x, false)
+        shapes::segment_vertical_line_intersection(run, x, false)
     })
 }
 
@@ -75,7 +75,7 @@ pub fn last_vertical_line_intersection(route: RouteView, x: f64) -> Option<(usiz
     ensures within { Within result route.entry.count }
 {
     last_met(route, |run| {
-        shapes::segment_vertical_line_intersection(run.start, run.end, x, true)
+        shapes::segment_vertical_line_intersection(run, x, true)
     })
 }
 

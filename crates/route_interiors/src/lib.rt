@@ -30,7 +30,7 @@ pub fn route_inside(
 {
     for i in 0..route.count.saturating_sub(1) {
         let run = route_views::view_run(route, i);
-        if contact_test::is_slanted(run.start, run.end) {
+        if contact_test::is_slanted(run) {
             return Err(Refusal::RouteThroughNode);
         }
         for (j, node) in nodes.iter().enumerate() {
@@ -38,7 +38,7 @@ pub fn route_inside(
                 continue;
             }
             looks::charge(visits)?;
-            if shapes::run_passes_inside(run.start, run.end, node.body) {
+            if shapes::run_passes_inside(run, node.body) {
                 return Err(Refusal::RouteThroughNode);
             }
         }

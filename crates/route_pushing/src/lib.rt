@@ -16,6 +16,9 @@ use geometry::{Point, RouteView};
 
 // ---- push_point
 
+// The count stays beside the slice that is pushed to: it is the place of the next point, and a slice of just
+// the points that count would have no room for it.
+
 fn is_aligned(a: Point, b: Point, p: Point) -> bool
     ensures { result ≡ aligned a b p }
 {

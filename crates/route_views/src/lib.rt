@@ -80,19 +80,3 @@ pub fn view_last<'a>(v: RouteView<'a>) -> Point
 {
     view_point(v, v.count - 1)
 }
-
-// Point i of the route of count points from point start on, for callers that have the slice and the
-// numbers apart, and so ask what a view has as its field.
-pub fn route_point(points: &[f64], start: usize, count: usize, i: usize) -> Point
-    requires { (i < count) × (2 * (start + count) ≤ length points.now) }
-    ensures { result ≡ point_at points.now (start + i) }
-{
-    view_point(
-        RouteView {
-            points,
-            start,
-            count,
-        },
-        i,
-    )
-}

@@ -35,6 +35,23 @@ places_differ points [] (c ∷ cs) ne = refl
 places_differ points (s ∷ ss) [] ne = refl
 places_differ points (s ∷ ss) (c ∷ cs) ne = rw (places_differ points ss cs (λ e. ne (ap suc e))) (and-false (leb (2 * (s + c)) (length points)))
 
+-- a start and a count that are looked at, and those after them
+module _ (points : List Float) (start count : ℕ) (starts counts ss cs : List ℕ) (s : ss ≡ start ∷ starts) (c : cs ≡ count ∷ counts) where
+  pub places_on : leb (2 * (start + count)) (length points) ≡ true → places_fit points ss cs ≡ places_fit points starts counts
+  unfolding places_fit
+  places_on h = rw (s, c, h)
+
+  pub places_off : leb (2 * (start + count)) (length points) ≡ false → places_fit points ss cs ≡ false
+  unfolding places_fit
+  places_off h = rw (s, c, h)
+
+  pub places_paired : length ss ≡ length cs → length starts ≡ length counts
+  places_paired p = omega (arith, ap length s, ap length c)
+
+pub places_done : (points : List Float) (ss cs : List ℕ) → ss ≡ [] → cs ≡ [] → places_fit points ss cs ≡ true
+unfolding places_fit
+places_done points ss cs s c = rw (s, c)
+
 module _ (points : List Float) (starts counts : List ℕ) (paired : length starts ≡ length counts) (m : ℕ) where
   pub places_next : m < length starts → places_fit points (drop m starts) (drop m counts)
       ≡ (leb (2 * (get_or starts m 0 + get_or counts m 0)) (length points) && places_fit points (drop (m + 1) starts) (drop (m + 1) counts))

@@ -29,6 +29,8 @@ pub fn copy_numbers(points: &[f64], copy: &mut [f64])
     requires { length points.now ≡ length copy.old }
     ensures { copy.new ≡ plus_zeros points.now }
 {
+    // No zip with copy.iter_mut(): tried, it did not prove, since the invariant of a loop over that cannot speak of
+    // what stands in copy.
     for (i, x) in points.iter().enumerate() {
         copy[i] = binary64::plus_zero(*x);
     }
@@ -42,10 +44,10 @@ pub fn copy_routes<'a>(lent: LentRoutes<'a>, copy: &mut [f64], rows: &mut [usize
     requires copy_len { (length copy.old ≡ member_numbers) × (length rows.old ≡ length lent.starts.now) }
     ensures { Copied lent.entry.points.now lent.entry.starts.now lent.entry.counts.now (length lent.entry.starts.now) copy.new rows.new }
 {
-    for m in 0..lent.starts.len() {
-        let from = 2 * lent.starts[m];
+    for (m, (start, count)) in lent.starts.iter().zip(lent.counts).enumerate() {
+        let from = 2 * *start;
         let at = ROUTE_NUMBERS * m;
-        let n = 2 * lent.counts[m];
+        let n = 2 * *count;
         copy_numbers(&lent.points[from..from + n], &mut copy[at..at + n]);
         rows[m] = MAX_ROUTE_POINTS * m;
     }

@@ -23,15 +23,15 @@ use search_calls::{Call, LentRoutes};
 // would need laws of its own beside the steps.
 
 // Every member's points are within the points lent.
-#[tactic(auto, using(search_calls::proofs::RefusalSteps::places_differ, search_calls::proofs::RefusalSteps::places_next, search_calls::proofs::RefusalSteps::places_end))]
+#[tactic(auto, using(search_calls::proofs::RefusalSteps::places_differ))]
 pub fn places_fit<'a>(lent: LentRoutes<'a>) -> bool
     ensures { result ≡ lent_places_fit lent.entry }
 {
     if lent.starts.len() != lent.counts.len() {
         return false;
     }
-    for m in 0..lent.starts.len() {
-        if route_views::view_within(lent.points, lent.starts[m], lent.counts[m]).is_none() {
+    for (start, count) in lent.starts.iter().zip(lent.counts) {
+        if route_views::view_within(lent.points, *start, *count).is_none() {
             return false;
         }
     }
@@ -59,12 +59,13 @@ pub fn is_point(p: Point) -> bool
     binary64::is_coordinate(p.x) & binary64::is_coordinate(p.y)
 }
 
-#[tactic(auto, using(search_calls::proofs::RefusalSteps::points_next, search_calls::proofs::RefusalSteps::points_end))]
+#[tactic(auto, using(search_calls::proofs::RefusalSteps::points_end))]
 pub fn points_fit<'a>(route: RouteView<'a>) -> bool
     ensures { result ≡ points_fit (route_lent route.entry) }
 {
-    for k in 0..route.count {
-        if !is_point(route_views::view_point(route, k)) {
+    let numbers = &route.points[2 * route.start..2 * (route.start + route.count)];
+    for pair in numbers.as_chunks::<2>().0 {
+        if !is_point(route_views::point_at(pair, 0)) {
             return false;
         }
     }

@@ -35,17 +35,17 @@ pub fn run_stretch<'a>(route: RouteView<'a>, i: usize, role: Role, pitch: f64) -
     ensures { result ≡ stretch role pitch (point_at route.entry.points.now (route.entry.start + i)) (point_at route.entry.points.now (route.entry.start + i + 1)) }
 {
     let run = route_views::view_run(route, i);
-    shapes::shared_trunk_horizontal_range(run.start, run.end, role, pitch)
+    shapes::shared_trunk_horizontal_range(run, role, pitch)
 }
 
 // What is kept of a run: the ends of its stretch, or, where it has none, a low end above its high end.
 pub fn kept_of(s: Option<(f64, f64)>) -> Point
     ensures { result ≡ kept s }
 {
-    match s {
-        None => Point { x: 1.0, y: 0.0 },
-        Some((low, high)) => Point { x: low, y: high },
-    }
+    s.map_or(
+        Point { x: 1.0, y: 0.0 },
+        |(low, high)| Point { x: low, y: high },
+    )
 }
 
 // Whether x lies between the ends of kept pair i: two loads and two comparisons, without a branch

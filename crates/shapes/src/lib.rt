@@ -12,7 +12,7 @@ ghost use Rattle.geometry.specs.Stretch.{stretch, holds, on_trunk};
 ghost use Rattle.geometry.specs.Line.{on_level, on_upright, on_line};
 ghost use Rattle.geometry.specs.Port.{port_point};
 
-use geometry::{Node, Point, Role, Side, Span};
+use geometry::{Node, Point, Role, Segment, Side, Span};
 
 // ---- the interior test of verify_member_route_node_interiors
 
@@ -26,59 +26,58 @@ fn goes_inside(s: Span, corner: f64, far: f64, side: f64, reach: f64) -> bool
 
 // The test for a run that is level or upright.
 #[tactic(auto, unfolding(geometry::specs::Enters::passes_inside))]
-pub fn run_passes_inside(a: Point, b: Point, n: Node) -> bool
-    ensures { result ≡ passes_inside a b n }
+pub fn run_passes_inside(run: Segment, n: Node) -> bool
+    ensures { result ≡ passes_inside run.start run.end n }
 {
     let corner = n.corner;
     let far_x = corner.x + n.width;
     let far_y = corner.y + n.height;
-    if a.y == b.y {
-        let s = contact_test::span_across(a, b);
+    if run.start.y == run.end.y {
+        let s = contact_test::span_across(run);
         goes_inside(s, corner.y, far_y, corner.x, far_x)
     } else {
-        let s = contact_test::span_upright(a, b);
+        let s = contact_test::span_upright(run);
         goes_inside(s, corner.x, far_x, corner.y, far_y)
     }
 }
 
 // The test for any run: a slanted one is refused as one that enters.
-pub fn run_enters(a: Point, b: Point, n: Node) -> bool
-    ensures { result ≡ enters a b n }
+pub fn run_enters(run: Segment, n: Node) -> bool
+    ensures { result ≡ enters run.start run.end n }
 {
-    let refused = contact_test::is_slanted(a, b);
-    let passes = run_passes_inside(a, b, n);
+    let refused = contact_test::is_slanted(run);
+    let passes = run_passes_inside(run, n);
     refused | passes
 }
 
 // ---- stretches, and where a vertical line meets a run
 
 pub fn shared_trunk_horizontal_range(
-    start: Point,
-    end: Point,
+    run: Segment,
     role: Role,
     minimum_length: f64,
 ) -> Option<(f64, f64)>
-    ensures { result ≡ stretch role minimum_length start end }
+    ensures { result ≡ stretch role minimum_length run.start run.end }
 {
-    if start.y != end.y {
+    if run.start.y != run.end.y {
         return None;
     }
-    if start.x >= end.x {
+    if run.start.x >= run.end.x {
         return None;
     }
     match role {
         Role::Input => {
-            let high = end.x - minimum_length;
-            if start.x <= high {
-                Some((start.x, high))
+            let high = run.end.x - minimum_length;
+            if run.start.x <= high {
+                Some((run.start.x, high))
             } else {
                 None
             }
         }
         Role::Output => {
-            let low = start.x + minimum_length;
-            if low <= end.x {
-                Some((low, end.x))
+            let low = run.start.x + minimum_length;
+            if low <= run.end.x {
+                Some((low, run.end.x))
             } else {
                 None
             }
@@ -89,63 +88,60 @@ pub fn shared_trunk_horizontal_range(
 pub fn stretch_holds(s: Option<(f64, f64)>, x: f64) -> bool
     ensures { result ≡ holds x s }
 {
-    match s {
-        None => false,
-        Some((low, high)) => (x >= low) & (x <= high),
-    }
+    s.is_some_and(|(low, high)| (x >= low) & (x <= high))
 }
 
 pub fn shared_trunk_horizontal_intersection(
-    start: Point,
-    end: Point,
+    run: Segment,
     x: f64,
     role: Role,
     minimum_length: f64,
 ) -> Option<Point>
-    ensures { result ≡ on_trunk role minimum_length x start end }
+    ensures { result ≡ on_trunk role minimum_length x run.start run.end }
 {
-    let s = shared_trunk_horizontal_range(start, end, role, minimum_length);
+    let s = shared_trunk_horizontal_range(run, role, minimum_length);
     if stretch_holds(s, x) {
-        let p = Point { x: x, y: start.y };
+        let p = Point {
+            x: x,
+            y: run.start.y,
+        };
         return Some(p);
     }
     None
 }
 
 // The line meets a level run.
-fn is_on_level(start: Point, end: Point, x: f64) -> bool
-    ensures { result ≡ on_level x start end }
+fn is_on_level(run: Segment, x: f64) -> bool
+    ensures { result ≡ on_level x run.start run.end }
 {
-    let low = binary64::min(start.x, end.x);
-    let high = binary64::max(start.x, end.x);
-    (start.y == end.y) & (x >= low) & (x <= high)
+    let low = binary64::min(run.start.x, run.end.x);
+    let high = binary64::max(run.start.x, run.end.x);
+    (run.start.y == run.end.y) & (x >= low) & (x <= high)
 }
 
 // An upright run lies on the line.
-fn is_on_upright(start: Point, end: Point, x: f64) -> bool
-    ensures { result ≡ on_upright x start end }
+fn is_on_upright(run: Segment, x: f64) -> bool
+    ensures { result ≡ on_upright x run.start run.end }
 {
-    (start.x == x) & (end.x == x)
+    (run.start.x == x) & (run.end.x == x)
 }
 
 // prefer_end is the Rust's own parameter.
-pub fn segment_vertical_line_intersection(
-    start: Point,
-    end: Point,
-    x: f64,
-    prefer_end: bool,
-) -> Option<Point>
-    ensures { result ≡ on_line prefer_end x start end }
+pub fn segment_vertical_line_intersection(run: Segment, x: f64, prefer_end: bool) -> Option<Point>
+    ensures { result ≡ on_line prefer_end x run.start run.end }
 {
-    if is_on_level(start, end, x) {
-        let p = Point { x: x, y: start.y };
+    if is_on_level(run, x) {
+        let p = Point {
+            x: x,
+            y: run.start.y,
+        };
         return Some(p);
     }
-    if is_on_upright(start, end, x) {
+    if is_on_upright(run, x) {
         if prefer_end {
-            return Some(end);
+            return Some(run.end);
         }
-        return Some(start);
+        return Some(run.start);
     }
     None
 }

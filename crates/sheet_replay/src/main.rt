@@ -8,17 +8,18 @@ ghost use Rattle.std.specs.Prelude.{◌≡◌, ◌*◌, ◌≤◌, length};
 ghost use Rattle.limits.specs.Limits.{max_nodes, max_edges, max_bundles, max_members, slot_numbers};
 ghost use Rattle.route.specs.Slots.{Held};
 ghost use Rattle.answer.specs.SheetTables.{Windows};
-ghost use Rattle.job_tables.specs.Came.{Came};
+ghost use Rattle.job_tables.specs.Came.{Came, Sizes};
 ghost use Rattle.draw_job.specs.JobTables.{MembersOn, Lent};
 
 use answer::Frame;
 use board::{DrawnBundle, Edge, Member, PlacedNode};
 use draw_job::SheetWork;
 use drawing::GeometryVisits;
+use geometry::Point;
 use job::Job;
 use limits::{
-    ALL_SLOT_NUMBERS, ANY_ANSWER_ROOM, JOB_ROOM, MAX_BUNDLES, MAX_EDGES, POINT_NUMBERS,
-    SLOT_NUMBERS, TAP_NUMBERS,
+    ALL_SLOT_NUMBERS, ANY_ANSWER_ROOM, JOB_ROOM, MAX_BUNDLES, MAX_EDGES, MAX_MEMBERS,
+    POINT_NUMBERS, SLOT_NUMBERS,
 };
 use plan::tables::BoardTables;
 use plan::{Bound, Planned, Planning};
@@ -68,7 +69,7 @@ struct WrittenSheet<'a> {
     members: &'a [Member],
     drawn: &'a [DrawnBundle],
     present: PresentRoutes<'a>,
-    taps: &'a [f64],
+    taps: &'a [Point],
 }
 
 // Answers the place after it.
@@ -81,7 +82,7 @@ fn put_page(
 ) -> usize
     requires nodes_le_max_nodes { (length s.nodes.now ≤ max_nodes) × (length s.edges.now ≤ max_edges) × (length s.drawn.now ≤ max_bundles) × (length s.members.now ≤ max_members) }
     requires edges_in_bounds { length s.edges.now ≤ length s.present.counts.now }
-    requires windows { Windows s.drawn.now (length s.members.now) × (2 * length s.members.now ≤ length s.taps.now) }
+    requires windows { Windows s.drawn.now (length s.members.now) × (length s.members.now ≤ length s.taps.now) }
     requires members_on { MembersOn s.edges.now s.members.now }
 {
     let t = draw_job::tap_rows(s.edges, s.members, s.taps);
@@ -99,13 +100,13 @@ fn put_pages<'a>(
     rest: GeometryVisits,
     points: &mut [f64],
     counts: &'a [usize],
-    taps: &mut [f64],
+    taps: &mut [Point],
     page: &mut [u8; ANY_ANSWER_ROOM],
     out: &mut [u8; OUT_ROOM],
 ) -> usize
     requires few { (length board.edges.now ≤ max_edges) × (length drawn.now ≤ max_bundles) }
     requires counted { (length counts.now ≡ length board.edges.now) × Held counts.now × (slot_numbers * length counts.now ≤ length points.old) }
-    requires windows { Windows drawn.now (length board.members.now) × (2 * length board.members.now ≤ length taps.old) }
+    requires windows { Windows drawn.now (length board.members.now) × (length board.members.now ≤ length taps.old) }
     requires members_on { MembersOn board.edges.now board.members.now }
 {
     let start = put_verdict(out, 0, drawn.len(), rest);
@@ -147,7 +148,7 @@ fn put_pages<'a>(
 // The sheet of a plan in lent slices. draw_job::draw_in has the same call and what goes into it: a function of
 // both would be lent nine slices and tables, and hand the drawing and the visits back.
 fn draw_in(
-    j: Job,
+    j: &Job,
     given: &[f64],
     p: Planning,
     work: SheetWork,
@@ -155,10 +156,11 @@ fn draw_in(
     page: &mut [u8; ANY_ANSWER_ROOM],
     out: &mut [u8; OUT_ROOM],
 ) -> usize
-    requires came { Came j given.now }
-    requires lent { Lent j work.taps.now points.old work.counts.now work.mask.now work.scratch.now }
+    requires came { Came j.now given.now }
+    requires sizes { Sizes j.now }
+    requires lent { Lent j.now work.taps.now points.old work.counts.now work.mask.now work.scratch.now }
 {
-    let board = job_tables::board_tables(&j);
+    let board = job_tables::board_tables(j);
     let offsets = plan_depths::corridor_depth_offsets(board);
     let SheetWork {
         taps,
@@ -166,7 +168,7 @@ fn draw_in(
         mask,
         scratch,
     } = work;
-    let taps = &mut taps[..2 * j.members.count];
+    let taps = &mut taps[..j.members.count];
     let mut turn_work = TurnWork {
         mask: &mut mask[..],
         scratch: &mut scratch[..],
@@ -202,15 +204,16 @@ fn draw_in(
 
 // The same, in slices of its own.
 fn draw(
-    j: Job,
+    j: &Job,
     given: &[f64; POINT_NUMBERS],
     p: Planning,
     page: &mut [u8; ANY_ANSWER_ROOM],
     out: &mut [u8; OUT_ROOM],
 ) -> usize
-    requires { Came j given.now }
+    requires came { Came j.now given.now }
+    requires sizes { Sizes j.now }
 {
-    let mut taps = [0.0; TAP_NUMBERS];
+    let mut taps = [Point { x: 0.0, y: 0.0 }; MAX_MEMBERS];
     let mut points = [0.0; ALL_SLOT_NUMBERS];
     let mut counts = [0; MAX_EDGES];
     let mut mask = [false; MAX_EDGES];
@@ -244,7 +247,7 @@ fn answer(
     match job_reader::read_job(&record[1..end], given) {
         Ok(j) => {
             let p = plan_at(record, end, TapVisits(j.grants.tap_visits));
-            draw(j, given, p, page, out)
+            draw(&j, given, p, page, out)
         }
         Err(r) => {
             records::put_u8(out, 0, u64::from(u8::from(r)));

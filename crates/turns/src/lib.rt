@@ -20,14 +20,15 @@ ghost use Rattle.drawing.specs.Sheet.{turn, turns_from, sheet_of, blank};
 ghost use Rattle.checks.specs.Purse.{told};
 ghost use Rattle.checks.specs.CheckRows.{drawn_of};
 ghost use Rattle.checks.specs.MemberSlices.{members_from, Row};
+ghost use Rattle.member_rewriting.specs.Ways.{way_of};
 ghost use Rattle.turns.specs.TurnTables.{turn_of, standing, ends_as, drawn_in, row_drawn, Faced, Ready, Longer, Lists, Room, Short, Rows, Full, GivenIn, Follow, Once};
 
-use board::{Bundle, DrawnBundle, DrawnBundles, Edge, Member};
+use board::{Bundle, DrawnBundle, DrawnBundles, Edge, Member, NO_DRAWN};
 use checks::{BoardSlices, BundleRows, MemberTaps, Rules};
 use drawing::GeometryVisits;
-use geometry::{Point, RouteView, Segment};
+use geometry::{Point, RouteView};
 use limits::MAX_BUNDLES;
-use member_rewriting::Lead;
+use member_rewriting::{Lead, Way};
 use plan::tables::BoardTables;
 use plan::{Bound, Offsets, Planned};
 use refusal::Refusal;
@@ -60,6 +61,18 @@ struct BundleTurn {
     offset: f64,
 }
 
+// A bundle that counts as interior leads its routes through its trunk.
+#[tactic(auto, unfolding(member_rewriting::specs::Ways::way_of))]
+fn way_of_bundle(interior: bool, offset: f64) -> Way
+    ensures { result ≡ way_of interior offset }
+{
+    if interior {
+        Way::Trunk
+    } else {
+        Way::Corridor(offset)
+    }
+}
+
 // One bundle: build_geometry, rewrite_member_routes, verify_one_bundle_route_node_interiors,
 // verify_new_bundle_route_contacts.
 fn draw_bundle(
@@ -68,7 +81,7 @@ fn draw_bundle(
     t: BundleTurn,
     priors: &[DrawnBundle],
     members: &[Member],
-    taps: &mut [f64],
+    taps: &mut [Point],
     points: &mut [f64],
     counts: &mut [usize],
     work: &mut TurnWork,
@@ -93,7 +106,7 @@ fn draw_bundle(
         taps,
     );
     let lead = Lead {
-        inside: d.interior,
+        way: way_of_bundle(d.interior, t.offset),
         role: u.role,
         pitch: board::pitch_of_bundle(rules.options, u),
     };
@@ -102,15 +115,7 @@ fn draw_bundle(
         first: u.first,
         count: u.count,
     };
-    member_rewriting::rewrite_member_routes(
-        lead,
-        t.offset,
-        own,
-        taps,
-        points,
-        counts,
-        work.scratch,
-    )?;
+    member_rewriting::rewrite_member_routes(lead, own, taps, points, counts, work.scratch)?;
     let tapped = MemberTaps { members, taps };
     let present = PresentRoutes { points, counts };
     bundle_checks::verify_bundle(rules, board, d, priors, tapped, present, work.mask, visits)?;
@@ -140,18 +145,8 @@ fn store_edges(table: &[Edge], given: &[f64], points: &mut [f64], counts: &mut [
 fn none_drawn() -> DrawnBundles
     ensures { result.count ≡ 0 }
 {
-    let p = Point { x: 0.0, y: 0.0 };
-    let s = Segment { start: p, end: p };
-    let d = DrawnBundle {
-        id: 0,
-        interior: false,
-        collector: s,
-        spine: s,
-        first: 0,
-        count: 0,
-    };
     DrawnBundles {
-        rows: [d; MAX_BUNDLES],
+        rows: [NO_DRAWN; MAX_BUNDLES],
         count: 0,
     }
 }
@@ -170,7 +165,7 @@ struct Turns<'a> {
 // Every bundle in job order; after a refusal, those drawn before it.
 fn draw_bundles(
     turns: Turns,
-    taps: &mut [f64],
+    taps: &mut [Point],
     points: &mut [f64],
     counts: &mut [usize],
     work: &mut TurnWork,
@@ -240,7 +235,7 @@ pub fn draw_sheet(
     plan: [Planned; MAX_BUNDLES],
     offsets: Offsets,
     given: &[f64],
-    taps: &mut [f64],
+    taps: &mut [Point],
     points: &mut [f64],
     counts: &mut [usize],
     work: &mut TurnWork,

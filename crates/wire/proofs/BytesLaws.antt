@@ -1,11 +1,12 @@
 -- Numbers as big-endian bytes, there and back: the laws. Assumes nothing.
-use Rattle.std.specs.Prelude.{ℕ, zero, suc, ◌+◌, ◌*◌, ◌-◌, ◌/◌, ◌%◌, ◌^◌, ◌≤◌, ◌<◌, ◌≡◌, refl, List, [], ◌∷◌, ◌++◌, length, take, drop, get_or}
+use Rattle.std.specs.Prelude.{ℕ, zero, suc, ◌+◌, ◌*◌, ◌-◌, ◌/◌, ◌%◌, ◌^◌, ◌≤◌, ◌<◌, ◌≡◌, refl, List, [], ◌∷◌, ◌++◌, length, take, drop, get_or, slice_index}
 use Rattle.std.proofs.Common.{sym, ap, ◌∙◌, div-add-mod', div-lt_iff_lt-mul, mul_assoc, mul_comm, add-mul, pow-suc, zero-add, arith, lit<, length-append, length-drop, drop-cons, take-add, drop-drop, length-take-le, take_all}
 use Rattle.std.proofs.Math.Nat.{div-div-eq-div-mul}
 use Rattle.std.proofs.lemmas.Slice.{put_mid-paste}
 use Rattle.std.proofs.lemmas.List.Edits.{sets, sets-eq}
 use borrow.Rule.Slice.PartMut.{put_mid}
 use Rattle.wire.specs.Bytes.{bytes, number, number_on}
+use Rattle.std.specs.Int.{from_be_bytes, w16, w32, w64}
 
 pub number_behind : (a : ℕ) (l m : List ℕ) → number_on a (l ++ m) ≡ number_on (number_on a l) m
 unfolding number_on
@@ -60,6 +61,25 @@ number_eight s at h =
     let f : at + 4 + 2 ≡ at + 6 = omega arith in
     let g : at + 4 + 3 ≡ at + 7 = omega arith in
     omega (arith, number_parts 4 4 s at (omega arith), number_four s at (omega arith), rw (e, f, g) at (number_four s (at + 4) (omega arith)))
+
+-- what the library makes of an array of one, two, four or eight bytes is their number
+pub byte_is : (b : List ℕ) → length b ≡ 1 → number b ≡ slice_index b 0
+byte_is b h = rw (take_all 1 b (omega arith)) at (number_one b 0 (omega arith))
+
+pub half_is : (b : List ℕ) → length b ≡ 2 → number b ≡ from_be_bytes w16 b
+half_is b h =
+    let e : number b ≡ get_or b 0 0 * 256 + get_or b 1 0 = rw (take_all 2 b (omega arith)) at (number_two b 0 (omega arith)) in
+    omega (arith, e)
+
+pub word_is : (b : List ℕ) → length b ≡ 4 → number b ≡ from_be_bytes w32 b
+word_is b h =
+    let e = rw (take_all 4 b (omega arith)) at (number_four b 0 (omega arith)) in
+    omega (arith, e)
+
+pub double_is : (b : List ℕ) → length b ≡ 8 → number b ≡ from_be_bytes w64 b
+double_is b h =
+    let e = rw (take_all 8 b (omega arith)) at (number_eight b 0 (omega arith)) in
+    omega (arith, e)
 
 pub bytes_length : (w v : ℕ) → length (bytes w v) ≡ w
 unfolding bytes

@@ -1,8 +1,8 @@
 -- A field that is there and one that is not, and repeated records one by one. Assumes nothing.
 use Prim.Native.Nat.{ℕ, suc, ◌+◌, ◌-◌, ◌≤◌, ◌<◌}
-use Rattle.std.specs.Prelude.{◌≡◌, List, length, take, drop}
+use Rattle.std.specs.Prelude.{◌≡◌, refl, Bool, true, false, cond, leb, List, length, take, drop}
 use native.Mathlib.Omega.{arith}
-use Rattle.std.proofs.Common.{length-drop, drop-drop, le-leb}
+use Rattle.std.proofs.Common.{length-drop, drop-drop, le-leb, leb-true, leb-false}
 use Rattle.std.proofs.lemmas.Bool.{lt-leb}
 use Rattle.wire.specs.Bytes.{number}
 use Rattle.wire.specs.Read.{Reader, after, field, got, many, refused}
@@ -19,6 +19,23 @@ unfolding field
 field_past w at s g h =
     let k : length (drop at s) < w = rw length-drop (omega arith) in
     rw (lt-leb w (length (drop at s)) k)
+
+-- what a field that was read says of the bytes, and one that was not
+pub field_got : (w : ℕ) (s : List ℕ) (n : ℕ) (t : List ℕ) → field w s ≡ got n t → (w ≤ length s) × (number (take w s) ≡ n) × (drop w s ≡ t)
+unfolding field
+field_got w s n t e = by_test (leb w (length s)) (leb-true w (length s)) e
+  where
+    by_test : (b : Bool) → (b ≡ true → w ≤ length s) → cond b (got (number (take w s)) (drop w s)) (refused 4) ≡ got n t → (w ≤ length s) × (number (take w s) ≡ n) × (drop w s ≡ t)
+    by_test true h e = (h refl, cc, cc)
+    by_test false h e = let z : ◌≡◌ {A = ℕ} 0 1 = cc in absurd (omega arith)
+
+pub field_missed : (w : ℕ) (s : List ℕ) (r : ℕ) → field w s ≡ refused r → length s < w
+unfolding field
+field_missed w s r e = by_test (leb w (length s)) (leb-false w (length s)) e
+  where
+    by_test : (b : Bool) → (b ≡ false → length s < w) → cond b (got (number (take w s)) (drop w s)) (refused 4) ≡ refused r → length s < w
+    by_test true h e = let z : ◌≡◌ {A = ℕ} 0 1 = cc in absurd (omega arith)
+    by_test false h e = h refl
 
 module _ {A : Type 0} (p : A → Reader A) (n i : ℕ) (a : A) (s : List ℕ) where
   -- a turn is due

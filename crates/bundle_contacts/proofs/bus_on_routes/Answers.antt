@@ -11,7 +11,7 @@ returns-in_err-bus_on_route c =
     let a = c.args in
     let l = c.loop-e in
     let p = err_from_is_err_and c.from_residual.result c.from_residual.ensures.1 in
-    let w = rw c.slot_of.ensures at c.in_err-bus_on_route.ensures in
+    let w = rw (c.slot_of.ensures, c.bus_of.ensures) at c.in_err-bus_on_route.ensures in
     rw (p.1, p.2) (over_off 11 (route_tests a.rules.options a.rules.permits_crossings a.segment (taps_lent a.taps)) (chosen_lent a.chosen) a.chosen.routes.points.now a.chosen.routes.counts.now l.e _ _ c.loop-e-test.true (sym c.is_chosen.ensures ∙ c.if-is_chosen.true) _ w ∙ l.invariant)
 
 pub loop-e-preserved : goal.loop-e-preserved
@@ -20,7 +20,7 @@ loop-e-preserved c =
     let l = c.loop-e in
     elim c.if-is_chosen.branch [
       | then-is_chosen+in_ok-bus_on_route w ↦
-          let t = rw w.slot_of.ensures at w.in_ok-bus_on_route.ensures in
+          let t = rw (w.slot_of.ensures, c.bus_of.ensures) at w.in_ok-bus_on_route.ensures in
           rw w.visits-is (over_on 11 (route_tests a.rules.options a.rules.permits_crossings a.segment (taps_lent a.taps)) (chosen_lent a.chosen) a.chosen.routes.points.now a.chosen.routes.counts.now l.e _ _ c.loop-e-test.true (sym c.is_chosen.ensures ∙ w.if-is_chosen.true) t ∙ l.invariant)
       | else-is_chosen w ↦ rw w.visits-is (over_skip 11 (route_tests a.rules.options a.rules.permits_crossings a.segment (taps_lent a.taps)) (chosen_lent a.chosen) a.chosen.routes.points.now a.chosen.routes.counts.now l.e _ c.loop-e-test.true (sym c.is_chosen.ensures ∙ w.if-is_chosen.false) ∙ l.invariant)
     ]

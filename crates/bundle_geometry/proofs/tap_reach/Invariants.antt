@@ -1,12 +1,11 @@
-use mathlib.Core.Path.{◌≡◌}
-use mathlib.Core.List.{[]}
+use Rattle.std.specs.Prelude.{◌≡◌}
 use Rattle.drawing.specs.Build.{lowest, highest}
-use Rattle.checks.specs.CheckRows.{taps_from}
+use Rattle.checks.specs.LentRows.{taps_in}
 use Rattle.bundle_geometry.proofs.Taps.{taps_rest}
 use Rattle.bundle_geometry.proofs.tap_reach.Given as goal
 
-abbrev pub invariant-loop-i : goal.invariant-loop-i
-invariant-loop-i l = record {
-  low : lowest l.low (taps_rest l.taps.points.now l.taps.start l.taps.count l.i) ≡ lowest l.initial.low (taps_from [] l.taps.points.now l.taps.start l.taps.count);
-  high : highest l.high (taps_rest l.taps.points.now l.taps.start l.taps.count l.i) ≡ highest l.initial.high (taps_from [] l.taps.points.now l.taps.start l.taps.count);
+abbrev pub invariant-loop-p : goal.invariant-loop-p
+invariant-loop-p l = record {
+  low : lowest l.low (taps_rest l.taps l.p-index) ≡ lowest l.initial.low (taps_in l.taps);
+  high : highest l.high (taps_rest l.taps l.p-index) ≡ highest l.initial.high (taps_in l.taps);
 }

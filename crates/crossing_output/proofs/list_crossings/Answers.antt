@@ -1,13 +1,15 @@
 -- `crossing_output::list_crossings` meets its contract. Assumes nothing.
-use Rattle.crossing_bytes.proofs.Counted.{refused, held_back, put}
-use borrow.Author.Rules.{rules}
+use Rattle.crossing_bytes.proofs.Counted.{many, held_back, put}
+use Rattle.std.proofs.Common.{◌∙◌}
 use Rattle.crossing_output.proofs.list_crossings.Goals as goal
 
-pub returns-then-too_many : goal.returns-then-too_many
-returns-then-too_many c = let parts = refused _ _ _ _ c.sheet_crossings.ensures.rows _ _ c.if-too_many.true in record { too_many = parts.0; refusal = search rules; bytes = parts.1 }
+pub returns-in_err-sheet_crossings-clause-bytes : goal.returns-in_err-sheet_crossings-clause-bytes
+returns-in_err-sheet_crossings-clause-bytes c = many _ _ _ c.in_err-sheet_crossings.ensures.many.1
 
-pub returns-then-withheld : goal.returns-then-withheld
-returns-then-withheld c = let parts = held_back _ _ _ _ c.sheet_crossings.ensures.rows _ _ c.if-too_many.false c.if-withheld.true in record { too_many = parts.0; refusal = search rules; bytes = parts.1 }
+pub returns-then-withheld-clause-bytes : goal.returns-then-withheld-clause-bytes
+returns-then-withheld-clause-bytes c = held_back _ _ _ c.if-withheld.true
 
-pub returns : goal.returns
-returns c = let parts = put _ _ _ _ c.sheet_crossings.ensures.rows _ _ _ c.if-too_many.false c.if-withheld.false c.put_crossings.ensures in record { too_many = parts.0; refusal = search rules; bytes = parts.1 }
+pub returns-clause-bytes : goal.returns-clause-bytes
+returns-clause-bytes c =
+    let rows = c.as_mut_slice-rows.ensures in
+    put _ _ _ _ _ (rows.value ∙ c.in_ok-sheet_crossings.ensures.kept) rows.fits c.if-withheld.false c.put_crossings.ensures

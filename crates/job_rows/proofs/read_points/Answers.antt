@@ -1,5 +1,5 @@
 -- `job_rows::read_points` meets its contract. Assumes nothing.
-use Rattle.std.proofs.Common.{◌≡◌, ℕ, ◌+◌, ◌*◌, drop, sym, ap, ◌∙◌, arith}
+use Rattle.std.proofs.Common.{◌≡◌, ℕ, ◌+◌, sym, ap, ◌∙◌, arith}
 use Rattle.std.proofs.lemmas.Result.{err_from_is_err_and}
 use Rattle.wire.specs.Read.{got}
 use Rattle.geometry.specs.Points.{points_from}
@@ -13,26 +13,21 @@ returns-in_err-p c =
     let a = c.args in
     let l = c.loop-i in
     let p = err_from_is_err_and c.from_residual.result c.from_residual.ensures.1 in
-    rw (p.1, p.2) (sym (push_stopped (point a.grid) a.count l.i (points_from l.points 0 (a.total + l.i)) (drop l.at a.s.now) _ (omega arith) (sym c.in_err-p.ensures)) ∙ l.invariant.1)
+    rw (p.1, p.2) (sym (push_stopped (point a.grid) a.count l.i (points_from l.points 0 (a.total + l.i)) l.s.bytes.now _ (omega arith) (sym c.in_err-p.ensures)) ∙ l.invariant)
 
 pub loop-i-preserved : goal.loop-i-preserved
 loop-i-preserved c =
     let a = c.args in
     let l = c.loop-i in
-    let s = a.s.now in
     let f = c.put_point in
-    let g : a.total + (l.i + 1) ≡ a.total + l.i + 1 = omega arith in (
-      omega arith,
-      pushed (point a.grid) a.count l.i (points_from l.points 0 (a.total + l.i)) (drop l.at s) _ _ (drop (l.at + 16) s) (omega arith) (sym c.in_ok-p.ensures)
-          (rw (g, f.ensures) (put_after l.points (a.total + l.i) _ (omega arith))) ∙ l.invariant.1,
-    )
+    let g : a.total + (l.i + 1) ≡ a.total + l.i + 1 = omega arith in
+    pushed (point a.grid) a.count l.i (points_from l.points 0 (a.total + l.i)) l.s.bytes.now _ _ c.point.new.s.bytes.now (omega arith) (sym c.in_ok-p.ensures)
+    (rw (g, f.ensures) (put_after l.points (a.total + l.i) _ (omega arith))) ∙ l.invariant
 
 pub returns : goal.returns
 returns c =
     let a = c.args in
     let l = c.loop-i in
-    let s = a.s.now in
     let q : a.count ≡ l.i = omega arith in
-    let p : a.from + 16 * a.count ≡ l.at = omega arith in
-    ap (λ (z : ℕ). got (points_from l.points 0 (a.total + a.count)) (drop z s)) p ∙ ap (λ (z : ℕ). got (points_from l.points 0 (a.total + z)) (drop l.at s)) q
-    ∙ sym (done (push (point a.grid)) a.count l.i (points_from l.points 0 (a.total + l.i)) (drop l.at s) (omega arith)) ∙ l.invariant.1
+    ap (λ (z : ℕ). got (points_from l.points 0 (a.total + z)) l.s.bytes.now) q
+    ∙ sym (done (push (point a.grid)) a.count l.i (points_from l.points 0 (a.total + l.i)) l.s.bytes.now (omega arith)) ∙ l.invariant

@@ -3,8 +3,7 @@ use mathlib.Core.Logic.{inr}
 use mathlib.Core.Path.{◌≡◌, ap, ◌∙◌}
 use Prim.Native.Nat.{◌+◌}
 use Rattle.drawing.specs.Normal.{shifted}
-use Rattle.bundle_geometry.proofs.Taps.{untouched_next, placed_next}
-use Rattle.normalize.proofs.Shift.{goal}
+use Rattle.normalize.proofs.Shift.{goal, untouched_next, placed_next}
 use Rattle.normalize.proofs.shift_points.Goals as goal
 
 pub loop-i-preserved : goal.loop-i-preserved

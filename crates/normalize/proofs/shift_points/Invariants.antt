@@ -1,5 +1,5 @@
 use Prim.Native.Nat.{◌+◌}
-use Rattle.checks.specs.MemberSlices.{Untouched, Placed}
+use Rattle.normalize.specs.PageTables.{Untouched, Placed}
 use Rattle.normalize.proofs.Shift.{goal}
 use Rattle.normalize.proofs.shift_points.Given as goal
 

@@ -1,5 +1,6 @@
 -- `plan_neighbours::component` meets its contract. Assumes nothing.
-use Rattle.std.proofs.Common.{sym, ◌∙◌, ap, subst, true, List, ℕ, [], ◌∷◌, ◌++◌, ◌-◌, ◌<◌, length, length-append, take, set, arith}
+use Rattle.std.proofs.Common.{sym, ◌∙◌, ap, subst, true, List, ℕ, [], ◌∷◌, ◌++◌, ◌-◌, ◌<◌, get_or, length, length-append, take, set, arith}
+use Rattle.limits.specs.Limits.{max_bundles}
 use Rattle.plan.specs.Plan.{walk}
 use Rattle.plan.specs.Stack.{backward, row_of, walk_of}
 use Rattle.plan_neighbours.proofs.Walks as laws
@@ -25,6 +26,15 @@ offset_bounds-adjacent-i c = omega (arith, (below (goal.at.offset_bounds-adjacen
 pub bounds-adjacent-i : goal.bounds-adjacent-i
 bounds-adjacent-i c = omega (arith, (below (goal.at.bounds-adjacent-i c).In-Some).0)
 
+pub push_near-requires : goal.push_near-requires
+push_near-requires c =
+    let a = c.args in
+    let l = c.loop-i in
+    let k = laws.unseen_more l.s.seen a.n max_bundles (omega arith) in
+    let p = c.in-Some.ensures.items in
+    let q = length-append c.pop.new.self.items (c.in-Some.i ∷ []) in
+    (omega (arith, laws.cut_length (get_or a.adjacent.now.rows c.in-Some.i []) a.n), omega (arith, l.invariant.few, k, ap length p, q))
+
 pub loop-i-preserved : goal.loop-i-preserved
 loop-i-preserved c =
     let a = c.args in
@@ -32,7 +42,8 @@ loop-i-preserved c =
     let adj = a.adjacent.now.rows in
     let seen = take a.n l.s.seen in
     let b = below (goal.at.loop-i-preserved c).In-Some in
-    let e = c.push_near.ensures in
+    let row = get_or adj c.in-Some.i [] in
+    let e = rw (laws.row_lent row a.n) at (c.push_near.ensures a.n (laws.cut_length row a.n) (omega arith)) in
     let p = c.in-Some.ensures.items in
     let h : length l.order.items < a.n = omega (arith, ap length p, length-append c.pop.new.self.items (c.in-Some.i ∷ [])) in record {
       few = omega (arith, e.1, ap length p, length-append c.pop.new.self.items (c.in-Some.i ∷ []));

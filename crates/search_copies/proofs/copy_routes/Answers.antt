@@ -1,27 +1,32 @@
 -- `search_copies::copy_routes` meets its contract. Assumes nothing.
-use Rattle.std.specs.Prelude.{◌≡◌, ◌+◌, ◌-◌, ◌*◌, ◌≤◌, length, take, drop, get_or}
-use native.Mathlib.Omega.{arith}
-use borrow.Rule.Slice.PartMut.{put_mid}
-use Rattle.limits.specs.Limits.{route_numbers}
-use Rattle.search_calls.specs.Entry.{plus_zeros}
-use Rattle.search_calls.specs.Copied.{Put}
-use Rattle.search_calls.proofs.Copies as laws
+use Rattle.std.specs.Prelude.{ℕ, drop}
+use Rattle.std.proofs.Common.{rules, arith, sym, ◌∙◌, ap, refl}
+use Rattle.std.proofs.lemmas.Slice.Zip.{Zip-more, either_empty_from_Zip}
 use Rattle.search_copies.proofs.Parts as parts
 use Rattle.search_copies.proofs.copy_routes.Goals as goal
+
+pub loop-m-init : goal.loop-m-init
+loop-m-init c = search rules
 
 pub loop-m-preserved : goal.loop-m-preserved
 loop-m-preserved c =
     let l = c.args.lent in
-    let m = c.loop-m.m in
-    let fit = c.requires.fitting in
-    let from = 2 * get_or l.starts.now m 0 in
-    let at = route_numbers * m in
-    let n = 2 * get_or l.counts.now m 0 in
-    let short = fit.short m c.loop-m-test.true in
-    let inside : from + n ≤ length l.points.now = let h = fit.at_places.inside m c.loop-m-test.true in omega arith in
-    let room : at + n ≤ length c.loop-m.copy = omega (arith, short, fit.few, c.requires.copy_len.0, c.loop-m.auto.copy) in
-    let f : from + n - from ≡ n = omega arith in
-    let k : at + n - at ≡ n = omega arith in
-    let is : c.copy_numbers.new.copy ≡ plus_zeros (take n (drop from l.points.now)) = rw f at c.copy_numbers.ensures in
-    let p : Put l.points.now from n c.loop-m.copy (put_mid at (at + n - at) c.loop-m.copy c.copy_numbers.new.copy) at = rw k (parts.put_part l.points.now c.loop-m.copy c.copy_numbers.new.copy from n at inside room is) in
-    laws.copied_more l.points.now l.starts.now l.counts.now m c.loop-m.copy (put_mid at (at + n - at) c.loop-m.copy c.copy_numbers.new.copy) c.loop-m.rows c.loop-m.invariant (λ i h. fit.short i (omega arith)) (omega arith) p
+    let i = c.loop-m.invariant in
+    let step = c.in-Some.ensures.steps in
+    let more = Zip-more c.loop-m.m-iterator.iter c.next.new.self.iter _ (c.in-Some.start, c.in-Some.count) refl step.0 in
+    let s = parts.rest_front l.starts.now _ _ _ (sym i.2 ∙ more.0) in
+    let t = parts.rest_front l.counts.now _ _ _ (sym i.3 ∙ more.1) in (
+      parts.copied_next_row l.points.now l.starts.now l.counts.now c.loop-m.m-iterator.count c.loop-m.copy _ c.loop-m.rows c.requires.fitting (c.loop-m.auto.copy ∙ c.requires.copy_len.0) (c.loop-m.auto.rows ∙ c.requires.copy_len.1)
+          _ _ _ _ step.1 s.1 t.1 step.2 s.0 i.0 c.copy_numbers.ensures,
+      omega (arith, s.0, step.2),
+      s.2 ∙ ap (λ (k : ℕ). drop k l.starts.now) (sym step.2),
+      t.2 ∙ ap (λ (k : ℕ). drop k l.counts.now) (sym step.2),
+    )
+
+pub returns : goal.returns
+returns c =
+    let l = c.args.lent in
+    let i = c.loop-m.invariant in
+    let spent = either_empty_from_Zip c.loop-m.m-iterator.iter c.next.new.self.iter _ refl c.in-None.ensures.steps.0 in
+    let whole = parts.both_done l.starts.now l.counts.now _ _ _ i.1 c.requires.fitting.at_places.paired i.2 i.3 spent in
+    rw (sym whole) i.0

@@ -1,7 +1,12 @@
 use mathlib.Core.Path.{◌≡◌}
-use lib.ListN.{drop}
+use lib.ListN.{length}
+use Rattle.std.specs.Iterator.Adapters.{zip_first, zip_second}
+use Rattle.std.specs.Slice.Iter.{iter_rest}
 use Rattle.search_calls.specs.Entry.{places_fit}
 use Rattle.search_refusals.proofs.places_fit.Given as goal
 
-abbrev pub invariant-loop-m : goal.invariant-loop-m
-invariant-loop-m l = places_fit l.lent.points.now l.lent.starts.now l.lent.counts.now ≡ places_fit l.lent.points.now (drop l.m l.lent.starts.now) (drop l.m l.lent.counts.now)
+abbrev pub invariant-loop-start : goal.invariant-loop-start
+invariant-loop-start l =
+    let starts = iter_rest (zip_first l.start-iterator) in
+    let counts = iter_rest (zip_second l.start-iterator) in
+    (length starts ≡ length counts) × (places_fit l.lent.points.now l.lent.starts.now l.lent.counts.now ≡ places_fit l.lent.points.now starts counts)

@@ -9,10 +9,11 @@ use Rattle.sheet_replay.proofs.draw.Goals as goal
 
 pub draw_in-requires : goal.draw_in-requires
 draw_in-requires c =
-    let fits = c.requires.fits in
+    let fits = c.requires.came.fits in
     let h = fits.edges in
-    let slots : slot_numbers * c.args.j.edges.count ≤ all_slot_numbers = omega (arith, h) in record {
-      came = c.requires;
+    let slots : slot_numbers * c.args.j.now.edges.count ≤ all_slot_numbers = omega (arith, h) in record {
+      came = c.requires.came;
+      sizes = c.requires.sizes;
       lent = record {
         counts_long = length-take-le _ _ fits.edges;
         room = laws.room_for _ _ _ _ _ _ fits.members fits.edges refl slots (length-take-le _ _ fits.edges) (omega arith);

@@ -6,51 +6,39 @@ use Rattle.limits.specs.Limits.{max_bundles}
 use Rattle.board.specs.Board.{Board}
 use Rattle.plan.specs.MemberColumns.{edges_of}
 use Rattle.checks.specs.Purse.{told}
-use Rattle.job_tables.specs.Came.{Sizes}
 use Rattle.job_tables.proofs.Ready as tables
-use Rattle.plan.proofs.TableReads as rows
 use Rattle.draw_job.specs.JobTables.{MembersOn, OnSheet}
 use Rattle.draw_job.proofs.Answers as answers
 use Rattle.draw_job.proofs.Ready as ready
 use Rattle.draw_job.proofs.Phases as laws
-use borrow.Author.Rules.{rules}
 use Rattle.sheet_replay.proofs.draw_in.Goals as goal
-use Rattle.sheet_replay.proofs.draw_in.Goals.{Start, In-Ok}
-
-sizes : (s : Start) → Sizes s.args.j
-sizes s = record {
-  nodes = let g = s.well_formed.0.1.1.1.1.1.0 in search (rules, rows.length_mapped, g);
-  ports = let g = s.well_formed.0.1.1.1.1.1.1.0 in search (rules, rows.length_mapped, g);
-  edges = let g = s.well_formed.0.1.1.1.1.1.1.1.0 in search (rules, rows.length_mapped, g);
-  bundles = let g = s.well_formed.0.1.1.1.1.1.1.1.1.0 in search (rules, rows.length_mapped, g);
-  members = let g = s.well_formed.0.1.1.1.1.1.1.1.1.1.0 in search (rules, rows.length_mapped, g);
-}
+use Rattle.sheet_replay.proofs.draw_in.Goals.{In-Ok}
 
 pub board_tables-board-requires : goal.board_tables-board-requires
-board_tables-board-requires c = record { came = (c.args.given.now, c.requires.came); sizes = sizes (goal.at.board_tables-board-requires c).Start }
+board_tables-board-requires c = record { came = (c.args.given.now, c.requires.came); sizes = c.requires.sizes }
 
 pub draw_sheet-d-requires : goal.draw_sheet-d-requires
 draw_sheet-d-requires c =
     let a = c.args in
-    let lent = laws.lent_as a.j _ _ _ _ _ _ refl c.requires.lent in
+    let lent = laws.lent_as a.j.now _ _ _ _ _ _ refl c.requires.lent in
     let from = c.requires.came in
-    let sized = sizes (goal.at.draw_sheet-d-requires c).Start in
+    let sized = c.requires.sizes in
     let t = c.board_tables-board.result in
     let same = c.board_tables-board.ensures a.given.now in
     record {
-      tables = tables.routes_lent a.j a.given.now from sized t same;
-      once = (ready.follow a.j a.given.now from sized t same, ready.once_a_role a.j a.given.now from sized t same);
-      exact = ready.exact a.j a.given.now from sized t same _ _ _ _ _ lent;
-      room = ready.room a.j a.given.now from sized t same _ _ _ _ _ lent;
+      tables = tables.routes_lent a.j.now a.given.now from sized t same;
+      once = (ready.follow a.j.now a.given.now from sized t same, ready.once_a_role a.j.now a.given.now from sized t same);
+      exact = ready.exact a.j.now a.given.now from sized t same _ _ _ _ _ lent;
+      room = ready.room a.j.now a.given.now from sized t same _ _ _ _ _ lent;
     }
 
 -- all that the turns leave
-on_sheet : (c : In-Ok) → OnSheet c.args.j (edges_of c.board_tables-board.result.members.now) c.draw_sheet-d.result.drawn c.draw_sheet-d.new.points c.draw_sheet-d.new.counts c.draw_sheet-d.new.taps
+on_sheet : (c : In-Ok) → OnSheet c.args.j.now (edges_of c.board_tables-board.result.members.now) c.draw_sheet-d.result.drawn c.draw_sheet-d.new.points c.draw_sheet-d.new.counts c.draw_sheet-d.new.taps
 on_sheet c =
     let a = c.args in
     let d = c.draw_sheet-d in
-    let lent = laws.lent_as a.j _ _ _ _ _ _ refl c.requires.lent in
-    laws.on_sheet a.j a.given.now c.requires.came (sizes (goal.at.In-Ok c).Start) c.board_tables-board.result (c.board_tables-board.ensures a.given.now) _ _ _ _ _ lent (told d.result.ended d.new.visits.0) d.result.drawn d.new.taps d.new.points d.new.counts d.auto.taps d.auto.points d.auto.counts _ (laws.ended_clean d.result.ended d.new.visits.0 _ c.in-Ok.is) d.ensures.rows d.ensures.full d.ensures.hold
+    let lent = laws.lent_as a.j.now _ _ _ _ _ _ refl c.requires.lent in
+    laws.on_sheet a.j.now a.given.now c.requires.came c.requires.sizes c.board_tables-board.result (c.board_tables-board.ensures a.given.now) _ _ _ _ _ lent (told d.result.ended d.new.visits.0) d.result.drawn d.new.taps d.new.points d.new.counts d.auto.taps d.auto.points d.auto.counts _ (laws.ended_clean d.result.ended d.new.visits.0 _ c.in-Ok.is) d.ensures.rows d.ensures.full d.ensures.hold
 
 few_drawn : (c : In-Ok) → c.draw_sheet-d.result.drawn.count ≤ max_bundles
 few_drawn c = let on = on_sheet c in omega (arith, on.all_drawn, on.fits.bundles)
@@ -64,16 +52,16 @@ put_pages-requires c =
     let d = c.draw_sheet-d in
     let t = c.board_tables-board.result in
     let same = c.board_tables-board.ensures a.given.now in
-    let sized = sizes (goal.at.put_pages-requires c).Start in
+    let sized = c.requires.sizes in
     let e = (goal.at.put_pages-requires c).In-Ok in
     let on = on_sheet e in
-    let edges = tables.edges_lent a.j a.given.now c.requires.came sized t same in
-    let members = tables.members_lent a.j a.given.now c.requires.came sized t same in
-    let drawn = answers.drawn_long a.j (edges_of t.members.now) d.result.drawn d.new.points d.new.counts d.new.taps on sized in
+    let edges = tables.edges_lent a.j.now a.given.now c.requires.came sized t same in
+    let members = tables.members_lent a.j.now a.given.now c.requires.came sized t same in
+    let drawn = answers.drawn_long a.j.now (edges_of t.members.now) d.result.drawn d.new.points d.new.counts d.new.taps on sized in
     rw c.as_slice.ensures
     (record {
       few = (omega (arith, edges, on.fits.edges), omega (arith, drawn, few_drawn e));
       counted = (omega (arith, on.counted, edges), on.hold, on.slots);
-      windows = (rw members (answers.windows a.j (edges_of t.members.now) d.result.drawn d.new.points d.new.counts d.new.taps on sized), omega (arith, members, on.places));
+      windows = (rw members (answers.windows a.j.now (edges_of t.members.now) d.result.drawn d.new.points d.new.counts d.new.taps on sized), omega (arith, members, on.places));
       members_on = subst (λ (b : Board). MembersOn b.edges b.members) (sym same) on.members_on;
     })

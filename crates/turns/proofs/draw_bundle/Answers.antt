@@ -10,7 +10,7 @@ returns-in_err-rewrite_member_routes-clause-told c b s =
     let a = c.args in
     let f = c.in_err-rewrite_member_routes.ensures in
     let g = c.build_geometry-d in
-    let e = rw c.pitch_of_bundle.ensures at f.told in
+    let e = rw c.pitch_of_bundle.ensures at (f.told g.result.interior a.t.offset c.way_of_bundle.ensures) in
     let p = err_from_is_err_and c.from_residual.result c.from_residual.ensures.1 in
     rw (p.1, p.2, f.refusal)
     (turn_off b a.rules.permits_crossings a.rules.options a.board.nodes.now a.board.edges.now a.t.bundle a.t.end a.t.planned a.t.offset (edges_of a.members.now) (lanes_of a.members.now) g.result _ (routes_of a.points.now a.counts.now) s g.ensures.row (g.ensures.drawn b s.seen) _ _ _ _ a.visits.now e)
@@ -45,7 +45,7 @@ returns-in_err-verify_bundle-clause-told c b s =
     let a = c.args in
     let f = c.in_ok-rewrite_member_routes.ensures in
     let g = c.build_geometry-d in
-    let e = rw c.pitch_of_bundle.ensures at f.told in
+    let e = rw c.pitch_of_bundle.ensures at (f.told g.result.interior a.t.offset c.way_of_bundle.ensures) in
     let p = err_from_is_err_and c.from_residual-in_err-verify_bundle.result c.from_residual-in_err-verify_bundle.ensures.1 in
     rw (p.1, p.2)
     (ends_refused _ _ _ _ _ _
@@ -61,11 +61,11 @@ returns-clause-told c b s =
     let a = c.args in
     let f = c.in_ok-rewrite_member_routes.ensures in
     let g = c.build_geometry-d in
-    let e = rw c.pitch_of_bundle.ensures at f.told in
+    let e = rw c.pitch_of_bundle.ensures at (f.told g.result.interior a.t.offset c.way_of_bundle.ensures) in
     turn_on b a.rules.permits_crossings a.rules.options a.board.nodes.now a.board.edges.now a.t.bundle a.t.end a.t.planned a.t.offset (edges_of a.members.now) (lanes_of a.members.now) g.result _ (routes_of a.points.now a.counts.now) s g.ensures.row (g.ensures.drawn b s.seen) a.taps.now a.priors.now a.visits.now.0 _ _ g.ensures.kept c.requires.1.earlier _ e c.in_ok-verify_bundle.ensures
 
 pub returns-clause-longer : goal.returns-clause-longer
 returns-clause-longer c =
     let f = c.in_ok-rewrite_member_routes.ensures in
-    let e = rw c.pitch_of_bundle.ensures at f.told in
+    let e = rw c.pitch_of_bundle.ensures at (f.told c.build_geometry-d.result.interior c.args.t.offset c.way_of_bundle.ensures) in
     longer_made _ _ _ _ _ _ _ _ _ _ _ e
