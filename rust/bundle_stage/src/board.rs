@@ -129,7 +129,7 @@ pub struct Port {
 }
 
 /// A side of a node: north is the upper one.
-#[derive(Clone, Copy, Debug, Eq, PartialEq)]
+#[derive(Clone, Copy, Debug, Eq, Hash, PartialEq)]
 pub enum Side {
     /// The upper one.
     North,
@@ -142,7 +142,7 @@ pub enum Side {
 }
 
 /// A port by its node's id and its own.
-#[derive(Clone, Copy, Debug, Eq, PartialEq)]
+#[derive(Clone, Copy, Debug, Eq, Hash, PartialEq)]
 pub struct Endpoint {
     /// The id of the node.
     pub node: Id,
@@ -188,7 +188,7 @@ pub struct Bundle {
 }
 
 /// Which way a bundle's wires go.
-#[derive(Clone, Copy, Debug, Eq, PartialEq)]
+#[derive(Clone, Copy, Debug, Eq, Hash, PartialEq)]
 pub enum Role {
     /// Into the sheet: from the bundle's port to the right, fanning out to their targets.
     Input,

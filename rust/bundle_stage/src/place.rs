@@ -150,13 +150,14 @@ pub struct Refused {
     pub places: Vec<Place>,
 }
 
+/// Where the refusal has its cause. What was said of it is the error's source, which whoever prints an error
+/// with its sources prints behind it.
 impl fmt::Display for Refused {
     fn fmt(&self, to: &mut fmt::Formatter<'_>) -> fmt::Result {
-        write!(to, "{}", self.refusal)?;
         let places = self.places.iter().map(Place::to_string);
         match places.collect::<Vec<_>>().join("; ") {
-            said if said.is_empty() => Ok(()),
-            said => write!(to, " Here: {said}."),
+            said if said.is_empty() => write!(to, "no sheet"),
+            said => write!(to, "no sheet: {said}"),
         }
     }
 }

@@ -109,7 +109,7 @@ fn attempts_at_a_later_bundle() {
     assert_eq!(refused.refusal, Refusal::ForbiddenContact);
     assert_eq!(
         refused.places[0].to_string(),
-        "the collector of bundle 1 would cross the route of edge 4, at (180, 55)"
+        "the collector of bundle 1 would cross the route of edge 4, at (180, 55), and the board forbids crossings"
     );
     let attempt = board.attempt().expect("refused by the drawing");
     let named = refused.places[0].items().find_map(|item| match item {

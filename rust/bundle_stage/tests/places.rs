@@ -162,6 +162,25 @@ fn ids() {
     );
 }
 
+/// An edge is told once, however often bundles of one role list it.
+#[test]
+fn members_twice() {
+    assert_eq!(
+        said(|board| board.bundles[0].members.push(member(1, 2))),
+        one(8, "edge 1 is a member of bundle 1 twice")
+    );
+    let said = said(|board| {
+        let mut again = board.bundles[0].clone();
+        again.id = Id::from(2);
+        again.members = vec![member(1, 0); 3];
+        board.bundles[0].members.push(member(1, 2));
+        board.bundles.push(again);
+    });
+    let words =
+        "edge 1 is a member of bundle 1 twice and of bundle 2 (3 times), which have the same role";
+    assert_eq!(said, one(8, words));
+}
+
 #[test]
 fn drawings() {
     assert_eq!(
@@ -185,7 +204,7 @@ fn drawings() {
             }),
             one(
                 11,
-                "the spine of bundle 1 would cross the route of edge 3, at (100, 50)"
+                "the spine of bundle 1 would cross the route of edge 3, at (100, 50), and the board forbids crossings"
             )
         );
         assert_eq!(
@@ -220,12 +239,18 @@ fn how_they_meet() {
         wire(board, 4, &[(183.0, 44.0), (183.0, 48.0)]);
     };
     let words = "the collector of bundle 1 would come too close to the route of edge 4, from \
-                 (180, 44) to (183, 48)";
+                 (180, 44) to (183, 48), and minimum_parallel_wire_spacing is 5";
     assert_eq!(said(near), one(11, words));
-    let along = |board: &mut Board| wire(board, 4, &[(180.0, 45.0), (180.0, 52.0)]);
-    let words =
-        "the collector of bundle 1 would lie on the route of edge 4, from (180, 45) to (180, 52)";
-    assert_eq!(said(along), one(11, words));
+    // Nothing is said of crossings, whether they are permitted or not.
+    for permitted in [false, true] {
+        let along = |board: &mut Board| {
+            board.flags.permit_crossings = permitted;
+            wire(board, 4, &[(180.0, 45.0), (180.0, 52.0)]);
+        };
+        let words = "the collector of bundle 1 would lie on the route of edge 4, from (180, 45) to \
+                     (180, 52)";
+        assert_eq!(said(along), one(11, words));
+    }
     // Behind the collector, so that no search looks at it.
     let slanted = |board: &mut Board| {
         let points = &mut board.edges[1].points;

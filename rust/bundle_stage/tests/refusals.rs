@@ -2,6 +2,7 @@
 
 #![forbid(unsafe_code)]
 
+use std::collections::HashSet;
 use std::error::Error;
 
 use bundle_stage::*;
@@ -197,4 +198,51 @@ fn refusals_have_their_numbers_and_words() {
     }
     assert_eq!(Refusal::of_number(0), None);
     assert_eq!(Refusal::of_number(20), None);
+    let words = Refusal::ALL.iter().flat_map(|of| [of.fault(), of.advice()]);
+    assert_eq!(words.collect::<HashSet<_>>().len(), 2 * Refusal::ALL.len());
+}
+
+/// The advice is no mistake whatever the board says: crossings may be permitted already.
+#[test]
+fn advice_about_crossings() {
+    let advice = Refusal::ForbiddenContact.advice();
+    let (_, behind) = advice
+        .split_once("the board forbids crossings, ")
+        .expect("a condition");
+    assert_eq!(behind, "permit them.");
+    assert_eq!(advice.matches("permit").count(), 1, "{advice}");
+}
+
+/// An error and its sources, printed one behind the other as is usual, say nothing twice.
+#[test]
+fn a_refusal_with_its_place_and_its_source() {
+    let mut board = board();
+    board.bundles[0].endpoint.port = Id::from(9);
+    let refused = board.draw_detailed().expect_err("refused");
+    let said = refused.to_string();
+    assert_eq!(
+        said,
+        "no sheet: bundle 1 names port 1:9, and node 1 has no such port"
+    );
+    let source = refused.source().expect("a source").to_string();
+    assert_eq!(source, Refusal::UnknownId.to_string());
+    assert!(!said.contains(&source));
+    // Where nothing is known of the place it is a sentence too.
+    let planned = Plan {
+        tap_visits_left: 0,
+        places: vec![None; 70_000],
+    };
+    let refused = board.draw_from_detailed(&planned).expect_err("refused");
+    assert!(refused.to_string().starts_with("no sheet"), "{refused}");
+}
+
+/// What names a record or says a kind can be a key.
+#[test]
+fn keys() {
+    let ends = [end(1, 1), end(1, 2), end(1, 1)];
+    assert_eq!(ends.into_iter().collect::<HashSet<_>>().len(), 2);
+    let sides = [Side::North, Side::East, Side::North];
+    assert_eq!(sides.into_iter().collect::<HashSet<_>>().len(), 2);
+    let roles = [Role::Input, Role::Output, Role::Input];
+    assert_eq!(roles.into_iter().collect::<HashSet<_>>().len(), 2);
 }

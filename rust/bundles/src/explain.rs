@@ -9,14 +9,25 @@ use crate::joints::Joints;
 use crate::lines::Lines;
 use crate::loose::{End, Loose, on_sheet};
 use crate::names::Names;
+use crate::signs::{is_isolate, isolated};
 use crate::text::number;
 
 /// A table of the bundles, the visits and the joints, or the refusal. A job's board adds what only
 /// the job says: what was granted, a role that no spine shows, and whether joints are false.
 pub fn explain(answer: &Answer, board: Option<&Board>, names: &Names) -> String {
+    explain_from(answer, board, None, names)
+}
+
+/// The same of an answer that was drawn from a plan, if one is given, by the plan's bytes.
+pub fn explain_from(
+    answer: &Answer,
+    board: Option<&Board>,
+    plan: Option<&[u8]>,
+    names: &Names,
+) -> String {
     match answer {
         Answer::Refused(refusal) => format!("{refusal}\n"),
-        Answer::Drawn(sheet) => drawn(sheet, board, names),
+        Answer::Drawn(sheet) => drawn(sheet, board, plan, names),
     }
 }
 
@@ -29,7 +40,7 @@ pub fn explain_crossings(list: &[Crossing], names: &Names) -> String {
     if list.is_empty() {
         return text;
     }
-    let named = |id: Id, name: Option<&str>| match name {
+    let named = |id: Id, name: Option<&str>| match name.map(isolated) {
         Some(name) => format!("{id} {name}"),
         None => id.to_string(),
     };
@@ -109,13 +120,13 @@ fn planned_row(drawing: &Drawing<'_>, place: usize, planned: String) -> [String;
         Role::Input => "input",
         Role::Output => "output",
     };
-    let name = drawing.names.bundle(bundle.id).unwrap_or_default();
+    let name = drawing.names.bundle(bundle.id).map(isolated);
     [
         bundle.id.to_string(),
         from(role),
         planned,
         from(drawn),
-        from(name),
+        name.unwrap_or_default(),
     ]
 }
 
@@ -165,7 +176,8 @@ fn port(at: Endpoint) -> String {
 fn ways(board: &Board, names: &Names, loose: &[Loose]) -> String {
     let mut text = String::from("\n");
     for bundle in &board.bundles {
-        let name = names.bundle(bundle.id).map(|name| format!(" {name}"));
+        let name = names.bundle(bundle.id).map(isolated);
+        let name = name.map(|name| format!(" {name}"));
         let way = way(board, bundle, loose);
         text.push_str(&format!(
             "B{}{}: {way}\n",
@@ -174,12 +186,12 @@ fn ways(board: &Board, names: &Names, loose: &[Loose]) -> String {
         ));
     }
     for node in &board.nodes {
-        if let Some(name) = names.node(node.id) {
+        if let Some(name) = names.node(node.id).map(isolated) {
             text.push_str(&format!("node {}: {name}\n", node.id));
         }
         let ports = board.ports.iter().filter(|port| port.node == node.id);
         for port in ports {
-            if let Some(name) = names.port(port.node, port.id) {
+            if let Some(name) = names.port(port.node, port.id).map(isolated) {
                 text.push_str(&format!("  {}:{}: {name}\n", port.node, port.id));
             }
         }
@@ -198,7 +210,7 @@ fn spent(board: &Board) -> String {
     }
 }
 
-fn drawn(sheet: &Sheet, board: Option<&Board>, names: &Names) -> String {
+fn drawn(sheet: &Sheet, board: Option<&Board>, plan: Option<&[u8]>, names: &Names) -> String {
     let mut text = format!(
         "a sheet of {} by {}: {}, {}, {}\n",
         number(sheet.width),
@@ -223,15 +235,18 @@ fn drawn(sheet: &Sheet, board: Option<&Board>, names: &Names) -> String {
         left.tap,
         granted.map(|grant| grant.tap),
     ));
-    text.push_str(&board.map(spent).unwrap_or_default());
+    // From a plan nothing is searched.
+    let searched = board.filter(|_| plan.is_none());
+    text.push_str(&searched.map(spent).unwrap_or_default());
     text.push_str(&visits(
         "geometry visits",
         left.geometry,
         granted.map(|grant| grant.geometry),
     ));
-    text.push_str(&match board {
-        Some(board) => Joints::of(board, sheet).explained(),
-        None => "joints: not looked at, as that takes the job\n".to_string(),
+    text.push_str(&match (board, plan) {
+        (Some(board), Some(plan)) => Joints::of_plan(board, sheet, plan).explained(),
+        (Some(board), None) => Joints::of(board, sheet).explained(),
+        (None, _) => "joints: not looked at, as that takes the job\n".to_string(),
     });
     text
 }
@@ -268,25 +283,34 @@ fn row(bundle: &DrawnBundle, board: Option<&Board>) -> [String; 6] {
 /// Columns as wide as their longest word, two spaces between them.
 fn table<const COLUMNS: usize>(rows: &[[String; COLUMNS]]) -> String {
     let width = |column: usize| {
-        let lengths = rows.iter().map(|row| row[column].chars().count());
+        let lengths = rows.iter().map(|row| columns(&row[column]));
         lengths.max().unwrap_or(0)
     };
     let widths: [usize; COLUMNS] = std::array::from_fn(width);
     let line = |row: &[String; COLUMNS]| {
         let words = row.iter().zip(widths);
-        let padded = words.map(|(word, width)| format!("{word:width$}"));
+        let padded = words.map(|(word, width)| {
+            let gap = width - columns(word);
+            format!("{word}{:gap$}", "")
+        });
         let line = padded.collect::<Vec<_>>().join("  ");
         format!("{}\n", line.trim_end())
     };
     rows.iter().map(line).collect()
 }
 
+/// How many columns a word takes: the signs around a name take none.
+fn columns(word: &str) -> usize {
+    word.chars().filter(|sign| !is_isolate(*sign)).count()
+}
+
 fn visits(what: &str, left: u32, granted: Option<u32>) -> String {
     match granted {
-        Some(granted) => format!(
-            "{what}: {granted} granted, {} paid, {left} left\n",
-            i64::from(granted) - i64::from(left)
-        ),
+        Some(granted) => match granted.checked_sub(left) {
+            Some(paid) => format!("{what}: {granted} granted, {paid} paid, {left} left\n"),
+            // Of a plan that is refused for it.
+            None => format!("{what}: {left} left, more than the {granted} that are granted\n"),
+        },
         None => format!("{what}: {left} left\n"),
     }
 }

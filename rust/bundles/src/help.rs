@@ -82,7 +82,7 @@ code is 2 where one could not be read, else 1 where any was refused.",
     },
     Command {
         name: "explain",
-        words: "[ANSWER [JOB] | --plan PLAN [JOB]] [--names FILE]",
+        words: "[ANSWER [JOB [--plan PLAN]] | --plan PLAN [JOB]] [--names FILE]",
         short: "an answer in words: a table of its bundles, or why the job was refused; or a plan",
         long: "\
 The table has a line for each bundle: its id, its role, whether it stands inside the sheet
@@ -102,10 +102,14 @@ Each is named: bundle, route or node, and place.
 Of the last shift it is said, across and down, that it subtracted nothing; or that it was exact, as
 all numbers of the job are multiples of 1/64 up to 2^20; or that it rounded; or, where an answer does
 not tell, that it may have rounded. Where nothing was subtracted there is no false joint, which is
-proved; where it was exact none was found on any board tried. All this is about the stage's own answer, so the job is drawn again to compare.
+proved; where it was exact none was found on any board tried.
+
+The ANSWER has to be that of the JOB, drawn from the PLAN if one is given behind the two: the job is drawn again
+to compare. Of another answer it is said in what the two differ, and nothing else; the exit code is 2.
 
 The last lines say of the ends of routes whether all are at their ports, or which are not, and where they and
-their ports are; what roundings may put between the two, up to 2^-18, does not count. An end in a bundle is
+their ports are, in the job's own coordinates; what roundings may put between the two, up to 2^-18, does not
+count. An end in a bundle is
 where the bundle's port is.
 
 With a PLAN in the answer's place the table has a line for each bundle: the x that is planned for it, or
@@ -118,7 +122,9 @@ accepted, or why it is refused and where.",
         words: "JOB ANSWER [--title TITLE] [--names FILE] [--plan PLAN]",
         short: "a job and its answer, to a picture on standard output",
         long: "\
-The picture is an SVG file: open it with a browser, print it from there. The page is A4 where on it the
+The picture is an SVG file: open it with a browser, print it from there; it is printed at its own size, on paper
+of that size. The ANSWER has to be that of the JOB, drawn from the PLAN if one is given: of another it is said
+in what the two differ, there is no picture, and the exit code is 2. The page is A4 where on it the
 white between two lines that do not join is at least 0.2 mm, each joint has its dot, each bundle its id, and
 a line keeps enough between two that go over it: a bundle twice its width or more, and room for its whole
 mark; else the first larger paper up to A0 where this is so. Where it is so on none of these, the sheet is
@@ -135,8 +141,7 @@ one that has no room to rise is a gap. Where a bundle and a route do so, that is
 crossings`: each crossing of it is shown by an arch or a gap, counted for each bundle and route. Of a sheet
 that is drawn from a PLAN it is the list of that sheet. A list has at most 1,024 crossings: of a sheet with
 more the board is drawn in parts, from its plan, all bundles in each, and the picture is drawn from the lists
-of these. Where not even a part has a list, or the stage gives the sheet neither of itself nor from the PLAN,
-the tool itself finds where they cross. The picture says which it is. Routes that lie over each other, or very
+of these. Where not even a part has a list the tool itself finds where they cross. The picture says which it is. Routes that lie over each other, or very
 near, are drawn side by side: where taps are at one place, one that leaves along the collector leaves from the
 last of them, and routes that turn straight back at one place turn one after the other. Arches side by side
 over a bundle rise to one side; a route in two bundles changes its colour half way. No line comes
@@ -174,19 +179,21 @@ end is there shown with a ring, and named below the title.",
         long: "\
 The page is one file that needs nothing else: open it with a browser. It has the picture of
 `bundles svg`. Point at a bundle, a route, a node or a port, and its way from unit to port is lifted,
-the rest is dimmed, and the way is told in words; a click or a tap of the finger keeps it so. The
-search takes names and ids, as `5:11`, `edge 41` or `B4 time code`. Wheel, two fingers, `+` and `-` zoom;
-dragging and the arrows move; `0` shows the whole sheet, Tab goes from one thing to the next, Enter or Space
-chooses, Escape shows all again, `/` goes to the search. What search, Tab or address choose is brought into
+the rest is dimmed, and the way is told in words; a click or a tap of the finger keeps it so. Of another
+bundle on the way, as in a chain, only the stretch between its port and the taps on the way is lifted, where
+wires leave it elsewhere too; that is told. The search takes names and ids, as `5:11`, `edge 41` or `B4 time code`. Wheel, two fingers, `+` and `-` zoom;
+dragging and the arrows move; `0` shows the whole sheet, Tab goes from one thing to the next, the bundles first
+in the order of the legend, Enter or Space chooses, Escape shows all again, `/` goes to the search. What search, Tab or address choose is brought into
 view. Behind `#` in the address can stand what is chosen: sheet.html#bundle-4, #edge-41, #port-5-11, #node-5.
-Printed it is the picture. Where no picture would be clear, the page has the words that say so, and the exit
+Printed it is the picture, on paper of its size. Where no picture would be clear, the page has the words that say so, and the exit
 code is 2, as with `bundles svg`.
 
 Where an end of a route is not at its port, the way has a cross between the two instead of an arrow, and above
 it stands why.
 
 With a PLAN the page is that of the sheet drawn from it. For a refusal it has the board as it was given: its
-bundles have the ways of their members, and the refused one what was tried of it. Of two records with one id
+bundles have the ways of their members, and the refused one what was tried of it. An end of a member in its
+bundle is not told as loose there either. Of two records with one id
 each is chosen and told apart from the other; the second has a number behind it in the address, as #edge-41-2.
 An end that names them is of the one at which the route ends, or of both where it ends at none.",
     },

@@ -10,7 +10,7 @@ use std::fmt::Write;
 use bundle_stage::{Board, Refusal, Sheet};
 
 use crate::names::Names;
-use crate::svg::{Unclear, escaped, svg, svg_from, svg_refused, svg_refused_from};
+use crate::svg::{Planned, Unclear, escaped, svg, svg_from, svg_refused, svg_refused_from};
 pub use ways::{Way, ways};
 
 const STYLE: &str = include_str!("html/page.css");
@@ -26,20 +26,15 @@ pub fn html(board: &Board, sheet: &Sheet, names: &Names, title: &str) -> Result<
     Ok(page(&picture, &ways(board, Some(sheet), names), title))
 }
 
-/// The same of a sheet that was drawn from a plan, by the plan's bytes.
+/// The same of a sheet that was drawn from a plan.
 ///
 /// # Errors
 ///
 /// Where no picture would be clear.
-pub fn html_from(
-    board: &Board,
-    sheet: &Sheet,
-    plan: &[u8],
-    names: &Names,
-    title: &str,
-) -> Result<String, Unclear> {
-    let picture = svg_from(board, sheet, plan, names, title)?;
-    Ok(page(&picture, &ways(board, Some(sheet), names), title))
+pub fn html_from(planned: &Planned<'_>, sheet: &Sheet) -> Result<String, Unclear> {
+    let picture = svg_from(planned, sheet)?;
+    let ways = ways(planned.board, Some(sheet), planned.names);
+    Ok(page(&picture, &ways, planned.title))
 }
 
 /// The page of a finished sheet of which no picture would be clear: the words that say so.
@@ -55,16 +50,11 @@ pub fn html_refused(board: &Board, refusal: Refusal, names: &Names, title: &str)
     page(&picture, &ways_refused(board, names, &picture), title)
 }
 
-/// The same of a board that was refused where it was drawn from a plan, by the plan's bytes.
-pub fn html_refused_from(
-    board: &Board,
-    refusal: Refusal,
-    plan: &[u8],
-    names: &Names,
-    title: &str,
-) -> String {
-    let picture = svg_refused_from(board, refusal, plan, names, title);
-    page(&picture, &ways_refused(board, names, &picture), title)
+/// The same of a board that was refused where it was drawn from a plan.
+pub fn html_refused_from(planned: &Planned<'_>, refusal: Refusal) -> String {
+    let picture = svg_refused_from(planned, refusal);
+    let ways = ways_refused(planned.board, planned.names, &picture);
+    page(&picture, &ways, planned.title)
 }
 
 /// What could not be drawn has no way on the page; a bundle has that of its members.
@@ -92,12 +82,12 @@ fn page(picture: &str, ways: &[Way], title: &str) -> String {
 }
 
 const BAR: &str = "<header>\n<form id=\"search\" role=\"search\">\n\
-<label for=\"find\">Find</label> <input id=\"find\" type=\"search\" autocomplete=\"off\" \
+<label for=\"find\">Find</label> <input id=\"find\" type=\"search\" autocomplete=\"off\" tabindex=\"1\" \
 placeholder=\"name or id: bundle 3, node 5, 5:11\">\n\
-<button type=\"button\" id=\"larger\" aria-label=\"larger\">+</button>\n\
-<button type=\"button\" id=\"smaller\" aria-label=\"smaller\">\u{2212}</button>\n\
-<button type=\"button\" id=\"whole\">whole sheet</button>\n\
-<button type=\"button\" id=\"none\">show all</button>\n</form>\n\
+<button type=\"button\" id=\"larger\" tabindex=\"1\" aria-label=\"larger\">+</button>\n\
+<button type=\"button\" id=\"smaller\" tabindex=\"1\" aria-label=\"smaller\">\u{2212}</button>\n\
+<button type=\"button\" id=\"whole\" tabindex=\"1\">whole sheet</button>\n\
+<button type=\"button\" id=\"none\" tabindex=\"1\">show all</button>\n</form>\n\
 <div id=\"found\"></div>\n<div id=\"told\" role=\"status\" aria-live=\"polite\"></div>\n</header>\n";
 
 /// The ways as a list for the script.
@@ -110,13 +100,15 @@ fn data(ways: &[Way]) -> String {
         };
         let _ = writeln!(
             text,
-            "{{key:{},name:{},{},{},{},{}}},",
+            "{{key:{},name:{},{},{},{},{},{},{}}},",
             quoted(&way.key),
             quoted(&way.name),
             list("terms", &way.terms),
             list("words", &way.words),
             list("notes", &way.notes),
-            list("lifted", &way.lifted)
+            list("lifted", &way.lifted),
+            list("stretches", &way.stretches),
+            list("parts", &way.parts)
         );
     }
     text + "]"

@@ -11,6 +11,7 @@ mod listed;
 pub mod loose;
 pub mod names;
 mod places;
+mod signs;
 pub mod svg;
 pub mod text;
 mod tokens;

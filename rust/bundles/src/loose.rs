@@ -7,6 +7,7 @@ use bundle_stage::{Board, Endpoint, Id, Item, Node, Point, Role, Sheet};
 
 use crate::lines::Lines;
 use crate::names::Names;
+use crate::signs::isolated;
 use crate::text::number;
 
 /// An end of an edge that the sheet does not lead to the edge's port.
@@ -21,7 +22,7 @@ pub struct Loose {
     pub why: Why,
 }
 
-#[derive(Clone, Copy, Debug, Eq, PartialEq)]
+#[derive(Clone, Copy, Debug, Eq, Hash, PartialEq)]
 pub enum End {
     Source,
     Target,
@@ -45,21 +46,26 @@ pub enum Why {
 /// a sum.
 const NEAR: f64 = 1.0 / 262_144.0;
 
-/// The loose ends of a board that is drawn: an end that is in a bundle is where the bundle's port is.
+/// The loose ends of a board, whether it is drawn or refused: an end that is in a bundle is where the
+/// bundle's port is, wherever its route begins.
 pub fn on_board(board: &Board) -> Vec<Loose> {
     let routes = board.edges.iter().map(|edge| &edge.points[..]);
-    let members = Members::of(board);
-    Look::new(board, &board.nodes).ends(routes, &members)
+    Look::new(board, &board.nodes).ends(routes, &Members::of(board))
 }
 
-/// The same of the board as it was given, without its bundles.
-pub fn as_given(board: &Board) -> Vec<Loose> {
-    let routes = board.edges.iter().map(|edge| &edge.points[..]);
-    Look::new(board, &board.nodes).ends(routes, &Members::default())
-}
-
-/// The same of a finished sheet, in its own numbers.
+/// The same of a finished sheet. The last shift may have moved it: places are told as the board has them,
+/// but for an end that is loose on a sheet that is not the board's own.
 pub fn on_sheet(board: &Board, sheet: &Sheet) -> Vec<Loose> {
+    let given = on_board(board).into_iter();
+    let given = given.map(|one| ((one.place, one.end), one));
+    let given = given.collect::<HashMap<_, _>>();
+    let found = shown(board, sheet).into_iter();
+    let told = found.map(|one| given.get(&(one.place, one.end)).cloned().unwrap_or(one));
+    told.collect()
+}
+
+/// In the sheet's own numbers.
+fn shown(board: &Board, sheet: &Sheet) -> Vec<Loose> {
     let placed = board.nodes.iter().filter_map(|node| {
         let at = sheet.node(node.id)?;
         Some(Node {
@@ -284,7 +290,7 @@ fn counted(count: usize) -> String {
 
 fn port_words(at: Endpoint, names: &Names) -> String {
     let Endpoint { node, port: id } = at;
-    let name = names.port(node, id);
+    let name = names.port(node, id).map(isolated);
     let name = name.map(|name| format!(" ({name})")).unwrap_or_default();
     format!("port {node}:{id}{name}")
 }

@@ -6,6 +6,7 @@ mod draw;
 mod files;
 mod help;
 mod lists;
+mod own;
 mod plans;
 mod show;
 mod usage;

@@ -5,6 +5,7 @@ use std::collections::BTreeMap;
 
 use bundle_stage::{Board, Id, Item};
 
+use crate::signs::{cleaned, isolated};
 use crate::text::{Named, Wrong, named};
 use crate::tokens::quote;
 
@@ -37,31 +38,36 @@ impl Names {
     }
 
     pub fn set_node(&mut self, id: Id, name: &str) {
-        self.nodes.insert(id, name.to_string());
+        self.nodes.insert(id, cleaned(name));
     }
 
     pub fn set_port(&mut self, node: Id, id: Id, name: &str) {
-        self.ports.insert((node, id), name.to_string());
+        self.ports.insert((node, id), cleaned(name));
     }
 
     pub fn set_edge(&mut self, id: Id, name: &str) {
-        self.edges.insert(id, name.to_string());
+        self.edges.insert(id, cleaned(name));
     }
 
     pub fn set_bundle(&mut self, id: Id, name: &str) {
-        self.bundles.insert(id, name.to_string());
+        self.bundles.insert(id, cleaned(name));
     }
 
     pub fn is_empty(&self) -> bool {
         *self == Names::default()
     }
 
-    /// A record by id, and by name where it has one.
+    /// A record by id, and by name where it has one, to stand in a sentence.
     pub fn item(&self, item: Item) -> String {
-        match self.of(item) {
+        match self.said(item) {
             Some(name) => format!("{item} ({name})"),
             None => item.to_string(),
         }
+    }
+
+    /// A record's name as it stands in a sentence: one that is read from right to left turns nothing round.
+    pub fn said(&self, item: Item) -> Option<String> {
+        self.of(item).map(isolated)
     }
 
     /// A record's name: of records that have one id each has its own.

@@ -3,34 +3,36 @@
 use std::path::Path;
 
 use bundle_stage::{Answer, Board, Sheet};
-use bundles::explain::explain;
+use bundles::explain::{explain, explain_from};
 use bundles::html::{html, html_from, html_refused, html_refused_from, html_unclear};
 use bundles::loose;
 use bundles::names::Names;
-use bundles::svg::{svg, svg_from, svg_refused, svg_refused_from};
+use bundles::svg::{Planned, svg, svg_from, svg_refused, svg_refused_from};
 
 use crate::Done;
 use crate::draw::{done, drawn_from, located, tell, tell_loose};
-use crate::files::{Loaded, answer, called, load, of, out};
+use crate::files::{Loaded, answer, load, of, out};
+use crate::own;
 use crate::plans::plan_of;
 use crate::usage::Settings;
 
 pub fn explained(name: &str, job: Option<&str>, settings: Settings<'_>) -> Result<Done, String> {
-    let answer = answer(name)?;
     let Some(job) = job else {
+        let answer = answer(name)?;
         out(explain(&answer, None, &Names::default()).as_bytes())?;
         return Ok(done(&answer));
     };
-    let loaded = load(job, settings.names)?;
+    let (loaded, answer, plan) = held(job, name, settings)?;
+    let plan = plan.as_deref();
     let board = match &answer {
-        Answer::Drawn(sheet) => Some(board_of(&loaded, name, sheet)?),
+        Answer::Drawn(_) => Some(loaded.board()?),
         Answer::Refused(_) => None,
     };
-    let mut words = explain(&answer, board.as_ref(), &loaded.names);
+    let mut words = explain_from(&answer, board.as_ref(), plan, &loaded.names);
     if let (Answer::Drawn(sheet), Some(board)) = (&answer, &board) {
         words.push_str(&ends(board, sheet, &loaded));
     }
-    words.push_str(&located(&answer, &loaded, None));
+    words.push_str(&located(&answer, &loaded, plan));
     out(words.as_bytes())?;
     Ok(done(&answer))
 }
@@ -45,14 +47,25 @@ fn ends(board: &Board, sheet: &Sheet, loaded: &Loaded) -> String {
     }
 }
 
-pub fn picture_of(job: &str, name: &str, settings: Settings<'_>) -> Result<Done, String> {
+/// A job, its answer, and the plan that it was drawn from, if one is given.
+fn held(
+    job: &str,
+    name: &str,
+    settings: Settings<'_>,
+) -> Result<(Loaded, Answer, Option<Vec<u8>>), String> {
     if settings.plan == Some("-") && name == "-" {
         return Err("a plan and an answer cannot both come from standard input".to_string());
     }
     let plan = plan_of(settings, job)?;
     let answer = answer(name)?;
     let loaded = load(job, settings.names)?;
-    shown(&loaded, (name, &answer), plan.as_deref(), settings)
+    own::check(&loaded, (name, &answer), plan.as_deref())?;
+    Ok((loaded, answer, plan))
+}
+
+pub fn picture_of(job: &str, name: &str, settings: Settings<'_>) -> Result<Done, String> {
+    let (loaded, answer, plan) = held(job, name, settings)?;
+    shown(&loaded, &answer, plan.as_deref(), settings)
 }
 
 /// Packs where that is needed, draws, and shows.
@@ -62,12 +75,12 @@ pub fn picture(name: &str, settings: Settings<'_>) -> Result<Done, String> {
     let (_, answer) = drawn_from(&loaded, plan.as_deref())?;
     tell(&answer, &loaded, plan.as_deref());
     tell_loose(&answer, &loaded);
-    shown(&loaded, (name, &answer), plan.as_deref(), settings)
+    shown(&loaded, &answer, plan.as_deref(), settings)
 }
 
 fn shown(
     loaded: &Loaded,
-    (name, answer): (&str, &Answer),
+    answer: &Answer,
     plan: Option<&[u8]>,
     settings: Settings<'_>,
 ) -> Result<Done, String> {
@@ -75,10 +88,10 @@ fn shown(
     let title = settings.title.unwrap_or(&by_file);
     let text = match answer {
         Answer::Drawn(sheet) => {
-            let board = board_of(loaded, name, sheet)?;
+            let board = loaded.board()?;
             let names = &loaded.names;
             let picture = match plan {
-                Some(plan) => svg_from(&board, sheet, plan, names, title),
+                Some(plan) => svg_from(&planned(&board, plan, (names, title)), sheet),
                 None => svg(&board, sheet, names, title),
             };
             picture.map_err(of(&loaded.name))?
@@ -88,7 +101,7 @@ fn shown(
             let board = loaded.board().unwrap_or_default();
             let names = &loaded.names;
             match plan {
-                Some(plan) => svg_refused_from(&board, *refusal, plan, names, title),
+                Some(plan) => svg_refused_from(&planned(&board, plan, (names, title)), *refusal),
                 None => svg_refused(&board, *refusal, names, title),
             }
         }
@@ -112,7 +125,7 @@ pub fn followed(name: &str, settings: Settings<'_>) -> Result<Done, String> {
         (Answer::Drawn(sheet), plan) => {
             let board = loaded.board()?;
             let page = match plan {
-                Some(plan) => html_from(&board, sheet, plan, names, title),
+                Some(plan) => html_from(&planned(&board, plan, (names, title)), sheet),
                 None => html(&board, sheet, names, title),
             };
             if let Err(unclear) = &page {
@@ -123,7 +136,7 @@ pub fn followed(name: &str, settings: Settings<'_>) -> Result<Done, String> {
         // The refusal may be that the bytes are no job; then there is no board to show.
         (Answer::Refused(refusal), Some(plan)) => {
             let board = loaded.board().unwrap_or_default();
-            html_refused_from(&board, *refusal, plan, names, title)
+            html_refused_from(&planned(&board, plan, (names, title)), *refusal)
         }
         (Answer::Refused(refusal), None) => {
             let board = loaded.board().unwrap_or_default();
@@ -134,6 +147,19 @@ pub fn followed(name: &str, settings: Settings<'_>) -> Result<Done, String> {
     Ok(done(&answer))
 }
 
+fn planned<'a>(
+    board: &'a Board,
+    plan: &'a [u8],
+    (names, title): (&'a Names, &'a str),
+) -> Planned<'a> {
+    Planned {
+        board,
+        plan,
+        names,
+        title,
+    }
+}
+
 /// A picture's title where none is given: the job's name without folder and end.
 fn title(job: &str) -> String {
     let stem = Path::new(job).file_stem();
@@ -141,23 +167,4 @@ fn title(job: &str) -> String {
         Some(stem) if job != "-" => stem.to_string(),
         _ => "sheet".to_string(),
     }
-}
-
-/// The board of a job, if the sheet may be its own: the same ids in the same order.
-fn board_of(loaded: &Loaded, name: &str, sheet: &Sheet) -> Result<Board, String> {
-    let board = loaded.board()?;
-    let nodes = board.nodes.iter().map(|row| row.id);
-    let edges = board.edges.iter().map(|row| row.id);
-    let bundles = board.bundles.iter().map(|row| row.id);
-    let same = nodes.eq(sheet.nodes.iter().map(|row| row.id))
-        && edges.eq(sheet.routes.iter().map(|row| row.id))
-        && bundles.eq(sheet.bundles.iter().map(|row| row.id));
-    if !same {
-        return Err(format!(
-            "{} is not the answer to {}: other nodes, routes or bundles",
-            called(name),
-            called(&loaded.name)
-        ));
-    }
-    Ok(board)
 }

@@ -5,9 +5,11 @@
 //! sheet's lengths. A joint is a dot; where lines cross without one, the one goes
 //! over the other in an arch. Routes that lie over each other are drawn side by side.
 
+mod bodies;
 mod crossings;
 mod drawn;
 mod field;
+mod head;
 mod labels;
 mod lanes;
 mod legend;
@@ -34,8 +36,10 @@ mod white;
 mod wishes;
 mod xml;
 
+use std::cell::OnceCell;
 use std::collections::BTreeSet;
-use std::{fmt, iter};
+use std::fmt;
+use std::ops::Range;
 
 use bundle_stage::{Board, Point, Sheet};
 
@@ -48,8 +52,9 @@ pub(crate) use xml::escaped;
 
 use drawn::strokes;
 use field::field;
+use head::Head;
 use labels::{Labels, labels};
-use legend::{Head, Legend};
+use legend::Legend;
 use loose::Crosses;
 use page::{A0, LARGEST, MARGIN, PAPERS, Page};
 use palette::BLACK;
@@ -88,6 +93,15 @@ impl fmt::Display for Unclear {
 
 impl std::error::Error for Unclear {}
 
+/// A board that was drawn from a plan, by the plan's bytes, and what its picture has beside it.
+#[derive(Clone, Copy, Debug)]
+pub struct Planned<'a> {
+    pub board: &'a Board,
+    pub plan: &'a [u8],
+    pub names: &'a Names,
+    pub title: &'a str,
+}
+
 /// The finished sheet. `board` is the one that it is the answer to. Where it is the
 /// stage's own and has a list of crossings, an arch or a gap of a bundle and a route is a crossing of the
 /// list, and each crossing of the list is shown by an arch or a gap, counted for each bundle and route.
@@ -99,21 +113,15 @@ pub fn svg(board: &Board, sheet: &Sheet, names: &Names, title: &str) -> Result<S
     sheet_of(board, sheet, &Joints::of(board, sheet), names, title)
 }
 
-/// The same of a sheet that was drawn from a plan, by the plan's bytes: the list of crossings is then that
-/// of the plan's sheet.
+/// The same of a sheet that was drawn from a plan: the list of crossings is then that of the plan's sheet.
 ///
 /// # Errors
 ///
 /// Where on no paper all that does not join can be drawn apart.
-pub fn svg_from(
-    board: &Board,
-    sheet: &Sheet,
-    plan: &[u8],
-    names: &Names,
-    title: &str,
-) -> Result<String, Unclear> {
-    let joints = Joints::of_plan(board, sheet, plan);
-    sheet_of(board, sheet, &joints, names, title)
+pub fn svg_from(planned: &Planned<'_>, sheet: &Sheet) -> Result<String, Unclear> {
+    let Planned { board, names, .. } = planned;
+    let joints = Joints::of_plan(board, sheet, planned.plan);
+    sheet_of(board, sheet, &joints, names, planned.title)
 }
 
 fn sheet_of(
@@ -194,6 +202,7 @@ fn with_legend(
             what = words;
             continue;
         }
+        bodies::widen(&mut scene, &strokes, &pens);
         let (svg, labels) = page_of(&scene, (&strokes, &pens), (head, legend), &page, ink);
         match labels.bundles.first() {
             None => return Ok((svg, labels.nodes)),
@@ -207,24 +216,45 @@ fn with_legend(
 /// How many times the room that lines need is tried: an arch may take more.
 const WIDE: [f64; 4] = [1.0, 1.15, 1.35, 1.6];
 
-/// The pages that are tried, in order: to scale up to A0, then stretched up to 4A0; then, to scale on
-/// larger ones, those on which a line may go under several others in one gap, of 4 mm at most.
+/// A page that is tried, by the place of its paper.
+enum Try {
+    /// With `true` a line may go under several others in one gap.
+    ToScale(usize, bool),
+    /// Stretched, lines being so many times as far apart as they need.
+    Stretched(usize, f64),
+}
+
+/// Those that are tried, in order: to scale up to A0, then stretched up to 4A0; then, to scale on larger
+/// ones, those on which a line may go under several others in one gap, of 4 mm at most; at last stretched on
+/// those larger ones.
+fn tries() -> impl Iterator<Item = Try> {
+    let stretched = |papers: Range<usize>| {
+        papers.flat_map(|paper| WIDE.map(|wide| Try::Stretched(paper, wide)))
+    };
+    let first = (0..=A0).map(|paper| Try::ToScale(paper, false));
+    let tunnels = (A0..PAPERS.len()).map(|paper| Try::ToScale(paper, true));
+    let first = first.chain(stretched(0..LARGEST + 1));
+    let last = stretched(LARGEST + 1..PAPERS.len());
+    first.chain(tunnels).chain(last)
+}
+
+/// The pages that are tried, and whether a line may go under several others in one gap.
 fn pages(scene: &Scene, head: &Head, legend: &Legend) -> impl Iterator<Item = (Page, bool)> {
     let above = |width: f64| head.height(width);
     let below = |width: f64| legend.height(width);
-    let to_scale = move |paper: usize| Page::of(scene, paper, above, below);
-    let ways = [Way::Upright, Way::Level];
     // Worked out where the first pages do not do.
-    let needs = iter::once_with(move || ways.map(|way| Needs::of(scene, way)));
-    let needs = needs.filter(|_| is_straight(scene));
-    let stretched = needs.flat_map(move |needs| {
-        let papers = (0..=LARGEST).flat_map(|paper| WIDE.map(|wide| (paper, wide)));
-        papers.filter_map(move |(paper, wide)| Page::stretched(&needs, wide, paper, above, below))
-    });
-    let first = (0..=A0).map(to_scale).chain(stretched);
-    let tunnels = (A0..PAPERS.len()).map(to_scale);
-    let first = first.map(|page| (page, false));
-    first.chain(tunnels.map(|page| (page, true)))
+    let needs = OnceCell::new();
+    let of_scene = || {
+        let ways = [Way::Upright, Way::Level];
+        is_straight(scene).then(|| ways.map(|way| Needs::of(scene, way)))
+    };
+    tries().filter_map(move |one| match one {
+        Try::ToScale(paper, tunnels) => Some((Page::of(scene, paper, above, below), tunnels)),
+        Try::Stretched(paper, wide) => {
+            let needs = needs.get_or_init(of_scene).as_ref()?;
+            Some((Page::stretched(needs, wide, paper, above, below)?, false))
+        }
+    })
 }
 
 /// All of a page.
@@ -266,13 +296,16 @@ fn page_of(
     (svg + "</svg>\n", labels)
 }
 
-/// The start of the file, up to the white of the page.
+/// The start of the file, up to the white of the page. A printer is told its paper, or it would fit the page to
+/// another one.
 fn opened(page: &Page, title: &str) -> String {
     let (width, height) = (mm(page.width), mm(page.height));
+    let [across, down] = page.paper().map(mm);
     format!(
         "<svg xmlns=\"http://www.w3.org/2000/svg\" width=\"{width}mm\" height=\"{height}mm\" \
          viewBox=\"0 0 {width} {height}\" font-family=\"Helvetica, Arial, 'Liberation Sans', \
          'DejaVu Sans', sans-serif\" fill=\"{BLACK}\">\n<title>{}</title>\n\
+         <style>@page {{ size: {across}mm {down}mm; margin: 0 }}</style>\n\
          <rect width=\"{width}\" height=\"{height}\" fill=\"white\"/>\n",
         escaped(title)
     )

@@ -11,12 +11,16 @@ use bundle_stage::{
 
 use crate::lines::Lines;
 use crate::names::Names;
+use crate::signs::{checked, quoted};
 use crate::tokens::{self, unquote};
 
 mod named;
+mod numbers;
 mod write;
 
 pub(crate) use named::{Named, named};
+pub use numbers::number;
+use numbers::{above_float, above_whole, float, whole};
 pub use write::{write, write_named};
 
 /// A line that is not as it should be.
@@ -48,18 +52,6 @@ const SIDES: [(&str, Side); 4] = [
 ];
 const ROLES: [(&str, Role); 2] = [("input", Role::Input), ("output", Role::Output)];
 const ANSWERS: [(&str, bool); 2] = [("no", false), ("yes", true)];
-
-/// A number of the form: the shortest decimals that read back to the same bits; the bits of a NaN.
-pub fn number(value: f64) -> String {
-    if value.is_nan() {
-        return format!("0x{:016x}", value.to_bits());
-    }
-    let word = format!("{value:?}");
-    match word.strip_suffix(".0") {
-        Some(whole) => whole.to_string(),
-        None => word,
-    }
-}
 
 /// The most records of a table, points of a route or members of a bundle: the job counts them in 16
 /// bits.
@@ -192,7 +184,7 @@ impl<'a> Words<'a> {
 
     fn node(&mut self, names: &mut Names) -> Result<Node, String> {
         let id = self.whole("the node's id")?;
-        self.name(|name| names.set_node(id, name));
+        self.name(|name| names.set_node(id, name))?;
         self.key("at")?;
         let (x, y) = self.pair("the node's corner as X,Y")?;
         self.key("size")?;
@@ -208,7 +200,7 @@ impl<'a> Words<'a> {
 
     fn port(&mut self, names: &mut Names) -> Result<Port, String> {
         let Endpoint { node, port: id } = self.endpoint("the port as NODE:PORT")?;
-        self.name(|name| names.set_port(node, id, name));
+        self.name(|name| names.set_port(node, id, name))?;
         let side = self.named(&SIDES, "the port's side: north, east, south or west")?;
         let offset = self.number("a number, the port's offset along its side")?;
         Ok(Port {
@@ -221,7 +213,7 @@ impl<'a> Words<'a> {
 
     fn edge(&mut self, names: &mut Names) -> Result<Edge, String> {
         let id = self.whole("the edge's id")?;
-        self.name(|name| names.set_edge(id, name));
+        self.name(|name| names.set_edge(id, name))?;
         self.key("from")?;
         let source = self.endpoint("the edge's source as NODE:PORT")?;
         self.key("to")?;
@@ -240,7 +232,7 @@ impl<'a> Words<'a> {
 
     fn bundle(&mut self, names: &mut Names) -> Result<Bundle, String> {
         let id = self.whole("the bundle's id")?;
-        self.name(|name| names.set_bundle(id, name));
+        self.name(|name| names.set_bundle(id, name))?;
         self.key("at")?;
         let endpoint = self.endpoint("the bundle's port as NODE:PORT")?;
         let role = self.named(&ROLES, "the bundle's role: input or output")?;
@@ -250,8 +242,8 @@ impl<'a> Words<'a> {
             let (edge, lane) = words.two(
                 '@',
                 "a member as EDGE@LANE, lanes from 0 to 65535",
-                whole::<Id>,
-                whole::<u16>,
+                (whole::<Id>, whole::<u16>),
+                above_whole,
             )?;
             Ok(Member { edge, lane })
         })?;
@@ -282,18 +274,34 @@ impl<'a> Words<'a> {
     }
 
     /// A name in quotation marks, if one stands here.
-    fn name(&mut self, set: impl FnOnce(&str)) {
+    fn name(&mut self, set: impl FnOnce(&str)) -> Result<(), String> {
         let name = self.words.clone().next().and_then(unquote);
         if let Some(name) = name {
             self.words.next();
-            set(&name);
+            set(&checked(name)?);
         }
+        Ok(())
     }
 
     /// A word with a meaning.
     fn word<T>(&mut self, what: &str, meaning: impl Fn(&str) -> Option<T>) -> Result<T, String> {
+        self.limited(what, meaning, |_| None)
+    }
+
+    /// The same; of a word without one it may be said which limit it is above.
+    fn limited<T>(
+        &mut self,
+        what: &str,
+        meaning: impl Fn(&str) -> Option<T>,
+        above: impl Fn(&str) -> Option<&'static str>,
+    ) -> Result<T, String> {
         let word = self.words.next();
-        word.and_then(meaning).ok_or_else(|| expected(what, word))
+        word.and_then(meaning).ok_or_else(|| {
+            let above = word
+                .and_then(above)
+                .map(|limit| format!(", which is {limit}"));
+            expected(what, word) + &above.unwrap_or_default()
+        })
     }
 
     fn key(&mut self, key: &str) -> Result<(), String> {
@@ -301,11 +309,11 @@ impl<'a> Words<'a> {
     }
 
     fn whole<T: FromStr>(&mut self, what: &str) -> Result<T, String> {
-        self.word(what, whole)
+        self.limited(what, whole, above_whole)
     }
 
     fn number(&mut self, what: &str) -> Result<f64, String> {
-        self.word(what, float)
+        self.limited(what, float, above_float)
     }
 
     fn named<T: Copy>(&mut self, names: &[(&str, T)], what: &str) -> Result<T, String> {
@@ -319,21 +327,22 @@ impl<'a> Words<'a> {
         &mut self,
         mark: char,
         what: &str,
-        left: impl Fn(&str) -> Option<T>,
-        right: impl Fn(&str) -> Option<U>,
+        (left, right): (impl Fn(&str) -> Option<T>, impl Fn(&str) -> Option<U>),
+        above: impl Fn(&str) -> Option<&'static str>,
     ) -> Result<(T, U), String> {
-        self.word(what, |word| {
+        let both = |word: &str| {
             let (first, second) = word.split_once(mark)?;
             Some((left(first)?, right(second)?))
-        })
+        };
+        self.limited(what, both, |word| word.split(mark).find_map(&above))
     }
 
     fn pair(&mut self, what: &str) -> Result<(f64, f64), String> {
-        self.two(',', what, float, float)
+        self.two(',', what, (float, float), above_float)
     }
 
     fn endpoint(&mut self, what: &str) -> Result<Endpoint, String> {
-        let (node, port) = self.two(':', what, whole, whole)?;
+        let (node, port) = self.two(':', what, (whole, whole), above_whole)?;
         Ok(Endpoint { node, port })
     }
 
@@ -347,7 +356,7 @@ impl<'a> Words<'a> {
 
 fn expected(what: &str, found: Option<&str>) -> String {
     match found {
-        Some(word) => format!("expected {what}, found `{word}`"),
+        Some(word) => format!("expected {what}, found {}", quoted(word)),
         None => format!("expected {what}, found the line's end"),
     }
 }
@@ -365,24 +374,4 @@ fn set<T>(place: &mut Option<T>, key: &str, value: T) -> Result<(), String> {
         None => Ok(()),
         Some(_) => Err(format!("`{key}` is said a second time")),
     }
-}
-
-/// A whole number in decimal digits.
-fn whole<T: FromStr>(word: &str) -> Option<T> {
-    // `parse` would take a plus sign too.
-    let digits = word.bytes().all(|byte| byte.is_ascii_digit());
-    if digits { word.parse().ok() } else { None }
-}
-
-/// A number: decimals, inf, -inf, or the bits after 0x. Decimals that are above every number are
-/// none.
-fn float(word: &str) -> Option<f64> {
-    if let Some(bits) = word.strip_prefix("0x") {
-        let whole = bits.len() == 16 && bits.bytes().all(|byte| byte.is_ascii_hexdigit());
-        let bits = u64::from_str_radix(bits, 16).ok().filter(|_| whole)?;
-        return Some(f64::from_bits(bits));
-    }
-    let value = word.parse::<f64>().ok()?;
-    let said = value.is_finite() || ["inf", "-inf"].contains(&word);
-    said.then_some(value)
 }

@@ -1,5 +1,7 @@
 //! The words of a line, and names in quotation marks.
 
+use crate::signs::quoted;
+
 /// The words up to the line's end or a comment. A word that begins with a quotation mark goes on to the
 /// next one that no backslash stands before.
 pub(crate) fn split(line: &str) -> Result<Vec<&str>, String> {
@@ -8,7 +10,7 @@ pub(crate) fn split(line: &str) -> Result<Vec<&str>, String> {
     while !rest.is_empty() && !rest.starts_with('#') {
         let end = if rest.starts_with('"') {
             closing(rest)
-                .ok_or_else(|| format!("expected a name's closing `\"`, found `{rest}`"))?
+                .ok_or_else(|| format!("expected a name's closing `\"`, found {}", quoted(rest)))?
         } else {
             rest.find(|sign: char| sign.is_whitespace() || sign == '#')
                 .unwrap_or(rest.len())
@@ -33,13 +35,12 @@ fn closing(word: &str) -> Option<usize> {
     None
 }
 
-/// A name as it stands in a text. Line ends, which no line can have, become spaces.
+/// A name as it stands in a text.
 pub(crate) fn quote(name: &str) -> String {
     let mut word = String::from('"');
     for sign in name.chars() {
         match sign {
             '"' | '\\' => word.extend(['\\', sign]),
-            '\n' | '\r' => word.push(' '),
             _ => word.push(sign),
         }
     }

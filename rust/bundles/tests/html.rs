@@ -7,7 +7,7 @@ use std::fs;
 use std::path::PathBuf;
 use std::process::Command;
 
-use bundle_stage::{Board, Endpoint, Id, Refusal, Role};
+use bundle_stage::{Board, Bundle, Endpoint, Id, Refusal, Role};
 use bundles::html::{html, html_refused, ways};
 use bundles::names::Names;
 use bundles::text;
@@ -31,14 +31,17 @@ const seen = (part) => {
   }
   return opacity > 0.99;
 };
+// What cuts a stretch out is no thing; a bundle is its lines, not its taps.
+const things = () => [...svg.querySelectorAll("[id]:not(.cut)")];
+const trunk = (part) => part.querySelector(".trunk") || part;
 const said = ways.map((way) => {
   choose(way.key);
-  const parts = [...svg.querySelectorAll("[id]")].filter(seen).map((part) => part.id);
+  const parts = things().filter((part) => seen(trunk(part))).map((part) => part.id);
   const count = told.querySelectorAll(".way").length;
   return way.key + " " + count + " " + parts.join(" ");
 });
 choose("");
-const all = [...svg.querySelectorAll("[id]")];
+const all = things();
 said.push("all " + all.filter(seen).length + " " + all.length);
 const result = document.createElement("pre");
 result.id = "result";
@@ -124,6 +127,18 @@ impl Shown {
             _ => Vec::new(),
         }
     }
+
+    /// Whether a bundle that is on the way of something else is lifted whole: where all its taps are on that
+    /// way. What was tried of a bundle is on that of no other bundle.
+    fn whole(&self, bundle: &Bundle, key: &str, parts: &BTreeSet<String>) -> bool {
+        let mut members = bundle.members.iter();
+        match self {
+            Shown::All => {
+                members.all(|member| parts.contains(&format!("tap-{}-{}", bundle.id, member.edge)))
+            }
+            _ => !key.starts_with("bundle-"),
+        }
+    }
 }
 
 /// Everything that is to be lifted, from the board alone.
@@ -161,7 +176,20 @@ fn due(board: &Board, shown: &Shown) -> BTreeMap<String, (usize, BTreeSet<String
             of.1.extend(parts.clone());
         }
     }
+    for (key, (_, parts)) in &mut due {
+        without_parts(board, shown, key, parts);
+    }
     due
+}
+
+/// Leaves out what is not lifted whole.
+fn without_parts(board: &Board, shown: &Shown, key: &str, parts: &mut BTreeSet<String>) {
+    for bundle in &board.bundles {
+        let of = format!("bundle-{}", bundle.id);
+        if *key != of && !shown.whole(bundle, key, parts) {
+            parts.remove(&of);
+        }
+    }
 }
 
 fn followed(name: &str, board: &Board) {
@@ -203,13 +231,23 @@ fn the_whole_chain() {
         let sheet = board.draw().expect("a sheet");
         let ways = ways(&board, Some(&sheet), &Names::default());
         let way = |key: &str| ways.iter().find(|way| way.key == key).expect(key);
-        let four = "bundle-3 bundle-4 node-2 node-5 node-7 port-2-1 port-5-11 port-5-12 port-7-1 route-32 \
+        let four = "bundle-4 node-2 node-5 node-7 port-2-1 port-5-11 port-5-12 port-7-1 route-32 \
                     route-33 route-41 route-42 tap-3-32 tap-3-33 tap-4-32 tap-4-33 tap-4-41 tap-4-42";
         assert_eq!(way("bundle-4").lifted.join(" "), four);
-        let three = "bundle-3 bundle-4 node-2 node-4 node-5 node-7 port-2-1 port-4-5 port-5-1 port-7-1 \
+        let three = "bundle-3 node-2 node-4 node-5 node-7 port-2-1 port-4-5 port-5-1 port-7-1 \
                      route-31 route-32 route-33 route-34 tap-3-31 tap-3-32 tap-3-33 tap-3-34 tap-4-32 \
                      tap-4-33";
         assert_eq!(way("bundle-3").lifted.join(" "), three);
+        // Of the other bundle the stretch to these taps, and it is told.
+        assert_eq!(way("bundle-4").stretches, ["bundle-3"]);
+        assert_eq!(way("bundle-3").stretches, ["bundle-4"]);
+        let part =
+            "Of bundle 3 only the stretch between port 2:1 and the taps on this way is lifted.";
+        assert_eq!(way("bundle-4").parts, [part]);
+        // All wires of the bundle come from its own port.
+        assert_eq!(way("port-2-1").stretches, ["bundle-4"]);
+        assert!(way("port-2-1").lifted.contains(&"bundle-3".to_string()));
+        assert_eq!(way("route-33").stretches, ["bundle-3", "bundle-4"]);
         let words = &way("bundle-4").words;
         assert_eq!(words.len(), 4);
         let chain = "node 2 \u{2192} port 2:1 \u{2192} spine and collector of bundle 3 \u{2192} tap \u{2192} edge 33 \
@@ -255,6 +293,32 @@ fn a_refused_board() {
     let words = "node 5 \u{2192} port 5:11 \u{2192} edge 41 (of bundle 4, not drawn) \u{2192} port 7:1 \u{2192} \
                  node 7";
     assert_eq!(way.words[2], words);
+}
+
+/// Of a refused board too an end in a bundle is at the bundle's port, wherever its route begins: it has no
+/// cross and no note. Any other end that is not at its port has both.
+#[test]
+fn ends_on_a_refused_board() {
+    let mut board = example("clock-board");
+    let mut twice = board.bundles[5].clone();
+    twice.members.clear();
+    board.bundles.push(twice);
+    assert_eq!(board.draw(), Err(Refusal::DuplicateId));
+    for edge in &mut board.edges {
+        if edge.id == Id::from(11) {
+            edge.points[0].x += 20.0;
+        } else if edge.id == Id::from(71) {
+            edge.points[1].y -= 40.0;
+        }
+    }
+    let ways = ways(&board, None, &Names::default());
+    let way = |key: &str| ways.iter().find(|way| way.key == key).expect(key);
+    assert!(way("route-11").notes.is_empty());
+    assert!(!way("route-11").words[0].contains('\u{d7}'));
+    let note =
+        "\u{d7} edge 71 ends at (480, 260), not at its port 5:20, which stands at (480, 300).";
+    assert_eq!(way("route-71").notes, [note]);
+    assert!(way("route-71").words[0].ends_with("edge 71 \u{d7} port 5:20 \u{2192} node 5"));
 }
 
 #[test]
@@ -308,7 +372,8 @@ fn names_and_words() {
                edge 41 \u{2192} tap \u{2192} collector and spine of bundle 4 time code \u{2192} port 7:1 \
                \u{2192} node 7";
     assert!(page.contains(way), "{way}");
-    // One file: nothing is fetched.
+    // One file: nothing is fetched, and what it points at is in it.
+    let page = page.replace("url(#", "");
     let outside = ["src=", "href=", "url(", "@import", "fetch(", "XMLHttp"];
     assert!(!outside.iter().any(|word| page.contains(word)));
 }

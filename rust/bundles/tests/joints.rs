@@ -9,7 +9,7 @@ use bundle_stage::{Answer, Board, Sheet};
 use bundles::explain::explain;
 use bundles::joints::Joints;
 use bundles::names::Names;
-use bundles::svg::{svg, svg_from};
+use bundles::svg::{Planned, svg, svg_from};
 use bundles::text;
 
 fn file(name: &str) -> Vec<u8> {
@@ -91,8 +91,13 @@ fn from_a_plan() {
     assert_ne!(sheet, drawn(&next));
     let plan = plan.to_bytes().expect("a plan");
     let picture = |plan: &[u8]| {
-        let picture = svg_from(&next, &sheet, plan, &Names::default(), "planned");
-        picture.expect("a clear picture")
+        let planned = Planned {
+            board: &next,
+            plan,
+            names: &Names::default(),
+            title: "planned",
+        };
+        svg_from(&planned, &sheet).expect("a clear picture")
     };
     let said =
         ">Joints: drawn from the plan that is given; 5 crossings with routes, by the stage's list.";

@@ -125,7 +125,7 @@ fn errors_name_the_line_and_what_was_expected() {
         ),
         (
             "node 4294967296 at 0,0 size 1,1",
-            "expected the node's id, found `4294967296`",
+            "expected the node's id, found `4294967296`, which is above 4294967295, the most",
         ),
         ("node 1 0,0 size 1,1", "expected `at`, found `0,0`"),
         (
@@ -134,7 +134,8 @@ fn errors_name_the_line_and_what_was_expected() {
         ),
         (
             "node 1 at 0,1e999 size 1,1",
-            "expected the node's corner as X,Y, found `0,1e999`",
+            "expected the node's corner as X,Y, found `0,1e999`, which is beyond 1.7976931348623157e308, the \
+             largest magnitude of a number",
         ),
         (
             "node 1 at nan,0 size 1,1",
@@ -175,6 +176,23 @@ fn errors_name_the_line_and_what_was_expected() {
         (
             "tap_visits many",
             "expected a whole number of visits, found `many`",
+        ),
+        (
+            "tap_visits 99999999999999999999",
+            "expected a whole number of visits, found `99999999999999999999`, which is above 4294967295, the most",
+        ),
+        (
+            "port 1:4294967296 east 5",
+            "expected the port as NODE:PORT, found `1:4294967296`, which is above 4294967295, the most",
+        ),
+        (
+            "port 1:1 east -1e999",
+            "expected a number, the port's offset along its side, found `-1e999`, which is beyond \
+             1.7976931348623157e308, the largest magnitude of a number",
+        ),
+        (
+            "node 1 at inf,infinity size 1,1",
+            "expected the node's corner as X,Y, found `inf,infinity`",
         ),
         ("permit_crossings 1", "expected yes or no, found `1`"),
         ("grid on", "expected yes or no, found `on`"),

@@ -3,7 +3,7 @@
 
 use crate::board::{Board, Point};
 use crate::grid::decimals;
-use crate::place::{Place, place};
+use crate::place::{Item, Place, place};
 use crate::plan::Plan;
 use crate::refusal::Refusal;
 use crate::sheet::{DrawnBundle, Segment};
@@ -106,10 +106,30 @@ fn words(board: &Board, failed: &Failed, turn: usize) -> Place {
                 Other::Route(edge) => (member(edge), of_part(board, part)),
                 Other::Part(other) => (of_part(board, part), of_part(board, other)),
             };
-            joined(joined(one, place!(met)), joined(two, place!(at)))
+            let why = why(board, how);
+            joined(
+                joined(one, place!(met)),
+                joined(joined(two, place!(at)), why),
+            )
         }
     }
 }
+
+/// What of the board forbids it, where that is a setting.
+fn why(board: &Board, how: How) -> Place {
+    match how {
+        How::Cross => place!(", and the board forbids crossings"),
+        How::Near => {
+            let name = SPACING;
+            let said = decimals(board.options.minimum_parallel_wire_spacing);
+            place!(", and ", Item::Setting { name }, format!(" is {said}"))
+        }
+        _ => place!(),
+    }
+}
+
+/// The setting.
+const SPACING: &str = "minimum_parallel_wire_spacing";
 
 fn of_part(board: &Board, part: Part) -> Place {
     let segment = match part.is_spine {

@@ -41,18 +41,44 @@ fn members_twice(board: &Board) -> Vec<Place> {
     });
     let members = members.collect::<Vec<_>>();
     let mut found = Vec::new();
-    for (later, &(role, edge, item)) in members.iter().enumerate() {
-        let same = |before: &&(Role, Id, Item)| (before.0, before.1) == (role, edge);
-        if let Some(&(_, _, first)) = members[..later].iter().find(same) {
-            found.push(if first == item {
-                place!(format!("edge {edge} is a member of "), item, " twice")
-            } else {
-                let said = format!("edge {edge} is a member of ");
-                place!(said, first, " and of ", item, ", which have the same role")
-            });
+    for (turn, &(role, edge, _)) in members.iter().enumerate() {
+        let is_same = |of: &&(Role, Id, Item)| (of.0, of.1) == (role, edge);
+        // Each edge is told once, however often it stands there.
+        if members[..turn].iter().any(|of| is_same(&of)) {
+            continue;
+        }
+        let bundles = members.iter().filter(is_same).map(|of| of.2);
+        let bundles = bundles.collect::<Vec<_>>();
+        if bundles.len() > 1 {
+            found.push(member_of(edge, &bundles));
         }
     }
     found
+}
+
+/// An edge with the bundles of one role that list it, each as often as it does.
+fn member_of(edge: Id, bundles: &[Item]) -> Place {
+    let mut place = place!(format!("edge {edge} is a member of "));
+    let mut several = false;
+    for (turn, bundle) in bundles.iter().enumerate() {
+        if bundles[..turn].contains(bundle) {
+            continue;
+        }
+        let between = if turn == 0 { "" } else { " and of " };
+        several |= turn > 0;
+        let times = match bundles.iter().filter(|of| *of == bundle).count() {
+            1 => String::new(),
+            2 => " twice".to_string(),
+            times => format!(" ({times} times)"),
+        };
+        place
+            .parts
+            .extend([between.into(), (*bundle).into(), times.into()]);
+    }
+    if several {
+        place.parts.push(", which have the same role".into());
+    }
+    place
 }
 
 /// Every node, port and edge that is named and not there.

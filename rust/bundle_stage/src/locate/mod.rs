@@ -26,7 +26,7 @@ pub(crate) use turn::refused_turn;
 ///
 /// ```
 /// let refused = bundle_stage::locate(&[0, 0, 0, 2, 7, 0]).expect("no job");
-/// assert!(refused.to_string().ends_with("Here: byte 4: the version is 7."));
+/// assert_eq!(refused.to_string(), "no sheet: byte 4: the version is 7");
 /// ```
 pub fn locate(job: &[u8]) -> Option<Refused> {
     match Answer::from_bytes(&crate::answer(job)) {
@@ -47,7 +47,7 @@ pub fn locate(job: &[u8]) -> Option<Refused> {
 /// let job = Board::default().to_bytes()?;
 /// let plan = [0, 0, 0, 5, 7, 0, 0, 0, 0];
 /// let refused = bundle_stage::locate_planned(&job, &plan).expect("no plan of version 1");
-/// assert!(refused.to_string().ends_with("Here: byte 4 of the plan: the version is 7."));
+/// assert_eq!(refused.to_string(), "no sheet: byte 4 of the plan: the version is 7");
 /// # Ok::<(), bundle_stage::TooMany>(())
 /// ```
 pub fn locate_planned(job: &[u8], plan: &[u8]) -> Option<Refused> {

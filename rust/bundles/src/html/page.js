@@ -13,22 +13,75 @@ let shown = null;
 function show(way) {
   if (!svg) return;
   shown = way;
-  const lifted = new Set(way ? way.lifted : []);
-  svg.classList.toggle("chosen", way !== null);
-  for (const part of svg.querySelectorAll("[data-way], [data-of], .tap")) {
-    part.classList.toggle("lifted", lifted.has(part.dataset.of || part.id));
-  }
+  lift(way);
   told.replaceChildren();
   if (!way) return;
-  const line = (text, name) => {
-    const paragraph = document.createElement("p");
-    paragraph.textContent = text;
-    paragraph.className = name;
-    told.append(paragraph);
-  };
   line(way.name, "name");
   for (const note of way.notes) line(note, "note");
+  for (const words of way.parts) line(words, "part");
   for (const words of way.words) line(words, "way");
+}
+
+function line(text, name) {
+  const paragraph = document.createElement("p");
+  fill(paragraph, text);
+  paragraph.className = name;
+  told.append(paragraph);
+}
+
+// Words in which a name that is read from right to left stands between these two signs: it is to turn
+// nothing round but itself.
+function fill(element, text) {
+  text.split(/[\u2068\u2069]/).forEach((piece, turn) => {
+    const part = turn % 2 ? document.createElement("bdi") : null;
+    if (part) part.textContent = piece;
+    element.append(part || piece);
+  });
+}
+
+const plain = (text) => text.replace(/[\u2068\u2069]/g, "").toLowerCase();
+
+function lift(way) {
+  const lifted = new Set(way ? way.lifted : []);
+  const stretches = new Set(way ? way.stretches : []);
+  svg.classList.toggle("chosen", way !== null);
+  for (const old of svg.querySelectorAll(".stretch, .cut")) old.remove();
+  for (const part of svg.querySelectorAll("[data-way], [data-of], .tap")) {
+    part.classList.toggle("lifted", lifted.has(part.dataset.of || part.id));
+    part.classList.toggle("partly", stretches.has(part.id));
+  }
+  for (const key of stretches) stretch(document.getElementById(key), lifted);
+}
+
+// Of a bundle that goes on to other taps only what leads to those on the way is lifted: a copy of its lines
+// over the dimmed ones, cut off above and below that. Beside the collector nothing is cut.
+function stretch(bundle, lifted) {
+  const trunk = bundle && bundle.querySelector(".trunk");
+  // Of a bundle without length no line is drawn.
+  if (!trunk || !trunk.firstElementChild) return;
+  const [x, y] = bundle.dataset.joint.split(" ").map(Number);
+  const taps = [...bundle.querySelectorAll(".tap")].filter((tap) => lifted.has(tap.id));
+  const ends = [y, ...taps.map((tap) => Number(tap.getAttribute("cy")))];
+  const half = Number(trunk.firstElementChild.getAttribute("stroke-width")) / 2;
+  const [top, bottom] = [Math.min(...ends) - half, Math.max(...ends) + half];
+  const [left, right] = [x - ARCH - half, x + ARCH + half];
+  const [from, to] = [-full[2], 2 * full[2]];
+  const boxes = [[from, top, to - from, bottom - top], [from, from, left - from, to - from], [right, from, to - right, to - from]];
+  const cut = made("clipPath", { id: "cut-" + bundle.id, class: "cut" });
+  for (const [x, y, width, height] of boxes) cut.append(made("rect", { x, y, width, height }));
+  const copy = trunk.cloneNode(true);
+  copy.setAttribute("class", "stretch");
+  copy.setAttribute("clip-path", `url(#${cut.id})`);
+  trunk.after(cut, copy);
+}
+
+// How far an arch of a collector rises beside it, at most.
+const ARCH = 4;
+
+function made(name, values) {
+  const part = document.createElementNS("http://www.w3.org/2000/svg", name);
+  for (const [key, value] of Object.entries(values)) part.setAttribute(key, value);
+  return part;
 }
 
 function choose(key) {
@@ -56,9 +109,7 @@ function fromAddress() {
   }
   chooseFar(hash.replace(/^edge-/, "route-"));
   if (!hash || chosen) return;
-  const paragraph = document.createElement("p");
-  paragraph.textContent = "Nothing here is called " + hash + ".";
-  told.append(paragraph);
+  line("Nothing here is called \u2068" + hash.replace(/[\u2066-\u2069]/g, "") + "\u2069.", "");
 }
 
 function wayOf(target) {
@@ -71,19 +122,25 @@ function prepare() {
     const part = document.getElementById(way.key);
     if (!part) continue;
     part.dataset.way = "";
-    part.setAttribute("tabindex", "0");
+    // Tab comes to the bundles first, in the order of the legend; the bar goes before them.
+    part.setAttribute("tabindex", way.key.startsWith("bundle-") ? "2" : "3");
     part.setAttribute("role", "button");
     part.setAttribute("aria-label", way.name);
+  }
+  for (const bundle of svg.querySelectorAll(".bundle")) {
+    const trunk = made("g", { class: "trunk" });
+    trunk.append(...bundle.querySelectorAll("path"));
+    bundle.querySelector("title").after(trunk);
   }
 }
 
 // ---- search
 
 function matches(words) {
-  const text = words.trim().toLowerCase();
+  const text = plain(words.trim());
   if (!text) return [];
   const rank = ({ name, terms }) => {
-    const all = [name, ...terms].map((term) => term.toLowerCase());
+    const all = [name, ...terms].map(plain);
     if (all.includes(text)) return 0;
     return all.some((term) => term.includes(text)) ? 1 : 2;
   };
@@ -97,7 +154,8 @@ function list() {
   for (const way of matches(find.value)) {
     const button = document.createElement("button");
     button.type = "button";
-    button.textContent = way.name;
+    button.tabIndex = 1;
+    fill(button, way.name);
     button.addEventListener("click", () => chooseFar(way.key));
     found.append(button);
   }

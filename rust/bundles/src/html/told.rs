@@ -116,7 +116,7 @@ impl Told<'_> {
 
     /// A record by id and name; of several that have one id, which it is.
     pub fn called(&self, item: Item) -> String {
-        let name = self.names.of(item);
+        let name = self.names.said(item);
         let named = name.map_or(item.to_string(), |name| format!("{item} {name}"));
         let (place, all) = match item {
             Item::Node { place, id } => (place, self.places.nodes(id)),

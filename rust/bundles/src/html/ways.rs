@@ -21,8 +21,12 @@ pub struct Way {
     pub words: Vec<String>,
     /// Where these routes are not joined to what they are said to lead to, and what else is not as it seems.
     pub notes: Vec<String>,
-    /// The ids in the picture of all that is lifted with it.
+    /// The ids in the picture of all that is lifted with it, whole.
     pub lifted: Vec<String>,
+    /// Those of the bundles of which only the stretch between the port and the lifted taps is lifted.
+    pub stretches: Vec<String>,
+    /// What is said of these.
+    pub parts: Vec<String>,
 }
 
 /// A board with what was drawn of it.
@@ -75,7 +79,7 @@ impl<'a> Told<'a> {
         let mut by_edge = vec![Vec::new(); board.edges.len()];
         let found = match sheet {
             Some(sheet) => loose::on_sheet(board, sheet),
-            None => loose::as_given(board),
+            None => loose::on_board(board),
         };
         for one in found {
             by_edge[one.place].push(one);
@@ -148,25 +152,52 @@ impl<'a> Told<'a> {
     /// The way of a record that has these routes on it, without its own id in the picture.
     fn way(&self, item: Item, routes: impl Iterator<Item = usize>) -> (Draft, Vec<usize>) {
         let routes = routes.collect::<Vec<_>>();
-        let mut lifted = BTreeSet::new();
+        let said = item.to_string();
+        let id = said.split(' ').nth(1).map(str::to_string);
+        let mut draft = Draft {
+            name: self.called(item),
+            terms: [said].into_iter().chain(id).collect(),
+            ..Draft::default()
+        };
+        let mut on_way = BTreeSet::new();
+        let lifted = &mut draft.lifted;
         for route in &routes {
             lifted.insert(self.keys.edges[*route].clone());
             lifted.extend(self.ends[*route].iter().flat_map(|end| self.end_keys(end)));
             for Joined { bundle, tap } in &self.bundles[*route] {
-                lifted.insert(self.keys.bundles[*bundle].clone());
+                on_way.insert(*bundle);
                 lifted.extend(tap.clone());
                 lifted.extend(self.other_end(*route, *bundle));
             }
         }
-        let said = item.to_string();
-        let id = said.split(' ').nth(1).map(str::to_string);
-        let draft = Draft {
-            name: self.called(item),
-            terms: [said].into_iter().chain(id).collect(),
-            notes: Vec::new(),
-            lifted,
-        };
+        for bundle in on_way {
+            self.lift(&mut draft, item, bundle);
+        }
         (draft, routes)
+    }
+
+    /// Lifts a bundle that is on the way of a record: its own whole, of another what leads to the lifted taps.
+    /// One that is not drawn may have been tried: that is the way of its members, and of no other bundle.
+    fn lift(&self, draft: &mut Draft, item: Item, bundle: usize) {
+        let key = self.keys.bundles[bundle].clone();
+        let own = item == self.bundle_item(bundle);
+        let all = match self.drawn {
+            true => self.keys.taps[bundle]
+                .iter()
+                .all(|tap| draft.lifted.contains(tap)),
+            false => !matches!(item, Item::Bundle { .. }),
+        };
+        if own || all {
+            draft.lifted.insert(key);
+        } else if self.drawn {
+            draft.stretches.push(key);
+            let at = self.board.bundles[bundle].endpoint;
+            let port = self.port(at, &self.places.meant(at, None));
+            let bundle = self.called(self.bundle_item(bundle));
+            draft.parts.push(format!(
+                "Of {bundle} only the stretch between {port} and the taps on this way is lifted."
+            ));
+        }
     }
 
     fn finished(&self, draft: Draft, key: &str, routes: Vec<usize>) -> Way {
@@ -175,6 +206,8 @@ impl<'a> Told<'a> {
             terms,
             mut notes,
             mut lifted,
+            stretches,
+            parts,
         } = draft;
         lifted.insert(key.to_string());
         notes.extend(routes.iter().flat_map(|route| self.notes(*route)));
@@ -185,6 +218,8 @@ impl<'a> Told<'a> {
             words: routes.iter().map(|route| self.told(*route)).collect(),
             notes,
             lifted: lifted.into_iter().collect(),
+            stretches,
+            parts,
         }
     }
 
@@ -210,11 +245,14 @@ impl<'a> Told<'a> {
 }
 
 /// A way that is not yet told.
+#[derive(Default)]
 struct Draft {
     name: String,
     terms: Vec<String>,
     notes: Vec<String>,
     lifted: BTreeSet<String>,
+    stretches: Vec<String>,
+    parts: Vec<String>,
 }
 
 /// By the sheet: the bundles on which each edge has a tap.

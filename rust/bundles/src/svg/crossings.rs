@@ -2,7 +2,7 @@
 //! other in an arch, and the other has a gap there. Where a bundle and a route do so is the stage's list,
 //! if there is one.
 
-use std::collections::HashMap;
+use std::collections::{BTreeMap, HashMap};
 
 use bundle_stage::Point;
 
@@ -59,9 +59,10 @@ pub fn bridge(
     let trunk = |of: &Over| strokes[pieces[of.under].stroke].bundle.is_some();
     let over_trunk = |piece: usize, arch: &Arch| {
         let mut over = over[piece].iter().filter(|of| trunk(of));
-        over.any(|of| arch.first <= of.at && of.at <= arch.last)
+        over.any(|of| arch.holds(of.at))
     };
     unring(&pieces, &mut arches, &spans, strokes, over_trunk);
+    even(strokes, &pieces, &over, &mut arches);
     for (turn, of) in pieces.iter().enumerate() {
         gaps(strokes, &pieces, of, &over[turn], &arches[turn]);
         // Without a rise the line goes straight on.
@@ -75,11 +76,10 @@ pub fn bridge(
 /// Gaps by their places; with `tunnels` those between which too little would be left are one.
 fn in_order(strokes: &mut [Stroke], tunnels: bool) {
     for stroke in strokes {
-        let kept = kept(stroke);
-        for gaps in &mut stroke.gaps {
-            gaps.sort_by(|a, b| a.from.total_cmp(&b.from));
+        for turn in 0..stroke.gaps.len() {
+            stroke.gaps[turn].sort_by(|a, b| a.from.total_cmp(&b.from));
             if tunnels {
-                *gaps = merged(gaps, kept);
+                stroke.gaps[turn] = merged(stroke, turn);
             }
         }
     }
@@ -140,6 +140,87 @@ fn crossed(
     (over, found)
 }
 
+/// Where a piece with an arch goes over a line.
+struct Crossing<'a> {
+    over: &'a Over,
+    /// The places of the piece and of its arch.
+    piece: usize,
+    arch: usize,
+}
+
+/// A gap moves with its arch. Where too little of a line would be left between two gaps, the higher arch is made
+/// as high as the other one.
+fn even(strokes: &[Stroke], pieces: &[Placed], over: &[Vec<Over>], arches: &mut [Vec<Arch>]) {
+    let under = under(over, arches);
+    let mut changed = true;
+    while changed {
+        changed = false;
+        for two in under.values().flat_map(|crossings| crossings.windows(2)) {
+            let rises = [&two[0], &two[1]].map(|of| arches[of.piece][of.arch].rise);
+            let to = evened(strokes, pieces, (&two[0], &two[1]), rises);
+            for (of, rise) in two.iter().zip(to) {
+                changed |= arches[of.piece][of.arch].rise != rise;
+                arches[of.piece][of.arch].rise = rise;
+            }
+        }
+    }
+}
+
+/// Where arches go over each piece, in order along it.
+fn under<'a>(over: &'a [Vec<Over>], arches: &[Vec<Arch>]) -> BTreeMap<usize, Vec<Crossing<'a>>> {
+    let mut under: BTreeMap<usize, Vec<Crossing<'_>>> = BTreeMap::new();
+    for (piece, all) in over.iter().enumerate() {
+        for over in all {
+            let mut arches = arches[piece].iter();
+            if let Some(arch) = arches.position(|arch| arch.holds(over.at)) {
+                let crossing = Crossing { over, piece, arch };
+                under.entry(over.under).or_default().push(crossing);
+            }
+        }
+    }
+    for crossings in under.values_mut() {
+        crossings.sort_by(|a, b| a.over.there.total_cmp(&b.over.there));
+    }
+    under
+}
+
+/// The rises of two arches over one line, the first before the second, as far as they leave enough of it.
+fn evened(
+    strokes: &[Stroke],
+    pieces: &[Placed],
+    two: (&Crossing<'_>, &Crossing<'_>),
+    rises: [f64; 2],
+) -> [f64; 2] {
+    let gap = |of: &Crossing<'_>, rise: f64| {
+        let [over, under] = [of.piece, of.over.under].map(|piece| &pieces[piece]);
+        let widths = [over, under].map(|of| strokes[of.stroke].width);
+        gap(
+            &over.piece,
+            rise,
+            widths.into(),
+            &under.piece,
+            of.over.there,
+        )
+    };
+    // How an arch moves its gap: 1 where a rise above 0 does so onwards.
+    let ahead = |of: &Crossing<'_>| {
+        let middles = [0.0, 1.0]
+            .map(|rise| gap(of, rise))
+            .map(|gap| gap.from + gap.to);
+        (middles[1] - middles[0]).signum()
+    };
+    let gaps = [gap(two.0, rises[0]), gap(two.1, rises[1])];
+    let ahead = [ahead(two.0), ahead(two.1)];
+    let (first, second) = (rises[0] * ahead[0], rises[1] * ahead[1]);
+    let stroke = &strokes[pieces[two.0.over.under].stroke];
+    let left = gaps[1].from - gaps[0].to;
+    if first <= second || left >= kept(stroke, [&gaps[0], &gaps[1]]) {
+        return rises;
+    }
+    let to = [first.min(second.max(0.0)), second.max(first.min(0.0))];
+    [to[0] * ahead[0], to[1] * ahead[1]]
+}
+
 /// A bundle and a route by their places: the routes' strokes stand first, in the scene's order.
 fn pair(strokes: &[Stroke], one: &Placed, two: &Placed) -> Option<(usize, usize)> {
     match [one, two].map(|of| strokes[of.stroke].bundle) {
@@ -153,8 +234,7 @@ fn pair(strokes: &[Stroke], one: &Placed, two: &Placed) -> Option<(usize, usize)
 fn gaps(strokes: &mut [Stroke], pieces: &[Placed], of: &Placed, over: &[Over], arches: &[Arch]) {
     let width = strokes[of.stroke].width;
     for crossed in over {
-        let mut arches = arches.iter();
-        let arch = arches.find(|arch| arch.first <= crossed.at && crossed.at <= arch.last);
+        let arch = arches.iter().find(|arch| arch.holds(crossed.at));
         let rise = arch.map_or(0.0, |arch| arch.rise);
         let under = &pieces[crossed.under];
         let widths = (width, strokes[under.stroke].width);
@@ -164,13 +244,15 @@ fn gaps(strokes: &mut [Stroke], pieces: &[Placed], of: &Placed, over: &[Over], a
 }
 
 /// Gaps in order, those that are too near to each other as one.
-fn merged(gaps: &[Gap], kept: f64) -> Vec<Gap> {
+fn merged(stroke: &Stroke, turn: usize) -> Vec<Gap> {
     let mut to: Vec<Gap> = Vec::new();
-    for gap in gaps {
-        match to.last_mut() {
-            Some(last) if gap.from - last.to < kept => last.to = last.to.max(gap.to),
-            _ => to.push(*gap),
+    for gap in &stroke.gaps[turn] {
+        let mut gap = *gap;
+        while let Some(last) = to.pop_if(|last| gap.from - last.to < kept(stroke, [last, &gap])) {
+            gap.from = last.from.min(gap.from);
+            gap.to = last.to.max(gap.to);
         }
+        to.push(gap);
     }
     to
 }

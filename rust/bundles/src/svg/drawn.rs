@@ -15,7 +15,7 @@ use super::ports;
 use super::scene::{Crossed, Port, Route, Scene, Tap, Trunk, corners};
 use super::spans::{Way, room};
 use super::stroke::{NO_END, Piece, Stroke, apart};
-use super::white::{SEEN, WHITE};
+use super::white::{WHITE, most_under};
 
 /// The routes' strokes, then for each bundle those of its spine and its collector. Taps and
 /// collectors of the scene follow the routes that are drawn side by side; where these are very near
@@ -34,6 +34,7 @@ pub fn strokes(scene: &mut Scene, pens: &mut Pens, tunnels: bool) -> (Vec<Stroke
         tapped: &tapped,
         trunks: &trunks(scene, pens),
         sides: &sides(scene),
+        over_routes: marking::over_route(),
     };
     let (mut shifted, least) = lanes::spread(&lines, pens.route + LANE);
     pens.route = pens.route.min((0.6 * least).max(0.14));
@@ -126,7 +127,7 @@ fn weigh(scene: &mut Scene, routes: &[Stroke], pens: &Pens) {
         let radii = trunk.taps.iter().map(radius).collect::<Vec<_>>();
         let dot = radii.iter().copied().fold(f64::INFINITY, f64::min);
         let trunk = &mut scene.trunks[place];
-        let weight = pens.trunk.min(0.7 * room).min(2.0 * (dot - SEEN));
+        let weight = pens.trunk.min(0.7 * room).min(most_under(dot));
         trunk.weight = weight.max(LEAST);
         for (tap, radius) in trunk.taps.iter_mut().zip(radii) {
             tap.radius = radius;
@@ -238,8 +239,11 @@ fn part(routes: &mut [Vec<Point>], tapped: &[(bool, bool)], gap: f64) {
         let runs = route.windows(2);
         !ends.into_iter().flatten().any(|end| apart(at, *end) < gap)
             && runs
-                .map(|run| (run[0], run[1]))
-                .any(|(a, b)| apart(a, at) + apart(at, b) < apart(a, b) + NO_END)
+                .map(|run| Piece {
+                    start: run[0],
+                    end: run[1],
+                })
+                .any(|run| run.from(at) < NO_END)
     };
     for place in 0..routes.len() {
         for (backwards, tapped) in [(false, tapped[place].0), (true, tapped[place].1)] {
@@ -265,6 +269,22 @@ fn part(routes: &mut [Vec<Point>], tapped: &[(bool, bool)], gap: f64) {
             };
             let last = if backwards { route.len() - 1 } else { 0 };
             routes[place][last] = piece.at(gap, 0.0);
+        }
+    }
+}
+
+#[cfg(test)]
+mod tests {
+    use super::{Point, part};
+
+    #[test]
+    fn an_end_is_cut_on_another_route_and_not_beside_it() {
+        let at = |x, y| Point { x, y };
+        for (x, cut) in [(539.0, false), (540.0, true)] {
+            let wire = vec![at(0.0, 50.0), at(540.0, 50.0)];
+            let mut routes = vec![wire, vec![at(x, -200.0), at(x, 300.0)]];
+            part(&mut routes, &[(false, false); 2], 0.3);
+            assert_eq!(routes[0][1].x < 540.0, cut, "{x}");
         }
     }
 }

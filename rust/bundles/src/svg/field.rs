@@ -1,5 +1,7 @@
 //! Where there is room for words.
 
+use std::cmp::Reverse;
+
 use bundle_stage::Point;
 
 use super::scene::{MARK, Scene, corners};
@@ -54,6 +56,13 @@ impl Rect {
             && self.high.y <= other.high.y
     }
 
+    /// How far two are from each other, 0 where they meet.
+    pub fn apart(&self, other: &Rect) -> f64 {
+        let x = (other.low.x - self.high.x).max(self.low.x - other.high.x);
+        let y = (other.low.y - self.high.y).max(self.low.y - other.high.y);
+        x.max(0.0).hypot(y.max(0.0))
+    }
+
     pub fn middle(&self) -> Point {
         Point {
             x: (self.low.x + self.high.x) / 2.0,
@@ -81,7 +90,9 @@ pub struct Field {
 #[derive(Clone, Copy)]
 pub struct Spot {
     pub rect: Rect,
-    /// Inside a node.
+    /// The place of the node that it is of, if it is of one.
+    pub node: Option<usize>,
+    /// Inside that node.
     pub inside: bool,
     /// It may lie over a node.
     pub over: bool,
@@ -106,6 +117,7 @@ impl Spot {
     pub fn new(rect: Rect, size: f64) -> Spot {
         Spot {
             rect,
+            node: None,
             inside: false,
             over: false,
             on: None,
@@ -122,13 +134,33 @@ impl Field {
         self.taken.push((rect, None));
     }
 
+    /// Whether it lies over no node but its own, or one that this lies in, and beside its own is nearer to it
+    /// than to any other.
+    fn is_of_its_node(&self, spot: &Spot) -> bool {
+        let own = spot.node.map(|place| self.nodes[place]);
+        let middle = Rect::of(spot.rect.middle(), spot.rect.middle(), 0.0);
+        let others = self.nodes.iter().enumerate();
+        let mut others = others.filter(|(place, _)| spot.node != Some(*place));
+        others.all(|(_, other)| match own {
+            Some(own) if spot.inside => own.within(other) || !other.meets(&spot.rect),
+            Some(own) => [spot.rect, middle].iter().all(|of| {
+                // Both its edge and its middle.
+                own.apart(of) + NEARER < other.apart(of)
+            }),
+            None => !other.meets(&spot.rect),
+        })
+    }
+
     pub fn free(&self, spot: &Spot) -> bool {
         let mut taken = self.taken.iter();
         spot.rect.within(&self.page)
-            && (spot.inside || spot.over || !self.nodes.iter().any(|node| node.meets(&spot.rect)))
+            && (spot.over || self.is_of_its_node(spot))
             && !taken.any(|(rect, of)| (of.is_none() || *of != spot.on) && rect.meets(&spot.rect))
     }
 }
+
+/// How much nearer a label beside its node is to it than to any other node, in millimetres.
+const NEARER: f64 = 0.3;
 
 /// A thing to be labelled: its words and its places, best first.
 pub struct Wish {
@@ -147,13 +179,14 @@ pub struct Label {
     taken: usize,
 }
 
-/// Labels for as many wishes as can be, and as many of them inside a node, at the largest size that
-/// allows it. Says how many are left out.
+/// Labels for as many wishes as can be, as few of them over nodes and as many inside theirs, at the largest size
+/// that allows it. Says how many are left out.
 pub fn placed(field: &mut Field, wishes: &[Wish], sizes: &[f64]) -> (Vec<Label>, usize) {
     let before = field.taken.len();
     let worth = |labels: &[Label]| {
+        let over = labels.iter().filter(|label| label.spot.over);
         let inside = labels.iter().filter(|label| label.spot.inside);
-        (labels.len(), inside.count())
+        (labels.len(), Reverse(over.count()), inside.count())
     };
     let mut best: Vec<Label> = Vec::new();
     for size in sizes {

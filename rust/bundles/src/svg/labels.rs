@@ -11,7 +11,7 @@ use super::records::Record;
 use super::scene::{Scene, Trunk, corners};
 use super::stroke::Stroke;
 use super::wishes::{End, bundle_wish, edge_wish, is_long, name_wish, node_wish, port_wish};
-use super::xml::{mm, wide_bold, words};
+use super::xml::{BOLD, mm, wide_bold, words};
 
 /// Heights of letters that are tried, in millimetres, one for all labels of a kind. Smaller ones
 /// would not be read on paper.
@@ -108,7 +108,7 @@ fn bundle_ids(scene: &Scene, pens: &Pens) -> Wishes {
     let trunks = scene.trunks.iter().enumerate();
     let wishes = trunks.map(|(place, trunk)| {
         let id = format!("B{}", trunk.id);
-        let name = scene.names.of(scene.records.trunks[place].item);
+        let name = scene.names.said(scene.records.trunks[place].item);
         let wish = |text: &str| bundle_wish(place, trunk, End::Collector, pens, text);
         let named = name.map(|name| wish(&format!("{id} {name}")));
         (wish(&id), named)
@@ -150,7 +150,7 @@ fn edge_ids(scene: &Scene, strokes: &[Stroke]) -> Wishes {
     let routes = scene.routes.iter().zip(strokes).enumerate();
     let wishes = routes.map(|(place, (route, stroke))| {
         let wish = |text: String| edge_wish(place, route, stroke, text);
-        let name = scene.names.of(scene.records.routes[place].item);
+        let name = scene.names.said(scene.records.routes[place].item);
         let named = name.map(|name| wish(format!("{} {name}", route.id)));
         (wish(route.id.to_string()), named)
     });
@@ -161,11 +161,12 @@ fn port_ids(scene: &Scene, pens: &Pens) -> Wishes {
     let ports = scene.ports.iter().enumerate();
     let wishes = ports.filter_map(|(place, port)| {
         let Endpoint { node, port: id } = port.name;
-        let name = scene.names.of(scene.records.ports[place].item);
+        let name = scene.names.said(scene.records.ports[place].item);
         // Of nodes that have one id the port is at that which it stands at.
         let at = Rect::of(port.at, port.at, 0.0);
-        let of_id = scene.nodes.iter().filter(|of| of.id == node);
-        let is_at = |of: &&Node| {
+        let of_id = scene.nodes.iter().enumerate();
+        let of_id = of_id.filter(|(_, of)| of.id == node);
+        let is_at = |(_, of): &(usize, &Node)| {
             let [low, high] = corners(of);
             at.within(&Rect::of(low, high, 0.1))
         };
@@ -181,8 +182,8 @@ fn port_ids(scene: &Scene, pens: &Pens) -> Wishes {
 fn node_names(scene: &Scene, field: &mut Field, ids: &[Label]) -> (Vec<Label>, Vec<usize>) {
     let wishes = ids.iter().filter_map(|id| {
         let node = &scene.nodes[id.place];
-        let name = scene.names.of(scene.records.nodes[id.place].item)?;
-        Some(name_wish(id.place, node, id.spot, name))
+        let name = scene.names.said(scene.records.nodes[id.place].item)?;
+        Some(name_wish(id.place, node, id.spot, &name))
     });
     let wishes = wishes.collect::<Vec<_>>();
     let (names, _) = placed(field, &wishes, &NAMES);
@@ -210,13 +211,10 @@ fn drawn(scene: &Scene, kinds: &[Kind; 5], names: &[Label]) -> String {
     for (labels, class) in [(&nodes.labels[..], "node-id"), (names, "node-name")] {
         for label in labels {
             let of = of(&records.nodes, label);
-            let bold = if class == "node-id" {
-                " font-weight=\"bold\""
-            } else {
-                ""
-            };
-            let more = format!("class=\"{class}\" {of}{bold}");
-            svg.push_str(&text(label, &more));
+            let bold = if class == "node-id" { BOLD } else { "" };
+            let more = format!("class=\"{class}\" {of} {bold}");
+            let more = more.trim_end();
+            svg.push_str(&text(label, more));
         }
     }
     for label in &edges.labels {
@@ -292,8 +290,8 @@ fn pill(text: &str, rect: Rect, place: usize, size: f64) -> String {
         mm(rect.high.y - rect.low.y),
         colour(place)
     );
-    let more = "class=\"bundle-id\" font-weight=\"bold\" text-anchor=\"middle\"";
-    frame + &words(middle, size, more, text)
+    let more = format!("class=\"bundle-id\" {BOLD} text-anchor=\"middle\"");
+    frame + &words(middle, size, &more, text)
 }
 
 /// The same in the legend, from its left side on.

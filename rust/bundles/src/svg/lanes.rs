@@ -27,6 +27,8 @@ pub struct Lines<'a> {
     pub trunks: &'a [Part],
     /// The sides of nodes.
     pub sides: &'a [(Point, Point)],
+    /// The pitch of level lanes that go over an upright run of a route.
+    pub over_routes: f64,
 }
 
 /// A segment of a bundle.
@@ -104,6 +106,8 @@ const AT_TAP: f64 = 0.6;
 fn spread_near(lines: &Lines<'_>, pitch: f64, near: f64) -> (Vec<Vec<Point>>, f64) {
     let routes = lines.routes;
     let mut least = pitch;
+    let mut uprights = runs(lines, Way::Upright);
+    uprights.extend(turns(lines));
     let mut shifts = routes
         .iter()
         .map(|route| vec![0.0; route.len().saturating_sub(1)])
@@ -114,11 +118,7 @@ fn spread_near(lines: &Lines<'_>, pitch: f64, near: f64) -> (Vec<Vec<Point>>, f6
         for group in groups(&runs, near) {
             let rows = rows(routes, way, &group, near);
             let last = rows.iter().copied().max().unwrap_or(0);
-            let most = if way == Way::Upright && group.iter().any(|run| at_tap(lines, run)) {
-                AT_TAP
-            } else {
-                over_trunks(lines, way, &group).fold(pitch, f64::max)
-            };
+            let most = most(lines, (&group, &uprights), (way, near), pitch);
             let pitch = most.min(0.9 * free(&group, &runs, &sides) / last.max(1) as f64);
             least = least.min(pitch);
             // Row 0 is where a trunk keeps its place, or else the middle does.
@@ -141,6 +141,22 @@ fn spread_near(lines: &Lines<'_>, pitch: f64, near: f64) -> (Vec<Vec<Point>>, f6
     (moved(lines, &shifts, pitch), least)
 }
 
+/// The pitch of a group's lanes where there is room.
+fn most(
+    lines: &Lines<'_>,
+    (group, uprights): (&[&Run<'_>], &[Run<'_>]),
+    (way, near): (Way, f64),
+    pitch: f64,
+) -> f64 {
+    if way == Way::Upright && group.iter().any(|run| at_tap(lines, run)) {
+        return AT_TAP;
+    }
+    let over_routes = goes_over(group, uprights, (way, near));
+    let over_routes = over_routes.then_some(lines.over_routes);
+    let over = over_trunks(lines, way, group).chain(over_routes);
+    over.fold(pitch, f64::max)
+}
+
 /// The pitches of lanes over the bundles that a group of runs crosses.
 fn over_trunks<'a>(
     lines: &'a Lines<'_>,
@@ -155,11 +171,42 @@ fn over_trunks<'a>(
     })
 }
 
+/// Whether runs of a group go over a route: level ones go over upright ones, also over the end of one that turns
+/// into the group. One that ends on another route's upright line goes over it where that is drawn before its end.
+fn goes_over(group: &[&Run<'_>], uprights: &[Run<'_>], (way, near): (Way, f64)) -> bool {
+    let routes = |run: &&Run<'_>| run.members.is_none();
+    let crosses = |run: &Run<'_>| {
+        let mut uprights = uprights.iter().filter(routes);
+        uprights.any(|other| {
+            let ends = other.route != run.route && run.span.ends_on(&other.span, near);
+            ends || run.span.goes_over(&other.span, near)
+        })
+    };
+    let mut runs = group.iter().filter(|run| routes(run));
+    way == Way::Level && runs.any(|run| crosses(run))
+}
+
 /// Whether a run of a route ends at its tap.
 fn at_tap(lines: &Lines<'_>, run: &Run<'_>) -> bool {
     let (first, last) = lines.tapped.get(run.route).copied().unwrap_or_default();
     let count = lines.routes.get(run.route).map_or(0, Vec::len);
     run.members.is_none() && (first && run.start == 0 || last && run.start + 2 == count)
+}
+
+/// Where level runs turn straight back: there an upright piece is between the two as they are drawn.
+fn turns<'a>(lines: &Lines<'a>) -> impl Iterator<Item = Run<'a>> {
+    let routes = lines.routes.iter().enumerate();
+    routes.flat_map(|(route, corners)| {
+        let threes = corners.windows(3).enumerate();
+        threes.filter_map(move |(start, three)| {
+            Some(Run {
+                route,
+                start,
+                span: Way::Level.turn(three)?,
+                members: None,
+            })
+        })
+    })
 }
 
 fn runs<'a>(lines: &Lines<'a>, way: Way) -> Vec<Run<'a>> {
@@ -286,5 +333,54 @@ fn order(routes: &[Vec<Point>], way: Way, a: &Run<'_>, b: &Run<'_>) -> i32 {
     match way {
         Way::Level => left,
         Way::Upright => -left,
+    }
+}
+
+#[cfg(test)]
+mod tests {
+    use super::*;
+
+    const OVER_ROUTES: f64 = 2.75;
+
+    /// How far the level runs of routes beside each other are apart, those on one line of the board.
+    fn least_pitch(routes: &[&[(f64, f64)]], line: f64) -> f64 {
+        let route = |points: &&[(f64, f64)]| points.iter().map(|&(x, y)| Point { x, y }).collect();
+        let routes = routes.iter().map(route).collect::<Vec<Vec<Point>>>();
+        let lines = Lines {
+            routes: &routes,
+            tapped: &vec![(false, false); routes.len()],
+            trunks: &[],
+            sides: &[],
+            over_routes: OVER_ROUTES,
+        };
+        let (shifted, _) = spread(&lines, 1.5);
+        let runs = shifted.iter().flat_map(|route| route.windows(2));
+        let level = runs.filter_map(|run| Way::Level.span(run[0], run[1]));
+        let mut places = level.map(|run| run.at).collect::<Vec<_>>();
+        places.retain(|at| (at - line).abs() < 15.0);
+        places.sort_by(f64::total_cmp);
+        let pairs = places.windows(2).map(|two| two[1] - two[0]);
+        pairs.fold(f64::INFINITY, f64::min)
+    }
+
+    #[test]
+    fn lanes_over_a_route_that_turns_straight_back() {
+        let back = [(80.0, 0.0), (80.0, 140.0), (10.0, 140.0), (80.0, 140.0)];
+        assert!(least_pitch(&[&back, &back], 140.0) > OVER_ROUTES - 1e-9);
+        assert!(
+            least_pitch(&[&back[..3], &back[..3]], 140.0) < 1.6,
+            "one beside the other"
+        );
+    }
+
+    #[test]
+    fn lanes_that_end_on_a_route() {
+        let under = [(80.0, 0.0), (80.0, 400.0)];
+        let ending = [(10.0, 140.0), (80.0, 140.0), (80.0, 200.0)];
+        assert!(least_pitch(&[&under, &ending, &ending], 140.0) > OVER_ROUTES - 1e-9);
+        assert!(
+            least_pitch(&[&ending, &ending], 140.0) < 1.6,
+            "one beside the other"
+        );
     }
 }

@@ -1,9 +1,10 @@
-//! Words on the page: the title and what stands below it, the legend and what it explains.
+//! The legend and what it explains.
 
 use std::collections::BTreeSet;
 
 use bundle_stage::{Endpoint, Point, Role};
 
+use super::head::{LINE, TEXT, broken};
 use super::labels::{pill_at, pill_size};
 use super::loose::cross;
 use super::palette::{BLACK, WARNING, colour, mark};
@@ -13,74 +14,16 @@ use super::scene::{Mark, Route, Scene, Trunk};
 use super::shapes::ring;
 use super::stroke::Stroke;
 use super::tried::dashed;
-use super::xml::{mm, wide, wide_bold, words};
+use super::xml::{BOLD, mm, wide, words};
 use crate::loose::End;
 
-const TITLE: f64 = 5.0;
-const TEXT: f64 = 2.6;
 /// For the bundles, where there are many.
 const SMALL: f64 = 2.2;
 /// For what stands below the legend.
 const NOTE: f64 = 0.85 * TEXT;
 const MANY: usize = 12;
-const LINE: f64 = 4.2;
 const SAMPLE: f64 = 10.0;
 const GAP: f64 = 2.0;
-
-/// The title, and words below it. They are broken where they are too long.
-pub struct Head {
-    pub title: String,
-    pub about: Option<String>,
-    /// Why there is no sheet, or what is wrong with it.
-    pub warnings: Vec<String>,
-}
-
-impl Head {
-    pub fn height(&self, width: f64) -> f64 {
-        TITLE + 1.5 + LINE * self.broken(width).len() as f64
-    }
-
-    /// Each line with how it is drawn.
-    fn broken(&self, width: f64) -> Vec<(String, String)> {
-        let warning = format!("class=\"warning\" font-weight=\"bold\" fill=\"{WARNING}\"");
-        let about = self
-            .about
-            .iter()
-            .flat_map(|line| broken(line, TEXT, width, wide));
-        let about = about.map(|line| (line, "class=\"about\"".to_string()));
-        let warnings = self.warnings.iter();
-        let warnings = warnings.flat_map(|line| broken(line, TEXT, width, wide_bold));
-        let warnings = warnings.map(|line| (line, warning.clone()));
-        about.chain(warnings).collect()
-    }
-
-    pub fn draw(&self, at: Point, width: f64) -> String {
-        let mut y = at.y + 0.8 * TITLE;
-        let bold = "class=\"title\" font-weight=\"bold\"";
-        let mut svg = words(Point { x: at.x, y }, TITLE, bold, &self.title);
-        y += 1.5;
-        for (line, more) in self.broken(width) {
-            y += LINE;
-            svg.push_str(&words(Point { x: at.x, y }, TEXT, &more, &line));
-        }
-        svg
-    }
-}
-
-/// A line as several that are not wider.
-fn broken(line: &str, size: f64, width: f64, wide: fn(&str, f64) -> f64) -> Vec<String> {
-    let mut lines: Vec<String> = Vec::new();
-    for word in line.split(' ') {
-        match lines.last_mut() {
-            Some(last) if wide(&format!("{last} {word}"), size) < width => {
-                last.push(' ');
-                last.push_str(word);
-            }
-            _ => lines.push(word.to_string()),
-        }
-    }
-    lines
-}
 
 /// A sample and what it means.
 struct Sign {
@@ -121,6 +64,7 @@ impl Legend {
 
     pub fn height(&self, width: f64) -> f64 {
         let rows = flow(&self.signs, width).1 + columns(&self.bundles, width).1;
+        // The note may be longer: the margin has room for two lines more.
         LINE * (rows + self.said(width).len()) as f64 + LINE + 2.0
     }
 
@@ -138,14 +82,15 @@ impl Legend {
         for (list, places, below) in all {
             for (sign, (x, row)) in list.iter().zip(places) {
                 let y = at.y + LINE * ((row + below) as f64 + 0.5);
-                svg.push_str(&sign.draw(at.x + x, y));
+                svg.push_str(&sign.draw((at.x + x, y), width));
             }
         }
         let mut y = at.y + LINE * ((rows + more) as f64 + 0.5) + 0.35 * TEXT;
-        let said = self.said(width);
-        let said = said.iter().map(|line| ("class=\"joints\"", line.as_str()));
-        for (more, line) in said.chain([("class=\"note\"", note)]) {
-            svg.push_str(&words(Point { x: at.x, y }, NOTE, more, line));
+        let said = self.said(width).into_iter();
+        let said = said.map(|line| ("class=\"joints\"", line));
+        let note = broken(note, NOTE, width, wide).into_iter();
+        for (more, line) in said.chain(note.map(|line| ("class=\"note\"", line))) {
+            svg.push_str(&words(Point { x: at.x, y }, NOTE, more, &line));
             y += LINE;
         }
         svg + "</g>\n"
@@ -157,17 +102,26 @@ impl Sign {
         self.start + wide(&self.text, self.size) + 2.0 * GAP
     }
 
-    fn draw(&self, x: f64, y: f64) -> String {
-        let text = Point {
-            x: self.start,
-            y: 0.35 * self.size,
-        };
+    /// Its words, in several lines where they are wider than the page.
+    fn lines(&self, width: f64) -> Vec<String> {
+        broken(&self.text, self.size, width - self.start, wide)
+    }
+
+    fn draw(&self, (x, y): (f64, f64), width: f64) -> String {
+        let lines = self.lines(width).into_iter().enumerate();
+        let lines = lines.map(|(turn, line)| {
+            let text = Point {
+                x: self.start,
+                y: 0.35 * self.size + LINE * turn as f64,
+            };
+            words(text, self.size, "", &line)
+        });
         format!(
             "<g transform=\"translate({} {})\">\n{}{}</g>\n",
             mm(x),
             mm(y),
             self.sample,
-            words(text, self.size, "", &self.text)
+            lines.collect::<String>()
         )
     }
 }
@@ -182,6 +136,7 @@ fn flow(signs: &[Sign], width: f64) -> (Vec<(f64, usize)>, usize) {
         }
         places.push((x, row));
         x += sign.width();
+        row += sign.lines(width).len().max(1) - 1;
     }
     (places, if signs.is_empty() { 0 } else { row + 1 })
 }
@@ -190,10 +145,24 @@ fn flow(signs: &[Sign], width: f64) -> (Vec<(f64, usize)>, usize) {
 fn columns(signs: &[Sign], width: f64) -> (Vec<(f64, usize)>, usize) {
     let widest = signs.iter().map(Sign::width).fold(1.0, f64::max);
     let most = ((width + 2.0 * GAP) / widest).floor().max(1.0) as usize;
+    if most == 1 {
+        return one_below_the_other(signs, width);
+    }
     let rows = signs.len().div_ceil(most);
     let places = 0..signs.len();
     let places = places.map(|place| ((place / rows.max(1)) as f64 * widest, place % rows.max(1)));
     (places.collect(), rows)
+}
+
+/// The same in one column.
+fn one_below_the_other(signs: &[Sign], width: f64) -> (Vec<(f64, usize)>, usize) {
+    let mut row = 0;
+    let places = signs.iter().map(|sign| {
+        let at = row;
+        row += sign.lines(width).len();
+        (0.0, at)
+    });
+    (places.collect(), row)
 }
 
 fn bundle(scene: &Scene, place: usize, trunk: &Trunk, size: f64) -> Sign {
@@ -203,7 +172,7 @@ fn bundle(scene: &Scene, place: usize, trunk: &Trunk, size: f64) -> Sign {
         Role::Output => "output",
     };
     let inside = if trunk.interior { "interior" } else { "rail" };
-    let called = scene.names.of(scene.records.trunks[place].item);
+    let called = scene.names.said(scene.records.trunks[place].item);
     let called = called.map(|name| format!("{name}: ")).unwrap_or_default();
     let way = way(scene, place, trunk);
     let line = heavy([(0.0, 0.0), (SAMPLE, 0.0)], place);
@@ -222,18 +191,18 @@ fn bundle(scene: &Scene, place: usize, trunk: &Trunk, size: f64) -> Sign {
 /// A node's id, and its name beside it.
 fn node(scene: &Scene, place: usize) -> Option<Sign> {
     let id = scene.nodes[place].id;
-    let name = scene.names.of(scene.records.nodes[place].item)?;
+    let name = scene.names.said(scene.records.nodes[place].item)?;
     let middle = Point {
         x: SAMPLE / 2.0,
         y: 0.35 * TEXT,
     };
-    let more = "font-weight=\"bold\" text-anchor=\"middle\"";
-    let id = words(middle, TEXT, more, &id.to_string());
+    let more = format!("{BOLD} text-anchor=\"middle\"");
+    let id = words(middle, TEXT, &more, &id.to_string());
     Some(Sign {
         sample: BOX.to_string() + &id,
         start: SAMPLE + GAP,
         size: TEXT,
-        text: name.to_string(),
+        text: name,
     })
 }
 
@@ -260,12 +229,17 @@ fn way(scene: &Scene, place: usize, trunk: &Trunk) -> String {
     // Members may share one.
     let ports = ports.filter(|port| seen.insert(port.clone()));
     let ports = ports.collect::<Vec<_>>();
+    let end = name(trunk.endpoint);
+    if ports.is_empty() {
+        return format!("{end}, no members");
+    }
+    // One more takes no more room than saying so.
     let more = ports.len().saturating_sub(MOST_PORTS);
+    let more = if more == 1 { 0 } else { more };
     let mut named = ports[..ports.len() - more].join(", ");
     if more > 0 {
         named.push_str(&format!(" and {more} more"));
     }
-    let end = name(trunk.endpoint);
     match trunk.role {
         Role::Input => format!("{end} \u{2192} {named}"),
         Role::Output => format!("{named} \u{2192} {end}"),

@@ -9,7 +9,7 @@ use super::paths::flat;
 use super::scene::Scene;
 use super::stroke::{Stroke, apart};
 use super::white::WHITE;
-use super::xml::{escaped, mm, wide_bold, words};
+use super::xml::{BOLD, escaped, mm, wide_bold, words};
 use crate::loose::{End, Loose};
 
 /// How far the arms of a cross reach, at most and at least.
@@ -146,7 +146,7 @@ impl Cross<'_> {
         if let Some((said, spot)) = &self.said {
             let middle = moved(spot.rect.middle(), 0.0, 0.35 * spot.size);
             let more = format!(
-                "text-anchor=\"middle\" font-weight=\"bold\" fill=\"{WARNING}\" stroke=\"white\" \
+                "text-anchor=\"middle\" {BOLD} fill=\"{WARNING}\" stroke=\"white\" \
                  stroke-width=\"0.6\" paint-order=\"stroke\""
             );
             svg.push_str(&words(middle, spot.size, &more, said));

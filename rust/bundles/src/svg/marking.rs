@@ -7,10 +7,10 @@
 
 use super::field::Rect;
 use super::palette::{Mark, mark};
-use super::paths::gaps;
+use super::paths::{INSIDE, gaps};
 use super::spans::Way;
 use super::stroke::{Gap, Piece, Stroke};
-use super::white::{KEPT, NEARLY};
+use super::white::{LEFT, NEARLY};
 use super::xml::place;
 
 /// Full ink before and behind a mark, in widths of the trunk.
@@ -20,26 +20,32 @@ const FULL: f64 = 0.4;
 const LONG: f64 = 2.0;
 
 /// How much of a trunk's length is left between two lines that go over it, in millimetres.
-pub fn least(mark: Mark, width: f64) -> f64 {
+fn least(mark: Mark, width: f64) -> f64 {
     let marked = match mark {
         Mark::Plain => 0.0,
         Mark::Dashed(dashes) => dashes.core() + 2.0 * FULL,
     };
-    (width * LONG.max(marked)).max(KEPT)
+    width * LONG.max(marked)
 }
 
 /// The least from one line to the next that go over a trunk: what is left between their gaps, and a gap.
 pub fn pitch(mark: Mark, width: f64) -> f64 {
-    least(mark, width) + GAP
+    least(mark, width).max(LEFT * GAP) + GAP
 }
 
-/// The gap of a trunk under the arch of a route, at most.
-const GAP: f64 = 1.05;
+/// The same of those that go over a route.
+pub fn over_route() -> f64 {
+    LEFT * GAP + GAP
+}
 
-/// What is left of any stroke between two that go over it.
-pub fn kept(stroke: &Stroke) -> f64 {
+/// The gap of a line under the arch of a route, at most, with what one of two arches is higher than the other.
+const GAP: f64 = 1.1;
+
+/// What is left of a stroke between two gaps of it.
+pub fn kept(stroke: &Stroke, gaps: [&Gap; 2]) -> f64 {
     let of_trunk = |place| least(mark(place), stroke.width);
-    stroke.bundle.map_or(KEPT, of_trunk)
+    let longest = gaps[0].length().max(gaps[1].length());
+    stroke.bundle.map_or(0.0, of_trunk).max(LEFT * longest)
 }
 
 /// The marks on a trunk's strokes as a path, its spine coming first. What is covered, as by a label or a dot, is
@@ -83,7 +89,8 @@ fn seen(stroke: &Stroke, turn: usize, covered: &[Rect]) -> Vec<Gap> {
     });
     let mut holes = gaps(stroke, turn);
     holes.extend(arches);
-    holes.extend(covered.iter().filter_map(|rect| under(&piece, rect)));
+    let half = INSIDE * stroke.width / 2.0;
+    holes.extend(covered.iter().filter_map(|rect| under(&piece, half, rect)));
     holes.sort_by(|a, b| a.from.total_cmp(&b.from));
     let mut seen = Vec::new();
     let mut from = 0.0;
@@ -100,10 +107,10 @@ fn seen(stroke: &Stroke, turn: usize, covered: &[Rect]) -> Vec<Gap> {
     seen
 }
 
-/// What is covered of a level or upright piece.
-fn under(piece: &Piece, rect: &Rect) -> Option<Gap> {
+/// What is covered of the marks of a level or upright piece, which have this half width.
+fn under(piece: &Piece, half: f64, rect: &Rect) -> Option<Gap> {
     let way = Way::of(piece.start, piece.end)?;
-    let (low, high) = (way.across(rect.low), way.across(rect.high));
+    let (low, high) = (way.across(rect.low) - half, way.across(rect.high) + half);
     if !(low..=high).contains(&way.across(piece.start)) {
         return None;
     }

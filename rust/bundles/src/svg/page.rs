@@ -54,6 +54,15 @@ struct Extent {
 }
 
 impl Page {
+    /// The paper that it is for, across and down.
+    pub fn paper(&self) -> [f64; 2] {
+        let both = PAPERS
+            .into_iter()
+            .flat_map(|(long, short)| [[long, short], [short, long]]);
+        let mut fit = both.filter(|[across, down]| *across == self.width && self.height <= *down);
+        fit.next().unwrap_or([self.width, self.height])
+    }
+
     /// A page of the paper with this place, lying or standing, whichever has the sheet larger; no
     /// higher than it has to be. `head` and `foot` say how high the words above and below are on a
     /// page of some width.
@@ -66,19 +75,14 @@ impl Page {
         let extent = extent(scene);
         let size = [extent.high.x - extent.low.x, extent.high.y - extent.low.y];
         let wanted = wanted(scene, paper, size);
-        let fit = |(width, height): (f64, f64)| {
+        let (long, short) = PAPERS[paper];
+        let [lying, standing] = [(long, short), (short, long)].map(|(width, height)| {
             let inner = width - 2.0 * MARGIN;
             let used = 2.0 * MARGIN + 2.0 * RIM + head(inner) + foot(inner);
             let room = [inner - 2.0 * RIM, (height - used).max(40.0)];
-            let parts = [0, 1].map(|way| (room[way] / size[way]).min(MOST));
-            let even = parts[0].min(parts[1]);
-            let even = if even < MOST { even } else { 1.0 };
-            // One direction is stretched against the other, to get there.
-            let scale = [0, 1].map(|way| wanted[way].min(parts[way]).max(even));
+            let (even, scale) = scales(size, room, wanted);
             (width, even, scale)
-        };
-        let (long, short) = PAPERS[paper];
-        let [lying, standing] = [(long, short), (short, long)].map(fit);
+        });
         let (width, _, scale) = if standing.1 > lying.1 {
             standing
         } else {
@@ -155,6 +159,16 @@ impl Page {
             y: self.corner.y + (point.y - self.low.y) * self.scale[1],
         }
     }
+}
+
+/// The scale that has all of the sheet in the room; and those across and down, which may be larger: one direction
+/// is stretched against the other, to get to what is wanted.
+fn scales(size: [f64; 2], room: [f64; 2], wanted: [f64; 2]) -> (f64, [f64; 2]) {
+    let parts = [0, 1].map(|way| (room[way] / size[way]).min(MOST));
+    let even = parts[0].min(parts[1]);
+    let even = if even < MOST { even } else { 1.0 };
+    let scale = [0, 1].map(|way| wanted[way].min(parts[way]).max(even));
+    (even, scale)
 }
 
 /// What the scale would have to be across and down so that lines are as far apart as wanted: most of

@@ -229,4 +229,4 @@ pub fn marked(
 }
 
 /// How wide the white of a mark is, in widths of its trunk.
-const INSIDE: f64 = 0.36;
+pub const INSIDE: f64 = 0.36;

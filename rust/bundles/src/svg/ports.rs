@@ -2,6 +2,8 @@
 
 use bundle_stage::{Endpoint, Point};
 
+use crate::signs::isolated;
+
 use super::field::Rect;
 use super::paths::flat;
 use super::pens::Pens;
@@ -136,7 +138,7 @@ fn own(scene: &Scene, what: What<'_>, port: &Port) -> bool {
 }
 
 /// How far a line is from a box, 0 where some of it is inside.
-fn far(around: &Rect, piece: &Piece) -> f64 {
+pub fn far(around: &Rect, piece: &Piece) -> f64 {
     let Rect { low, high } = *around;
     let point = Rect::of(piece.start, piece.start, 0.0);
     if point.within(around) {
@@ -218,7 +220,7 @@ fn name(scene: &Scene, what: What<'_>) -> String {
 }
 
 fn called(what: String, name: Option<&str>) -> String {
-    match name {
+    match name.map(isolated) {
         Some(name) => format!("{what} ({name})"),
         None => what,
     }

@@ -2,15 +2,15 @@
 
 use bundle_stage::{Attempt, Board, Place, Plan, Refusal, Refused, locate, locate_planned};
 
-use crate::loose::as_given;
+use crate::loose::on_board;
 use crate::names::Names;
 
-use super::legend::Head;
+use super::head::Head;
 use super::palette::GREY;
 use super::said::{first, not_joined};
 use super::scene::{Mark, Scene};
 use super::tried::Tried;
-use super::{picture, ports};
+use super::{Planned, picture, ports};
 
 /// Above the limits of a job, so that only a refused one has more: its routes are then left out, as
 /// the cost of drawing them apart grows with the square.
@@ -24,14 +24,14 @@ pub fn svg_refused(board: &Board, refusal: Refusal, names: &Names, title: &str) 
     shown(board, (refusal, refused), || board.attempt(), names, title)
 }
 
-/// The same of a board that was refused where it was drawn from a plan, by the plan's bytes.
-pub fn svg_refused_from(
-    board: &Board,
-    refusal: Refusal,
-    plan: &[u8],
-    names: &Names,
-    title: &str,
-) -> String {
+/// The same of a board that was refused where it was drawn from a plan.
+pub fn svg_refused_from(planned: &Planned<'_>, refusal: Refusal) -> String {
+    let Planned {
+        board,
+        plan,
+        names,
+        title,
+    } = *planned;
     let job = board.to_bytes().ok();
     let refused = job.and_then(|job| locate_planned(&job, plan));
     let attempt = || board.attempt_from(&Plan::from_bytes(plan).ok()?);
@@ -53,7 +53,7 @@ fn shown(
         warnings.extend(here(&refused, names));
         scene.tried = attempt().and_then(|attempt| Tried::of(board, &attempt));
     }
-    scene.records.loose = as_given(board);
+    scene.records.loose = on_board(board);
     warnings.extend(not_joined(&scene));
     let contacts = ports::contacts(&scene).collect::<Vec<_>>();
     let said = contacts.iter().map(|(_, words)| words.clone());

@@ -8,7 +8,7 @@ use super::paths::{line, marked, path};
 use super::pens::Pens;
 use super::scene::{MARK, Port, Route, Scene, Tap};
 use super::stroke::{Stroke, halves};
-use super::xml::{escaped, mm, wide_bold, words};
+use super::xml::{BOLD, escaped, mm, wide_bold, words};
 
 fn name(endpoint: Endpoint) -> String {
     format!("{}:{}", endpoint.node, endpoint.port)
@@ -16,8 +16,8 @@ fn name(endpoint: Endpoint) -> String {
 
 /// A name behind an id, where there is one.
 fn called(scene: &Scene, item: Item) -> String {
-    let name = scene.names.of(item);
-    name.map(|name| format!(" {}", escaped(name)))
+    let name = scene.names.said(item);
+    name.map(|name| format!(" {}", escaped(&name)))
         .unwrap_or_default()
 }
 
@@ -35,8 +35,6 @@ pub fn nodes(scene: &Scene, pens: &Pens, ink: &str) -> String {
             width,
             height,
         } = node;
-        // A side of no length would not show.
-        let (width, height) = (width.max(0.4), height.max(0.4));
         svg.push_str(&format!(
             "<g class=\"node\" id=\"{}\"><title>node {id}{}</title><rect x=\"{}\" y=\"{}\" \
              width=\"{}\" height=\"{}\"/></g>\n",
@@ -44,8 +42,8 @@ pub fn nodes(scene: &Scene, pens: &Pens, ink: &str) -> String {
             called(scene, record.item),
             mm(*x),
             mm(*y),
-            mm(width),
-            mm(height)
+            mm(*width),
+            mm(*height)
         ));
     }
     svg + "</g>\n"
@@ -118,8 +116,10 @@ fn bundle(
     let covered = covered.iter().copied().chain(dots).collect::<Vec<_>>();
     let taps = taps.map(|tap| dot(tap, pens, colour(place)));
     format!(
-        "<g class=\"bundle\" id=\"{}\"><title>bundle {}{} at {}</title>\n{}{}</g>\n",
+        "<g class=\"bundle\" id=\"{}\" data-joint=\"{} {}\"><title>bundle {}{} at {}</title>\n{}{}</g>\n",
         record.key,
+        mm(trunk.collector.start.x),
+        mm(trunk.spine.end.y),
         trunk.id,
         called(scene, record.item),
         name(trunk.endpoint),
@@ -198,7 +198,7 @@ pub fn marks(scene: &Scene, width: f64) -> String {
         };
         let beside = moved(mark.at, 0.8 * side * MARK, -0.8 * MARK);
         let more = format!(
-            "text-anchor=\"{anchor}\" font-weight=\"bold\" fill=\"{WARNING}\" stroke=\"white\" \
+            "text-anchor=\"{anchor}\" {BOLD} fill=\"{WARNING}\" stroke=\"white\" \
              stroke-width=\"0.6\" paint-order=\"stroke\""
         );
         let rect = Rect::of(beside, moved(beside, side * long, -size), 0.0);

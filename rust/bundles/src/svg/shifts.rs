@@ -112,6 +112,10 @@ fn turn_apart(lines: &Lines<'_>, shifted: &mut [Vec<Point>], pitch: f64) {
             let of = of.iter().filter(beside);
             of.map(|(_, span)| span.at).collect::<Vec<_>>()
         });
+        let pitch = match turn.way {
+            Way::Level => pitch.max(lines.over_routes),
+            Way::Upright => pitch,
+        };
         let at = turn.place(&others, &before, pitch);
         for corner in &mut shifted[turn.route][turn.at..=turn.at + 1] {
             match turn.way {

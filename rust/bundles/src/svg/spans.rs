@@ -58,6 +58,19 @@ impl Way {
         })
     }
 
+    /// Where lines of this way turn straight back, as a line of the other way that has no length.
+    pub fn turn(self, three: &[Point]) -> Option<Span> {
+        let [a, b, c] = three else { return None };
+        let at = Span {
+            at: self.along(*b),
+            low: self.across(*b),
+            high: self.across(*b),
+        };
+        let both = [Way::of(*a, *b), Way::of(*b, *c)] == [Some(self); 2];
+        let ahead = [(a, b), (b, c)].map(|(from, to)| self.along(*to) > self.along(*from));
+        (both && ahead[0] != ahead[1]).then_some(at)
+    }
+
     /// Those of the lines that go this way.
     pub fn spans(self, lines: &[(Point, Point)]) -> Vec<Span> {
         let spans = lines.iter().filter_map(|(a, b)| self.span(*a, *b));
@@ -73,6 +86,21 @@ impl Span {
 }
 
 impl Span {
+    /// Whether it goes over a line of the other way, or over its end, or misses that by `slack`. Its own ends do
+    /// not count.
+    pub fn goes_over(&self, under: &Span, slack: f64) -> bool {
+        let along = self.low < under.at && under.at < self.high;
+        along && under.low - slack <= self.at && self.at <= under.high + slack
+    }
+
+    /// Whether it ends, or nearly, on a line of the other way that goes on to both sides, or has no length.
+    pub fn ends_on(&self, under: &Span, slack: f64) -> bool {
+        let ends = [self.low, self.high];
+        let passed = under.low + slack < self.at && self.at < under.high - slack;
+        let turned = under.low == under.high && (self.at - under.low).abs() <= slack;
+        (passed || turned) && ends.iter().any(|end| (end - under.at).abs() <= slack)
+    }
+
     /// Whether a line of the other way crosses it, ends not counting.
     pub fn crosses(&self, other: &Span) -> bool {
         self.low < other.at && other.at < self.high && other.low < self.at && self.at < other.high

@@ -81,6 +81,7 @@ impl Needs {
         let all = beside(&all)
             .chain(needs.runs(scene, lines))
             .chain(needs.over_trunks(scene, lines))
+            .chain(needs.over_routes(scene, lines))
             .chain(needs.ids(scene, lines));
         let mut most = needs.ports(scene, lines);
         for (pair, far) in all {
@@ -132,18 +133,39 @@ impl Needs {
                 let Some(part) = way.other().span(a, b) else {
                     continue;
                 };
-                let mut over = BTreeMap::<usize, f64>::new();
-                for span in spans.iter().filter(|span| span.crosses(&part)) {
-                    *over.entry(self.number(span.at)).or_default() += 1.0;
-                }
-                let over = over.into_iter().collect::<Vec<_>>();
-                needs.extend(over.windows(2).map(|two| {
-                    let [(low, first), (high, last)] = [two[0], two[1]];
-                    ((low, high), pitch * (first + last) / 2.0)
-                }));
+                needs.extend(self.over(&spans, &part, pitch));
             }
         }
         needs
+    }
+
+    /// The same of level runs of routes that go over an upright one.
+    fn over_routes(&self, scene: &Scene, way: Way) -> Vec<Need> {
+        if way == Way::Upright {
+            return Vec::new();
+        }
+        let runs = scene.routes.iter();
+        let runs = runs.flat_map(|route| route.points.windows(2));
+        let runs = runs.map(|run| (run[0], run[1])).collect::<Vec<_>>();
+        let spans = way.spans(&runs);
+        let uprights = way.other().spans(&runs);
+        let needs = uprights.iter();
+        let needs = needs.flat_map(|part| self.over(&spans, part, marking::over_route()));
+        needs.collect()
+    }
+
+    /// How far the lines that go over a part are to be from each other, so many for each lane.
+    fn over(&self, spans: &[Span], part: &Span, pitch: f64) -> Vec<Need> {
+        let mut over = BTreeMap::<usize, f64>::new();
+        for span in spans.iter().filter(|span| span.goes_over(part, 0.0)) {
+            *over.entry(self.number(span.at)).or_default() += 1.0;
+        }
+        let over = over.into_iter().collect::<Vec<_>>();
+        let needs = over.windows(2).map(|two| {
+            let [(low, first), (high, last)] = [two[0], two[1]];
+            ((low, high), pitch * (first + last) / 2.0)
+        });
+        needs.collect()
     }
 
     /// How far ports are to be from lines and ends beside them, by the numbers of their places.
@@ -304,14 +326,25 @@ fn lane(scene: &Scene, way: Way, span: &Span) -> f64 {
         let crossed = parts.any(|part| span.crosses(&part));
         crossed.then(|| marking::pitch(mark(place), HEAVIEST))
     });
+    let mut uprights = scene.routes.iter().flat_map(|route| {
+        let runs = route.points.windows(2);
+        let turns = route.points.windows(3);
+        let runs = runs.filter_map(|run| Way::Upright.span(run[0], run[1]));
+        runs.chain(turns.filter_map(|three| Way::Level.turn(three)))
+    });
+    let over_route = way == Way::Level
+        && uprights.any(|part| span.goes_over(&part, 0.0) || span.ends_on(&part, 0.0));
+    let over_route = over_route.then(marking::over_route);
     // Lanes take at most nine tenths of what is beside them.
-    over.fold(LANE, |most, pitch| most.max(pitch / 0.9))
+    let all = over.chain(over_route);
+    all.fold(LANE, |most, pitch| most.max(pitch / 0.9))
 }
 
 /// How many lines lie on a line, or on one that lies on it.
 fn lanes(line: &Line, lines: &[Line]) -> f64 {
     let from = lines.partition_point(|other| other.at < line.at);
     let same = lines[from..].iter().take_while(|other| other.at == line.at);
-    let on = same.filter(|other| other.span.low < other.span.high && other.beside(line));
+    let on = same.filter(|other| other.span.low < other.span.high);
+    let on = on.filter(|other| other.span.beside(&line.span, 1e-9));
     (on.count() as f64 - 1.0).max(0.0)
 }

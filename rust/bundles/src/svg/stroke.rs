@@ -26,11 +26,24 @@ pub struct Arch {
     pub rise: f64,
 }
 
+impl Arch {
+    /// Whether it goes over a line at this place.
+    pub fn holds(&self, at: f64) -> bool {
+        self.first <= at && at <= self.last
+    }
+}
+
 /// Distances from the start of a piece.
 #[derive(Clone, Copy)]
 pub struct Gap {
     pub from: f64,
     pub to: f64,
+}
+
+impl Gap {
+    pub fn length(&self) -> f64 {
+        self.to - self.from
+    }
 }
 
 /// A piece of a stroke.
@@ -157,60 +170,53 @@ fn outside(stroke: &Stroke, turn: usize, from: f64) -> f64 {
 
 /// A stroke in two, near the middle of its length and outside every arch and gap.
 pub fn halves(stroke: &Stroke) -> (Stroke, Stroke) {
+    let (corners, arches) = (&stroke.corners, &stroke.arches);
+    let new = |corners: &[&[Point]]| Stroke::new(corners.concat(), stroke.width, stroke.bundle);
+    if arches.is_empty() {
+        return (new(&[corners]), new(&[corners]));
+    }
+    let (turn, wanted) = middle(stroke);
+    let piece = stroke.piece(turn);
+    let cut = outside(stroke, turn, wanted.clamp(0.0, piece.length()));
+    let at = piece.at(cut, 0.0);
+    let mut first = new(&[&corners[..=turn], &[at]]);
+    let mut rest = new(&[&[at], &corners[turn + 1..]]);
+    first.arches[..turn].clone_from_slice(&arches[..turn]);
+    first.gaps[..turn].clone_from_slice(&stroke.gaps[..turn]);
+    rest.arches[1..].clone_from_slice(&arches[turn + 1..]);
+    rest.gaps[1..].clone_from_slice(&stroke.gaps[turn + 1..]);
+    let (before, behind) = arches[turn].iter().partition(|arch| arch.to <= cut);
+    first.arches[turn] = before;
+    rest.arches[0] = behind;
+    for arch in &mut rest.arches[0] {
+        for at in [
+            &mut arch.from,
+            &mut arch.first,
+            &mut arch.last,
+            &mut arch.to,
+        ] {
+            *at -= cut;
+        }
+    }
+    let shifted = |gap: &Gap, low: f64, high: f64| Gap {
+        from: gap.from.max(low) - low,
+        to: gap.to.min(high) - low,
+    };
+    let gaps = stroke.gaps[turn].iter();
+    let before = gaps.clone().filter(|gap| gap.from < cut);
+    first.gaps[turn].extend(before.map(|gap| shifted(gap, 0.0, cut)));
+    let behind = gaps.filter(|gap| gap.to > cut);
+    rest.gaps[0].extend(behind.map(|gap| shifted(gap, cut, f64::INFINITY)));
+    (first, rest)
+}
+
+/// The piece in which the middle of a stroke's length is, and how far along it that is.
+fn middle(stroke: &Stroke) -> (usize, f64) {
     let half = stroke.pieces().map(|piece| piece.length()).sum::<f64>() / 2.0;
     let (mut before, mut turn) = (0.0, 0);
     while turn + 1 < stroke.arches.len() && before + stroke.piece(turn).length() < half {
         before += stroke.piece(turn).length();
         turn += 1;
     }
-    let Stroke {
-        corners,
-        arches,
-        gaps,
-        width,
-        bundle,
-    } = stroke;
-    let new = |corners: &[&[Point]]| Stroke::new(corners.concat(), *width, *bundle);
-    if arches.is_empty() {
-        return (new(&[corners]), new(&[corners]));
-    }
-    let piece = stroke.piece(turn);
-    let wanted = (half - before).clamp(0.0, piece.length());
-    let cut = outside(stroke, turn, wanted);
-    let at = piece.at(cut, 0.0);
-    let mut first = new(&[&corners[..=turn], &[at]]);
-    let mut rest = new(&[&[at], &corners[turn + 1..]]);
-    let whole = first.arches.len() - 1;
-    first.arches[..whole].clone_from_slice(&arches[..whole]);
-    first.gaps[..whole].clone_from_slice(&gaps[..whole]);
-    rest.arches[1..].clone_from_slice(&arches[turn + 1..]);
-    rest.gaps[1..].clone_from_slice(&gaps[turn + 1..]);
-    for arch in &arches[turn] {
-        if arch.to <= cut {
-            first.arches[turn].push(*arch);
-        } else {
-            rest.arches[0].push(Arch {
-                from: arch.from - cut,
-                first: arch.first - cut,
-                last: arch.last - cut,
-                to: arch.to - cut,
-                rise: arch.rise,
-            });
-        }
-    }
-    for Gap { from, to } in gaps[turn].iter().copied() {
-        if from < cut {
-            first.gaps[turn].push(Gap {
-                from,
-                to: to.min(cut),
-            });
-        }
-        if to > cut {
-            rest.gaps[0].push(Gap {
-                from: (from - cut).max(0.0),
-                to: to - cut,
-            });
-        }
-    }
-    (first, rest)
+    (turn, half - before)
 }

@@ -3,12 +3,14 @@
 use bundle_stage::{Attempt, Board, DrawnBundle, Id, Point, Segment};
 
 use crate::names::Names;
+use crate::signs::isolated;
 
 use super::field::{Rect, moved};
+use super::page::MARGIN;
 use super::palette::{GREY, WARNING};
 use super::scene::{MARK, shown};
 use super::shapes::ring;
-use super::xml::{escaped, mm, place, wide_bold, words};
+use super::xml::{BOLD, cut, escaped, mm, place, wide_bold, words};
 
 /// The refused bundle as it was to be drawn.
 #[derive(Clone)]
@@ -82,7 +84,7 @@ impl Tried {
 
     /// The bundle's name behind its id.
     fn name(&self, names: &Names) -> String {
-        let name = names.bundle(self.id);
+        let name = names.bundle(self.id).map(isolated);
         name.map(|name| format!(" {name}")).unwrap_or_default()
     }
 
@@ -181,14 +183,18 @@ fn led(board: &Board, attempt: &Attempt, edge: Id) -> Vec<Segment> {
 /// Words to the right of a place, or to its left where the page ends, and where they are.
 fn beside(at: Point, said: &str, width: f64) -> (String, Rect) {
     let long = wide_bold(said, SIZE);
-    let (side, anchor) = if at.x + MARK + long < width {
-        (1.0, "start")
+    let rooms = [width - at.x, at.x].map(|room| room - 1.2 * MARK - MARGIN / 2.0);
+    let (side, anchor, room) = if long < rooms[0] || rooms[0] > rooms[1] {
+        (1.0, "start", rooms[0])
     } else {
-        (-1.0, "end")
+        (-1.0, "end", rooms[1])
     };
+    // The whole name is there under the pointer.
+    let said = &cut(said, SIZE, room);
+    let long = wide_bold(said, SIZE);
     let at = moved(at, 1.2 * side * MARK, 0.0);
     let more = format!(
-        "text-anchor=\"{anchor}\" font-weight=\"bold\" fill=\"{WARNING}\" stroke=\"white\" \
+        "text-anchor=\"{anchor}\" {BOLD} fill=\"{WARNING}\" stroke=\"white\" \
          stroke-width=\"0.6\" paint-order=\"stroke\""
     );
     let rect = Rect::of(at, moved(at, side * long, -SIZE), 0.0);

@@ -27,6 +27,23 @@ impl Walk<'_> {
         self.corners[self.at]
     }
 
+    fn behind(&self) -> Point {
+        let at = if self.forward {
+            self.at - 1
+        } else {
+            self.at + 1
+        };
+        self.corners[at]
+    }
+
+    fn step(&mut self) {
+        self.at = if self.forward {
+            self.at + 1
+        } else {
+            self.at - 1
+        };
+    }
+
     /// −1 where it turns left here, seen in the direction of the walk, 1 where it turns right.
     fn turn(&self, toward: Point) -> i32 {
         let Some(next) = self.corner(1) else {
@@ -44,15 +61,7 @@ pub fn side<'a>(way: Way, mut a: Walk<'a>, mut b: Walk<'a>) -> i32 {
     let sign = |walk: &Walk<'_>, way: Way, from: Point| {
         (way.along(walk.here()) - way.along(from)).signum()
     };
-    let behind = |walk: &Walk<'_>| {
-        let at = if walk.forward {
-            walk.at - 1
-        } else {
-            walk.at + 1
-        };
-        walk.corners[at]
-    };
-    let mut toward = unit(way, sign(&a, way, behind(&a)));
+    let mut toward = unit(way, sign(&a, way, a.behind()));
     loop {
         let ahead = |walk: &Walk<'_>| walk.here().x * toward.x + walk.here().y * toward.y;
         let gap = ahead(&a) - ahead(&b);
@@ -74,13 +83,8 @@ pub fn side<'a>(way: Way, mut a: Walk<'a>, mut b: Walk<'a>) -> i32 {
         else {
             return 0;
         };
-        for walk in [&mut a, &mut b] {
-            walk.at = if walk.forward {
-                walk.at + 1
-            } else {
-                walk.at - 1
-            };
-        }
+        a.step();
+        b.step();
         toward = unit(way, sign(&a, way, from));
     }
 }

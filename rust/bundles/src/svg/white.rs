@@ -10,7 +10,7 @@ use super::pens::Pens;
 use super::ports::{ends, touched};
 use super::scene::{MARK, Port, Route, Scene, Tap, Trunk};
 use super::spans::Way;
-use super::stroke::{Piece, Stroke, apart};
+use super::stroke::{Gap, Piece, Stroke, apart};
 
 /// The white between two lines that do not join is never less, in millimetres: 0.2, and what the
 /// rounding of the file's numbers may take.
@@ -19,12 +19,14 @@ pub const WHITE: f64 = 0.23;
 pub const NEARLY: f64 = 0.005;
 /// Between the trunks of two bundles on one line, which would otherwise look like one.
 const IN_LINE: f64 = 1.0;
-/// What a line keeps between two that go over it.
-pub const KEPT: f64 = 0.5;
+/// What is left of a line between two gaps is at least so many times as long as each of them: it reads as one
+/// line, and not as dashes.
+pub const LEFT: f64 = 1.5;
 /// No line goes unseen under others for longer.
 const TUNNEL: f64 = 4.0;
-/// How far a dot is seen on each side of its trunk.
-pub const SEEN: f64 = 0.12;
+/// How far a dot is seen on each side of its trunk and its route, and how many times as wide as these it is.
+const SEEN: f64 = 0.12;
+const WIDER: f64 = 1.5;
 /// Around a dot or a port its own lines may be near to each other.
 const AROUND: f64 = 0.28;
 
@@ -90,6 +92,16 @@ pub fn unclear(scene: &Scene, strokes: &[Stroke], pens: &Pens) -> Option<String>
         .or_else(|| touched(scene, strokes))
 }
 
+/// The radius from which on a dot is seen on a line of this width.
+fn least_dot(width: f64) -> f64 {
+    (width / 2.0 + SEEN).max(WIDER * width / 2.0)
+}
+
+/// The width up to which a dot of this radius is seen on a line.
+pub fn most_under(radius: f64) -> f64 {
+    (2.0 * (radius - SEEN)).min(2.0 * radius / WIDER)
+}
+
 /// A tap whose dot is lost in its trunk or its route.
 fn dots(scene: &Scene, pens: &Pens) -> Option<String> {
     let taps = scene.trunks.iter().flat_map(|trunk| {
@@ -98,7 +110,7 @@ fn dots(scene: &Scene, pens: &Pens) -> Option<String> {
     });
     let lost = |(trunk, tap): &(&Trunk, &Tap)| {
         let most = if tap.held { trunk.weight } else { 0.0 };
-        tap.radius < most.max(pens.route) / 2.0 + SEEN - 1e-9
+        tap.radius < least_dot(most.max(pens.route)) - 1e-9
     };
     let (trunk, tap) = taps.into_iter().find(lost)?;
     let (edge, bundle) = (tap.edge, trunk.id);
@@ -115,22 +127,23 @@ fn kept(scene: &Scene, strokes: &[Stroke]) -> Option<String> {
 }
 
 fn in_dashes(stroke: &Stroke) -> bool {
-    let least = marking::kept(stroke);
-    // What is left behind the last gap so far.
-    let mut before: Option<f64> = None;
+    // The last gap so far, and what is left behind it.
+    let mut before: Option<(Gap, f64)> = None;
     (0..stroke.arches.len()).any(|turn| {
         let gaps = gaps(stroke, turn);
         // A bend is shorter than its corner.
-        let around = gaps.first().zip(before);
-        let corner = around.is_some_and(|(gap, before)| before + gap.from < 1.3 * least);
+        let around = before.zip(gaps.first());
+        let corner = around.is_some_and(|((last, left), gap)| {
+            left + gap.from < 1.3 * marking::kept(stroke, [&last, gap])
+        });
         let length = stroke.piece(turn).length();
-        let last = gaps.last().map(|gap| length - gap.to);
-        before = last.or(before.map(|before| before + length));
-        corner
-            || gaps
-                .windows(2)
-                .any(|two| two[1].from - two[0].to < least - 1e-9)
-            || gaps.iter().any(|gap| gap.to - gap.from > TUNNEL)
+        let last = gaps.last().map(|gap| (*gap, length - gap.to));
+        before = last.or(before.map(|(gap, left)| (gap, left + length)));
+        let between = |two: &[Gap]| {
+            let least = marking::kept(stroke, [&two[0], &two[1]]);
+            two[1].from - two[0].to < least - 1e-9
+        };
+        corner || gaps.windows(2).any(between) || gaps.iter().any(|gap| gap.length() > TUNNEL)
     })
 }
 
@@ -292,7 +305,6 @@ fn name_of(scene: &Scene, place: Option<usize>) -> String {
 
 #[cfg(test)]
 mod tests {
-    use super::super::stroke::Gap;
     use super::*;
 
     /// A line 10 to the right, `down` and to the right again, with gaps in each part.
@@ -308,13 +320,17 @@ mod tests {
 
     #[test]
     fn what_is_left_between_gaps() {
-        assert!(!under(5.0, [&[(1.0, 2.0), (2.6, 4.0)], &[], &[]]));
-        assert!(under(5.0, [&[(1.0, 2.0), (2.4, 4.0)], &[], &[]]));
+        assert!(!under(5.0, [&[(1.0, 2.0), (3.5, 4.5)], &[], &[]]));
+        assert!(under(5.0, [&[(1.0, 2.0), (3.4, 4.4)], &[], &[]]));
+        assert!(
+            under(5.0, [&[(1.0, 2.0), (3.5, 4.6)], &[], &[]]),
+            "the longer gap"
+        );
         assert!(under(5.0, [&[(1.0, 5.5)], &[], &[]]), "unseen for too long");
         // Around one corner, and around two.
-        assert!(!under(5.0, [&[(9.0, 9.6)], &[(0.4, 1.0)], &[]]));
-        assert!(under(5.0, [&[(9.0, 9.8)], &[(0.2, 1.0)], &[]]));
-        assert!(!under(0.5, [&[(9.0, 9.8)], &[], &[(0.2, 1.0)]]));
-        assert!(under(0.2, [&[(9.0, 9.8)], &[], &[(0.2, 1.0)]]));
+        assert!(!under(5.0, [&[(8.0, 9.0)], &[(1.0, 2.0)], &[]]));
+        assert!(under(5.0, [&[(8.0, 9.0)], &[(0.9, 1.9)], &[]]));
+        assert!(!under(1.0, [&[(8.5, 9.5)], &[], &[(0.5, 1.5)]]));
+        assert!(under(0.9, [&[(8.5, 9.5)], &[], &[(0.5, 1.5)]]));
     }
 }

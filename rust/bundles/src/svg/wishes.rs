@@ -8,6 +8,7 @@ use super::pens::Pens;
 use super::scene::{Port, Route, Trunk, corners};
 use super::spans::Way;
 use super::stroke::{Piece, Stroke, apart};
+use super::white::NEARLY;
 use super::xml::{wide, wide_bold};
 
 /// A node's id or name beside it is no larger.
@@ -30,9 +31,8 @@ pub fn node_wish(place: usize, node: &Node, text: String) -> Wish {
             let smaller = NODES.into_iter().filter(|smaller| *smaller <= size);
             let inside = smaller.flat_map(|size| within(&around, size_of(size), size));
             let small = size.min(OUTSIDE);
-            let (width, height) = size_of(small);
-            let outside = beside(&around, width, height).map(|rect| Spot::new(rect, small));
-            inside.chain(outside).collect()
+            let outside = outside(&around, size_of(small), small);
+            of_node(place, inside.chain(outside))
         }
     };
     Wish {
@@ -84,10 +84,10 @@ pub fn name_wish(place: usize, node: &Node, id: Spot, name: &str) -> Wish {
             let inside = within(&around, (width, height), size);
             let small = size.min(OUTSIDE);
             let (width, height) = (wide(&text, small) + 0.4, small);
-            let outside = beside(&around, width, height).map(|rect| Spot::new(rect, small));
+            let outside = outside(&around, (width, height), small).into_iter();
             // A longer one would reach to what is not its node's.
             let outside = outside.filter(|_| width <= (high.x - low.x).max(LONGEST));
-            near.chain(inside).chain(outside).collect()
+            of_node(place, near.chain(inside).chain(outside))
         }
     };
     Wish {
@@ -95,6 +95,40 @@ pub fn name_wish(place: usize, node: &Node, id: Spot, name: &str) -> Wish {
         place,
         spots: Box::new(spots),
     }
+}
+
+/// Places beside a node, those in the middle of its sides first.
+fn outside(around: &Rect, (width, height): (f64, f64), size: f64) -> Vec<Spot> {
+    let sides = beside(around, width, height);
+    let Rect { low, high } = *around;
+    let xs = [high.x + 0.5 + width / 2.0, low.x - 0.5 - width / 2.0];
+    let ys = [low.y + height / 2.0, high.y - height / 2.0];
+    let ends = xs.into_iter().flat_map(|x| ys.map(|y| Point { x, y }));
+    let ends = ends.map(|at| Rect::around(at, width, height));
+    let corners = at_corners(around, width, height);
+    let all = sides.chain(ends).chain(corners);
+    all.map(|rect| Spot {
+        anchor: toward(around, &rect),
+        ..Spot::new(rect, size)
+    })
+    .collect()
+}
+
+/// Words may be less wide than their place: they start at their node, or end there.
+fn toward(node: &Rect, rect: &Rect) -> Anchor {
+    if rect.low.x >= node.low.x - NEARLY && rect.high.x > node.high.x {
+        Anchor::Left
+    } else if rect.high.x <= node.high.x + NEARLY && rect.low.x < node.low.x {
+        Anchor::Right
+    } else {
+        Anchor::Middle
+    }
+}
+
+/// Places for what is of a node.
+fn of_node(place: usize, spots: impl Iterator<Item = Spot>) -> Vec<Spot> {
+    let node = Some(place);
+    spots.map(|spot| Spot { node, ..spot }).collect()
 }
 
 /// Above, below, to the right and to the left of something.
@@ -111,8 +145,14 @@ fn beside(around: &Rect, width: f64, height: f64) -> impl Iterator<Item = Rect> 
     points.map(move |at| Rect::around(at, width, height))
 }
 
-/// Inside its node, in front of it.
-pub fn port_wish(place: usize, port: &Port, node: &Node, pens: &Pens, text: String) -> Wish {
+/// Inside its node, which has this place, in front of it.
+pub fn port_wish(
+    place: usize,
+    port: &Port,
+    (of, node): (usize, &Node),
+    pens: &Pens,
+    text: String,
+) -> Wish {
     let (at, side) = (port.at, port.side);
     let [low, high] = corners(node);
     let around = Rect { low, high };
@@ -128,6 +168,7 @@ pub fn port_wish(place: usize, port: &Port, node: &Node, pens: &Pens, text: Stri
                 Side::West => (gap + width / 2.0, 0.0),
             };
             let spot = Spot {
+                node: Some(of),
                 inside: true,
                 anchor: match side {
                     Side::East => Anchor::Right,

@@ -5,6 +5,7 @@ use std::collections::BTreeSet;
 use bundle_stage::{Board, Endpoint, Item};
 
 use super::{FLAGS, GRANTS, OPTIONS, Words, Wrong, expected, read_all, utf8};
+use crate::signs::checked;
 use crate::tokens::{split, unquote};
 
 /// A name, whose it is, and on which line it stands. Of the record the ids count, its place says nothing.
@@ -62,7 +63,7 @@ impl Words<'_> {
             let name = self.words.next().and_then(unquote);
             return Ok(name.map(|name| (record, name)));
         }
-        let name = self.word("a name in quotation marks", unquote)?;
+        let name = checked(self.word("a name in quotation marks", unquote)?)?;
         self.end()?;
         Ok(Some((record, name)))
     }

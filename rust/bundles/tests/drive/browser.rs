@@ -20,11 +20,20 @@ const NAMES: [&str; 3] = ["chromium", "chromium-browser", "google-chrome"];
 const START: &str = "exec \"$1\" --headless --no-sandbox --disable-gpu --remote-debugging-pipe \
                      --user-data-dir=\"$2/browser\" about:blank 3<\"$2/to\" 4>\"$2/from\"";
 
+/// Until what was changed is painted.
+const FRAMES: &str =
+    "new Promise((done) => requestAnimationFrame(() => requestAnimationFrame(() => done(''))))";
+
 impl Browser {
+    /// What it is called here.
+    pub fn name() -> Option<&'static str> {
+        let mut names = NAMES.into_iter();
+        names.find(|name| Command::new(name).arg("--version").output().is_ok())
+    }
+
     /// None where there is no browser.
     pub fn start(name: &str) -> Option<Browser> {
-        let mut names = NAMES.into_iter();
-        let browser = names.find(|name| Command::new(name).arg("--version").output().is_ok())?;
+        let browser = Browser::name()?;
         let folder = PathBuf::from(env!("CARGO_TARGET_TMPDIR")).join(format!("drive-{name}"));
         let _ = fs::remove_dir_all(&folder);
         fs::create_dir_all(&folder).expect("a folder");
@@ -58,10 +67,16 @@ impl Browser {
         let reply = browser.ask("Target.attachToTarget", &attach);
         let session = string(&reply, "sessionId").expect("a session");
         browser.session = format!(",\"sessionId\":\"{session}\"");
-        let size = "\"width\":1200,\"height\":900,\"deviceScaleFactor\":1,\"mobile\":false";
-        browser.ask("Emulation.setDeviceMetricsOverride", size);
+        browser.window(1200, 900);
         browser.ask("Emulation.setTouchEmulationEnabled", "\"enabled\":true");
         Some(browser)
+    }
+
+    /// The window has this size.
+    pub fn window(&mut self, width: u32, height: u32) {
+        let size = format!("\"width\":{width},\"height\":{height}");
+        let words = format!("{size},\"deviceScaleFactor\":1,\"mobile\":false");
+        self.ask("Emulation.setDeviceMetricsOverride", &words);
     }
 
     /// The reply to a command.
@@ -109,13 +124,14 @@ impl Browser {
         {}
     }
 
-    /// What an expression of the page gives: a string without quotation marks.
+    /// What an expression of the page gives, or what it promises: a string without quotation marks.
     pub fn value(&mut self, expression: &str) -> String {
         let quoted = expression
             .replace('\\', "\\\\")
             .replace('"', "\\\"")
             .replace('\n', "\\n");
-        let words = format!("\"expression\":\"{quoted}\",\"returnByValue\":true");
+        let awaited = "\"returnByValue\":true,\"awaitPromise\":true";
+        let words = format!("\"expression\":\"{quoted}\",{awaited}");
         let reply = self.ask("Runtime.evaluate", &words);
         assert!(!reply.contains("exceptionDetails"), "{expression}: {reply}");
         string(&reply, "value").unwrap_or_default()
@@ -153,6 +169,7 @@ impl Browser {
 
     /// What is to be seen of a part of the page from its left upper corner, as the bytes of a picture.
     pub fn picture(&mut self, (width, height): (f64, f64)) -> String {
+        self.value(FRAMES);
         let clip = format!("\"x\":0,\"y\":0,\"width\":{width},\"height\":{height},\"scale\":1");
         let reply = self.ask("Page.captureScreenshot", &format!("\"clip\":{{{clip}}}"));
         string(&reply, "data").expect("a picture")

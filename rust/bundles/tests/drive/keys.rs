@@ -1,5 +1,7 @@
 //! The page by keys alone.
 
+use bundle_stage::Board;
+
 use super::page::Page;
 
 /// What has the focus: its id, `find`, or nothing.
@@ -33,6 +35,22 @@ impl Page {
             self.tab_to_the_sheet();
             self.browser.key("Shift+Tab");
         }
+    }
+
+    /// Behind the bar Tab comes to the bundles, in the legend's order, which is the board's; then to the rest.
+    pub fn legend_first(&mut self, board: &Board) {
+        self.browser.value("find.focus() + ''");
+        let mut keys = vec![self.tab_to_the_sheet()];
+        for _ in &board.bundles {
+            self.browser.key("Tab");
+            keys.push(self.browser.value(FOCUS));
+        }
+        let bundles = board.bundles.iter();
+        let due = bundles.map(|bundle| format!("bundle-{}", bundle.id));
+        let due = due.collect::<Vec<_>>();
+        assert_eq!(keys[..due.len()], due);
+        assert!(keys[due.len()].starts_with("node-"), "{keys:?}");
+        self.browser.key("Escape");
     }
 
     /// Tab until something of the sheet has the focus.

@@ -6,11 +6,15 @@
 mod browser;
 mod ink;
 mod keys;
+mod letters;
+mod names;
 mod page;
+mod paper;
 mod pointer;
 mod print;
 mod refused;
 mod sight;
+mod stretch;
 mod twice;
 
 use std::fs;
@@ -74,6 +78,38 @@ fn a_chain() {
 fn crossings() {
     let (board, names) = example("crossings");
     drive("crossings", &drawn(&board, &names, "crossings"), 10);
+}
+
+/// Names of wide letters, capitals and those of East Asia, and pictures.
+#[test]
+fn wide_letters() {
+    for name in [
+        "MMMM WWWW",
+        "\u{6642}\u{523b}\u{53d7}\u{4fe1}\u{6a5f}",
+        "\u{1f552}\u{1f4e1}",
+    ] {
+        let (board, _) = example("clock-board");
+        let mut names = Names::default();
+        board
+            .nodes
+            .iter()
+            .for_each(|of| names.set_node(of.id, name));
+        board
+            .ports
+            .iter()
+            .for_each(|of| names.set_port(of.node, of.id, name));
+        board
+            .edges
+            .iter()
+            .for_each(|of| names.set_edge(of.id, name));
+        board
+            .bundles
+            .iter()
+            .for_each(|of| names.set_bundle(of.id, name));
+        if let Some(mut page) = Page::open("letters", &drawn(&board, &names, &name.repeat(30))) {
+            page.words_in_place();
+        }
+    }
 }
 
 #[test]
@@ -158,7 +194,8 @@ fn an_end_short_of_its_port() {
     assert!(note.starts_with("edge 71 ends at (480, 260), not at its port 5:20, "));
 }
 
-/// The id of a node that lies over the frame of another: there the frame is pointed at, beside it the id.
+/// The id of a node that lies over the frame of another, to which it is moved here, as no id lies so: there the
+/// frame is pointed at, beside it the id.
 #[test]
 fn an_id_over_a_frame() {
     let text = "port_stub 10\nroute_lane_gap 10\nedge_node_clearance 0\n\
@@ -169,7 +206,10 @@ fn an_id_over_a_frame() {
     let Some(mut page) = Page::open("frame", &page) else {
         return;
     };
-    let words = "svg.querySelector('.node-id[data-of=\"node-888\"]').getBoundingClientRect()";
+    let id = "svg.querySelector('.node-id[data-of=\"node-888\"]')";
+    let moved = "setAttribute('x', document.querySelector('#node-2 rect').getAttribute('x'))";
+    page.browser.value(&format!("{id}.{moved} + ''"));
+    let words = format!("{id}.getBoundingClientRect()");
     let frame = "document.querySelector('#node-2 rect').getBoundingClientRect()";
     let number = |page: &mut Page, what: &str| {
         let said = page.browser.value(&format!("{what} + ''"));
@@ -191,10 +231,24 @@ fn an_id_over_a_frame() {
     page.seen("node-888", "the mouse on the id");
 }
 
+/// A window that is high and narrow, as that of a telephone.
+#[test]
+fn a_narrow_window() {
+    let (board, names) = example("clock-board");
+    let Some(mut page) = Page::open("narrow", &drawn(&board, &names, "narrow")) else {
+        return;
+    };
+    page.browser.window(420, 900);
+    for key in ["bundle-4", "node-5", "port-5-11", "route-33"] {
+        page.choose(&[key.to_string()]);
+    }
+}
+
 #[test]
 fn keys() {
     let (board, names) = example("clock-board");
     if let Some(mut page) = Page::open("keys", &drawn(&board, &names, "keys")) {
+        page.legend_first(&board);
         page.tab();
         page.slash();
         page.held();

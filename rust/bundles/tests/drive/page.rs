@@ -15,8 +15,9 @@ const SEEN: &str = r#"(key) => {
     }
     return opacity > 0.99;
   };
-  const all = [...svg.querySelectorAll("[id]")];
-  const lifted = all.filter(seen).map((part) => part.id).sort();
+  // What cuts a stretch out is no thing; a bundle is its lines, not its taps.
+  const all = [...svg.querySelectorAll("[id]:not(.cut)")];
+  const lifted = all.filter((part) => seen(part.querySelector(".trunk") || part)).map((part) => part.id).sort();
   const due = key === "all" ? all.map((part) => part.id).sort()
     : ways.find((way) => way.key === key).lifted.filter((id) => document.getElementById(id)).sort();
   return lifted.join() === due.join() ? "same" : "lifted " + lifted.join(" ") + " due " + due.join(" ");

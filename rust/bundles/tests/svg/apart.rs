@@ -71,6 +71,9 @@ pub fn drawn(elements: &[Element], class: &str) -> Vec<Drawn> {
 /// What is white between two lines must be wider, in millimetres.
 pub const SEEN: f64 = 0.2;
 
+/// How many times as wide as its trunk a dot is.
+const WIDER: f64 = 1.5;
+
 /// Dots that are nearer to each other, middle from middle, stand for one place of the sheet.
 const SAME: f64 = 0.06;
 /// A picture that is read back, and the sheet that it shows.
@@ -178,7 +181,7 @@ fn dots(shown: &Shown<'_>, place: usize) -> Result<(), String> {
     for (turn, (middle, radius)) in bundle.taps.iter().enumerate() {
         let held = sheet_held(&shown.sheet.bundles[place], turn);
         let most = if held { bundle.half } else { 0.0 };
-        if *radius < most + 0.1 {
+        if *radius < (most + 0.1).max(WIDER * most - 0.01) {
             return Err(format!("no dot to be seen at {middle:?}"));
         }
         for (at, wide) in &bundle.taps[turn + 1..] {

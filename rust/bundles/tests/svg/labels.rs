@@ -79,7 +79,7 @@ fn names_for(board: &Board, letters: usize) -> Names {
 }
 
 /// The middle line of the letters of a label, a little shorter than they are, and half their height.
-fn letters(label: &Element) -> (Line, f64) {
+pub fn letters(label: &Element) -> (Line, f64) {
     let number = |name: &str| label.value(name).parse::<f64>().expect("a number");
     let (x, y, size) = (number("x"), number("y"), number("font-size"));
     // Narrow letters of the fonts that are named are 0.22 of their height, digits 0.55.
@@ -251,4 +251,42 @@ fn second_ids_leave_room() {
     assert_eq!(ids(&checked(&picture), &sheet), Ok(()));
     let shown = of_class(&elements(&picture), "node-id").len();
     assert_eq!(shown, 32);
+}
+
+/// A bundle from port 1:1 to so many ports of node 2.
+fn fan(members: u32) -> Board {
+    let mut lines = vec![
+        "port_stub 8\nroute_lane_gap 8\nedge_node_clearance 0\nminimum_parallel_wire_spacing 0\n\
+         member_endpoint_reserve 8\nseparate_collectors yes\npermit_crossings no\n\
+         node 1 at 0,0 size 40,200\nport 1:1 east 100\nnode 2 at 600,0 size 40,200"
+            .to_string(),
+    ];
+    let mut bundle = "bundle 1 at 1:1 input width 9".to_string();
+    for port in 1..=members {
+        let y = 10 * port;
+        lines.push(format!("port 2:{port} west {y}"));
+        lines.push(format!(
+            "edge {port} from 1:1 to 2:{port} via 40,100 300,100 300,{y} 600,{y}"
+        ));
+        let start = if port == 1 { " members" } else { "" };
+        bundle.push_str(&format!("{start} {port}@{}", port - 1));
+    }
+    lines.push(bundle);
+    text::read(lines.join("\n").as_bytes()).expect("a board")
+}
+
+#[test]
+fn ports_in_the_legend() {
+    for (members, words) in [
+        (0, "1:1, no members; input"),
+        (1, "1:1 → 2:1; input"),
+        (8, "2:7, 2:8; input"),
+        (9, "2:8, 2:9; input"),
+        (10, "2:7, 2:8 and 2 more; input"),
+    ] {
+        let board = fan(members);
+        let sheet = board.draw().expect("a sheet");
+        let picture = svg(&board, &sheet, "a fan");
+        assert!(picture.contains(words), "{members}: {words}");
+    }
 }

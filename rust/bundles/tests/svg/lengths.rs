@@ -4,8 +4,9 @@
 use super::apart::{Drawn, Shown};
 use super::read::{Line, lines};
 
-/// What a line keeps between two that go over it, and how long it may be unseen, in millimetres.
-const KEPT: f64 = 0.5;
+/// What is left of a line between two gaps, in lengths of the longer one; and how long it may be unseen, in
+/// millimetres.
+const LEFT: f64 = 1.5;
 const UNSEEN: f64 = 4.0;
 /// Between two bundles on one line.
 const IN_LINE: f64 = 1.0;
@@ -43,7 +44,7 @@ pub fn parts(paths: &[String]) -> Vec<Vec<Line>> {
     parts
 }
 
-/// A line that goes under others stays a line.
+/// A line that goes under others stays a line: what is left of it is longer than its gaps.
 fn kept(drawn: &Drawn) -> Result<(), String> {
     let parts = parts(&drawn.paths);
     for (turn, two) in parts.windows(2).enumerate() {
@@ -56,10 +57,14 @@ fn kept(drawn: &Drawn) -> Result<(), String> {
         if unseen > UNSEEN + ROUNDED {
             return Err(format!("unseen for {unseen} from {:?}", end[1]));
         }
-        let after = parts.get(turn + 2).and_then(|part| part.first());
-        let long = two[1].iter().map(|line| length(*line)).sum::<f64>();
         let last = *two[1].last().expect("a line");
-        if after.is_some_and(|after| straight(last, *after)) && long < KEPT - ROUNDED {
+        let after = parts.get(turn + 2).and_then(|part| part.first());
+        let Some(after) = after.filter(|after| straight(last, **after)) else {
+            continue;
+        };
+        let long = two[1].iter().map(|line| length(*line)).sum::<f64>();
+        let gap = unseen.max(length([last[1], after[0]]));
+        if long < LEFT * (gap - ROUNDED) - ROUNDED {
             return Err(format!("only {long} is left from {:?}", start[0]));
         }
     }
@@ -114,12 +119,13 @@ fn what_is_measured() {
         taps: Vec::new(),
         half: 0.5,
     };
-    assert_eq!(kept(&of(&["M0 0L3 0M4 0L4.6 0M5 0L9 0"])), Ok(()));
-    assert!(kept(&of(&["M0 0L3 0M4 0L4.4 0M5 0L9 0"])).is_err());
+    assert_eq!(kept(&of(&["M0 0L3 0M4 0L5.5 0M6.5 0L9 0"])), Ok(()));
+    assert!(kept(&of(&["M0 0L3 0M4 0L5.4 0M6.4 0L9 0"])).is_err());
+    assert!(kept(&of(&["M0 0L3 0M4 0L5.5 0M6.6 0L9 0"])).is_err());
     // In two colours, and around a corner.
-    assert!(kept(&of(&["M0 0L3 0M4 0L4.2 0", "M4.2 0L4.4 0M5 0L9 0"])).is_err());
-    assert!(kept(&of(&["M0 0L3 0M4 0L4.2 0L4.2 0.2M4.2 1L4.2 2"])).is_err());
-    let corner = "M0 0L3 0M4 0L4.3 0L4.3 0.3M4.3 1L4.3 2";
+    assert!(kept(&of(&["M0 0L3 0M4 0L4.7 0", "M4.7 0L5.4 0M6.4 0L9 0"])).is_err());
+    assert!(kept(&of(&["M0 0L3 0M4 0L4.7 0L4.7 0.7M4.7 1.7L4.7 3"])).is_err());
+    let corner = "M0 0L3 0M4 0L4.8 0L4.8 0.8M4.8 1.8L4.8 3";
     assert_eq!(kept(&of(&[corner])), Ok(()));
     assert!(kept(&of(&["M0 0L3 0M7.1 0L9 0"])).is_err());
     let [one, near, far, beside] = [

@@ -261,7 +261,8 @@ fn many_ends() {
     assert!(picture.contains(">And 11 more.</text>"));
 }
 
-/// A refused board is shown as it was given: there ends of members count too.
+/// Of a refused board an end is told by the rule for one that is drawn: that of a member, which its bundle
+/// leads to its port, is not loose wherever its route begins; any other is.
 #[test]
 fn a_refused_board() {
     let (mut board, _) = example("clock-board");
@@ -272,17 +273,48 @@ fn a_refused_board() {
     start(&mut board);
     let sheet = board.draw().expect("the bundle leads it to its port");
     assert_eq!(marked(&svg(&board, &sheet, "drawn"), &board, &sheet), Ok(0));
-    board.nodes[5].id = 1.into();
+    let mut twice = board.bundles[5].clone();
+    twice.members.clear();
+    board.bundles.push(twice);
     assert_eq!(board.draw(), Err(Refusal::DuplicateId));
     let names = Names::default();
-    let picture = bundles::svg::svg_refused(&board, Refusal::DuplicateId, &names, "given");
-    let elements = elements(&picture);
+    let refused =
+        |board: &Board| bundles::svg::svg_refused(board, Refusal::DuplicateId, &names, "given");
+    let picture = refused(&board);
     assert!(
-        of_class(&elements, "loose-end")
-            .iter()
-            .any(|of| of.value("data-of") == "route-11")
+        of_class(&elements(&picture), "loose-end").is_empty(),
+        "{picture}"
     );
-    let words = ">Edge 11 starts at (120, 100), not at its port 1:1, which stands at (100, 100).<";
+    assert!(!picture.contains("not at its port"), "{picture}");
+    let edge = board.edges.iter_mut().find(|edge| edge.id == 71.into());
+    edge.expect("an edge").points[1].y -= 40.0;
+    let picture = refused(&board);
+    let elements = elements(&picture);
+    let of = of_class(&elements, "loose-end");
+    assert_eq!(of.len(), 1);
+    assert_eq!(of[0].value("data-of"), "route-71");
+    let words = ">Edge 71 ends at (480, 260), not at its port 5:20, which stands at (480, 300).<";
+    assert!(picture.contains(words), "{picture}");
+}
+
+/// The last shift moves the sheet: an end is told where the job has it.
+#[test]
+fn a_sheet_that_was_shifted() {
+    let board = String::from_utf8(file("examples/clock-board.txt")).expect("text");
+    let board = board.replace("via 480,220 480,300", "via 480,220 480,260");
+    let mut board = text::read(board.as_bytes()).expect("a board");
+    for node in &mut board.nodes {
+        (node.x, node.y) = (node.x - 1000.0, node.y - 500.0);
+    }
+    for point in board.edges.iter_mut().flat_map(|edge| &mut edge.points) {
+        (point.x, point.y) = (point.x - 1000.0, point.y - 500.0);
+    }
+    let sheet = board.draw().expect("a sheet");
+    assert!(sheet.nodes.iter().all(|node| node.x >= 0.0));
+    let picture = svg(&board, &sheet, "shifted");
+    assert_eq!(marked(&picture, &board, &sheet), Ok(1));
+    let words =
+        ">Edge 71 ends at (-520, -240), not at its port 5:20, which stands at (-520, -200).<";
     assert!(picture.contains(words), "{picture}");
 }
 

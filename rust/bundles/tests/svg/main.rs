@@ -4,10 +4,13 @@
 
 mod apart;
 mod at_ports;
+mod crowds;
 mod labels;
 mod lengths;
+mod letters;
 mod loose;
 mod marks;
+mod nodes;
 mod ports;
 mod read;
 mod refused;
@@ -206,7 +209,10 @@ fn by_contact(board: &Board, sheet: &Sheet, words: &Unclear) {
 /// there is no picture.
 fn clear(board: &Board, sheet: &Sheet, name: &str) -> Result<usize, Unclear> {
     let picture = bundles::svg::svg(board, sheet, &Names::default(), name)?;
-    all_there(&checked(&picture), sheet);
+    let elements = checked(&picture);
+    all_there(&elements, sheet);
+    let labelled = nodes::labelled(&elements);
+    assert!(labelled.is_ok(), "{name}: {labelled:?}");
     assert_eq!(contacts(board, sheet), [""; 0], "{name}");
     assert_eq!(false_joint(&picture, board, sheet), Ok(()), "{name}");
     let marked = loose::marked(&picture, board, sheet);

@@ -192,7 +192,7 @@ fn a_spine_that_would_cross_a_wire() {
     assert_eq!(refusal, Refusal::ForbiddenContact);
     let picture = shown(&board, refusal, "11");
     for words in [
-        "The spine of bundle 3 would cross the route of edge 81, at (320, 260).",
+        "The spine of bundle 3 would cross the route of edge 81, at (320, 260), and the board forbids crossings.",
         "B3: refused, not drawn",
         "refused bundle as it was tried, on no sheet",
     ] {

@@ -33,7 +33,8 @@ fn minus_zero_in_a_board() {
         let answer = out(0, &["draw", &job], b"");
         let explained = out(0, &["explain", "-", &job], &answer);
         let picture = out(0, &["svg", &job, "-", "--title", "a board"], &answer);
-        let refused = out(1, &["svg", &job, "-", "--title", "a board"], NOTICE);
+        let short = [0, 0, 0, 2, 1, 2];
+        let refused = out(1, &["svg", &job, "-", "--title", "a board"], &short);
         (packed, [answer, explained, picture, refused])
     });
     let minus_zero = (-0.0_f64).to_be_bytes();

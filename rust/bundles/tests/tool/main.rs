@@ -5,6 +5,8 @@
 mod jobs;
 mod lists;
 mod loose;
+mod names;
+mod others;
 mod plans;
 mod refusals;
 

@@ -94,8 +94,6 @@ fn the_plan_of_another_revision() {
     let said =
         "Joints: drawn from the plan that is given; none is false on the sheet in the answer";
     assert!(text(picture).contains(said));
-    let picture = text(out(0, &["svg", &name("next.txt"), "-"], &drawn));
-    assert!(picture.contains("Where bundles and routes cross was found by the tool itself."));
     let words = text(out(0, &["explain", "--plan", kept, &name("next.txt")], b""));
     assert!(
         words.contains("\nanother plan than the one that is made for this job\n"),
