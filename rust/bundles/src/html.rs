@@ -88,7 +88,7 @@ placeholder=\"name or id: bundle 3, node 5, 5:11\">\n\
 <button type=\"button\" id=\"smaller\" tabindex=\"1\" aria-label=\"smaller\">\u{2212}</button>\n\
 <button type=\"button\" id=\"whole\" tabindex=\"1\">whole sheet</button>\n\
 <button type=\"button\" id=\"none\" tabindex=\"1\">show all</button>\n</form>\n\
-<div id=\"found\"></div>\n<div id=\"told\" role=\"status\" aria-live=\"polite\"></div>\n</header>\n";
+<div id=\"found\"></div>\n<div id=\"told\" role=\"status\" aria-live=\"polite\" tabindex=\"1\"></div>\n</header>\n";
 
 /// The ways as a list for the script.
 fn data(ways: &[Way]) -> String {

@@ -20,6 +20,7 @@ function show(way) {
   for (const note of way.notes) line(note, "note");
   for (const words of way.parts) line(words, "part");
   for (const words of way.words) line(words, "way");
+  told.scrollTop = 0;
 }
 
 function line(text, name) {
@@ -146,12 +147,16 @@ function matches(words) {
   };
   const ranked = ways.map((way) => [rank(way), way]).filter(([rank]) => rank < 2);
   ranked.sort((a, b) => a[0] - b[0]);
-  return ranked.slice(0, 12).map(([, way]) => way);
+  return ranked.map(([, way]) => way);
 }
+
+// No more of what is found is listed.
+const MOST = 12;
 
 function list() {
   found.replaceChildren();
-  for (const way of matches(find.value)) {
+  const all = matches(find.value);
+  for (const way of all.slice(0, MOST)) {
     const button = document.createElement("button");
     button.type = "button";
     button.tabIndex = 1;
@@ -159,6 +164,7 @@ function list() {
     button.addEventListener("click", () => chooseFar(way.key));
     found.append(button);
   }
+  if (all.length > MOST) found.append(` and ${all.length - MOST} more: a longer word finds fewer`);
 }
 
 // ---- zoom and pan
@@ -274,6 +280,10 @@ function end(event) {
   }
 }
 
+// The words may be longer than their place. While they have the focus the arrows move them, and not the sheet.
+const PAGES = { PageUp: -0.8, PageDown: 0.8 };
+const LINES = { ArrowUp: -20, ArrowDown: 20 };
+
 function key(event) {
   // With one of these a key is the browser's.
   if (event.ctrlKey || event.altKey || event.metaKey) return;
@@ -281,7 +291,9 @@ function key(event) {
   const moves = { ArrowLeft: [-step, 0], ArrowRight: [step, 0], ArrowUp: [0, -step], ArrowDown: [0, step] };
   if (event.key === "Escape") choose("");
   if (event.target === find) return;
-  if (moves[event.key]) pan(...moves[event.key]);
+  const read = PAGES[event.key] * told.clientHeight || event.target === told && LINES[event.key];
+  if (read) told.scrollTop += read;
+  else if (moves[event.key]) pan(...moves[event.key]);
   else if (event.key === "+") zoom(0.8);
   else if (event.key === "-") zoom(1.25);
   else if (event.key === "0") whole();

@@ -21,7 +21,7 @@ impl Page {
         self.browser.key("Shift+Tab");
         self.seen(&first, "Shift and Tab");
         self.browser.key("Shift+Tab");
-        assert_eq!(self.browser.value(FOCUS), "none");
+        assert_eq!(self.browser.value(FOCUS), "told");
         self.seen("all", "Shift and Tab out of the sheet");
         for choose in [" ", "Enter"] {
             self.browser.key("Tab");
@@ -66,6 +66,68 @@ impl Page {
             }
         }
         panic!("Tab does not come to the sheet");
+    }
+
+    /// Words that are longer than their place are read by the arrows while they have the focus, and by the keys
+    /// for pages from everywhere; the sheet stays where it is.
+    pub fn long_words(&mut self, key: &str) {
+        self.browser.window(700, 400);
+        self.browser.value(&format!("choose('{key}') + ''"));
+        let longer = self
+            .browser
+            .value("(told.scrollHeight > 2 * told.clientHeight) + ''");
+        assert_eq!(longer, "true", "the words of {key} are short");
+        let view = self.view();
+        let read = |page: &mut Page| {
+            let read = page.browser.value("told.scrollTop + ''");
+            read.parse::<f64>().expect("a number")
+        };
+        assert_eq!(read(self), 0.0);
+        self.browser.value("told.focus() + ''");
+        assert_eq!(self.browser.value(FOCUS), "told");
+        self.browser.key("ArrowDown");
+        self.browser.key("ArrowDown");
+        let down = read(self);
+        assert!(down > 20.0, "{down}");
+        self.browser.key("ArrowUp");
+        assert!(read(self) < down);
+        self.browser.value("document.activeElement.blur() + ''");
+        let before = read(self);
+        self.browser.key("PageDown");
+        assert!(read(self) > before + down);
+        self.browser.key("PageUp");
+        assert_eq!(read(self), before);
+        assert_eq!(self.view(), view, "the sheet moves with the words");
+        // Elsewhere the arrows are the sheet's; other words begin at their first line.
+        self.browser.key("ArrowDown");
+        assert_ne!(self.view(), view);
+        self.browser.value("choose('') + choose('node-5')");
+        assert_eq!(read(self), 0.0);
+        self.browser.value("choose('') + whole()");
+        self.browser.window(1200, 900);
+    }
+
+    /// The search lists twelve, and says how many more there are.
+    pub fn many_found(&mut self) {
+        let found = |page: &mut Page, words: &str| {
+            page.browser.value("(find.value = '') + find.focus()");
+            let words = format!("\"text\":\"{words}\"");
+            page.browser.ask("Input.insertText", &words);
+            let count = page.browser.value("found.children.length + ''");
+            (count, page.browser.value("found.lastChild.textContent"))
+        };
+        let all = self
+            .browser
+            .value("ways.filter((way) => way.name.includes('port')).length + ''");
+        let more = all.parse::<usize>().expect("a count") - 12;
+        let (count, last) = found(self, "port ");
+        assert_eq!(count, "12");
+        let due = format!(" and {more} more: a longer word finds fewer");
+        assert_eq!(last, due);
+        let (count, last) = found(self, "port 5:11");
+        assert_eq!((&count[..], &last[..]), ("1", "port 5:11 time code"));
+        self.browser
+            .value("(find.value = '') + list() + find.blur()");
     }
 
     /// The search has the focus, and no stroke in it.

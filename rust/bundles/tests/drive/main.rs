@@ -250,6 +250,8 @@ fn keys() {
     if let Some(mut page) = Page::open("keys", &drawn(&board, &names, "keys")) {
         page.legend_first(&board);
         page.tab();
+        page.long_words("node-5");
+        page.many_found();
         page.slash();
         page.held();
     }
