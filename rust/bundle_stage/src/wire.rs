@@ -25,6 +25,13 @@ pub enum Fault {
     NotListed(u32),
     /// So many bytes follow where none should.
     Remain(usize),
+    /// It says that so many bytes follow, and not as many do: the bytes are cut off, or others stand behind them.
+    Follow {
+        /// What it says.
+        said: u32,
+        /// How many do.
+        bytes: usize,
+    },
 }
 
 impl fmt::Display for Malformed {
@@ -35,6 +42,12 @@ impl fmt::Display for Malformed {
             Fault::Ends => write!(to, "the end"),
             Fault::NotListed(value) => write!(to, "{value}"),
             Fault::Remain(count) => write!(to, "more bytes: {count}"),
+            Fault::Follow { said, bytes } => {
+                let missing = i128::from(*said) - *bytes as i128;
+                let what = if missing > 0 { "missing" } else { "too many" };
+                let count = missing.abs();
+                write!(to, "{said}, and {bytes} follow: {count} are {what}")
+            }
         }
     }
 }
@@ -121,10 +134,14 @@ impl<'a> Reader<'a> {
 
     /// The length at the front: all other bytes and no more.
     pub(crate) fn length(&mut self) -> Result<(), Malformed> {
-        let follow = self.bytes.len().saturating_sub(4);
-        self.listed("the length of all bytes that follow", |length: u32| {
-            (usize::try_from(length) == Ok(follow)).then_some(())
-        })
+        let (at, field) = (self.at, "the length of all bytes that follow");
+        let said = self.field::<u32>(field)?;
+        let bytes = self.bytes.len() - self.at;
+        if usize::try_from(said) == Ok(bytes) {
+            return Ok(());
+        }
+        let fault = Fault::Follow { said, bytes };
+        Err(Malformed { at, field, fault })
     }
 
     pub(crate) fn is_at_end(&self) -> bool {

@@ -1,10 +1,11 @@
 //! The tool's commands that draw jobs.
 
+use std::collections::{HashMap, HashSet};
 use std::fs;
-use std::path::PathBuf;
+use std::path::{Path, PathBuf};
 
 use bundle_stage::{Answer, locate, locate_planned};
-use bundles::explain::{counted, places};
+use bundles::explain::{counted, places, spent_words};
 use bundles::loose::{self, Loose};
 
 use crate::Done;
@@ -19,6 +20,7 @@ pub fn draw_one(name: &str, settings: Settings<'_>) -> Result<Done, String> {
     out(&bytes)?;
     tell(&answer, &loaded, plan.as_deref());
     tell_loose(&answer, &loaded);
+    tell_spent(&answer, &loaded, plan.as_deref());
     Ok(done(&answer))
 }
 
@@ -38,6 +40,24 @@ pub fn tell_loose(answer: &Answer, loaded: &Loaded) {
     }
 }
 
+/// Says on standard error that a search ran out of visits, where it did.
+pub fn tell_spent(answer: &Answer, loaded: &Loaded, plan: Option<&[u8]>) {
+    let told = spent(answer, loaded, plan);
+    if !told.is_empty() {
+        eprint!("{}: {told}", called(&loaded.name));
+    }
+}
+
+/// The same in words; nothing where none did. From a plan nothing is searched.
+fn spent(answer: &Answer, loaded: &Loaded, plan: Option<&[u8]>) -> String {
+    let board = match (answer, plan) {
+        (Answer::Drawn(_), None) => loaded.board().ok(),
+        _ => None,
+    };
+    let words = board.and_then(|board| spent_words(&board));
+    words.map_or(String::new(), |words| format!("{words}\n"))
+}
+
 /// The same in words, in the board's coordinates; nothing where all are at their ports.
 fn not_joined(answer: &Answer, loaded: &Loaded) -> String {
     loose::told_shortly(&ends(answer, loaded), &loaded.names, &loaded.lines)
@@ -51,12 +71,14 @@ pub fn ends(answer: &Answer, loaded: &Loaded) -> Vec<Loose> {
     }
 }
 
-/// Draws every job that can be read. One that cannot is said, and the others are drawn.
+/// Draws every job that can be read. One that cannot is said, and the others are drawn; so is one whose answer
+/// would replace a job that is given, or the answer to another.
 pub fn draw_all(names: &[&str]) -> Done {
     let mut all = Done::Well;
+    let mut beside = Beside::of(names);
     for (place, name) in names.iter().enumerate() {
         let turn = format!("{} of {}", place + 1, names.len());
-        match draw_beside(name) {
+        match draw_beside(name, &mut beside) {
             Ok((said, done)) => {
                 eprintln!("{turn}: {name}: {said}");
                 if let (Done::Refused, Done::Well) = (&done, &all) {
@@ -73,16 +95,18 @@ pub fn draw_all(names: &[&str]) -> Done {
 }
 
 /// Draws a job to a file beside it; what to say of it.
-fn draw_beside(name: &str) -> Result<(String, Done), String> {
-    let to = beside(name)?;
+fn draw_beside(name: &str, beside: &mut Beside) -> Result<(String, Done), String> {
+    let to = beside.answer(name)?;
     let loaded = load(name, None)?;
     let (bytes, answer) = drawn(&loaded)?;
     fs::write(&to, bytes).map_err(of(to.display()))?;
+    beside.written.insert(whole(&to), name.to_string());
     let said = match &answer {
         Answer::Drawn(sheet) => format!("{} drawn", counted(sheet.bundles.len(), "bundle")),
         Answer::Refused(refusal) => refusal.to_string(),
     };
     let places = located(&answer, &loaded, None) + &not_joined(&answer, &loaded);
+    let places = places + &spent(&answer, &loaded, None);
     let places = places.trim_end();
     let gap = if places.is_empty() { "" } else { "\n" };
     Ok((
@@ -125,13 +149,58 @@ pub fn located(answer: &Answer, loaded: &Loaded, plan: Option<&[u8]>) -> String 
     })
 }
 
-/// Where the answer to one of several jobs goes.
-fn beside(job: &str) -> Result<PathBuf, String> {
-    if job == "-" {
-        return Err("standard input can only be the one job that is drawn".to_string());
+/// Where the answers to several jobs go.
+struct Beside {
+    /// The files that are given.
+    jobs: HashSet<PathBuf>,
+    /// The files that are written, each with its job.
+    written: HashMap<PathBuf, String>,
+}
+
+impl Beside {
+    fn of(jobs: &[&str]) -> Beside {
+        Beside {
+            jobs: jobs.iter().map(|job| whole(Path::new(job))).collect(),
+            written: HashMap::new(),
+        }
     }
-    let stem = job.strip_suffix(".job").unwrap_or(job);
-    Ok(PathBuf::from(format!("{stem}.answer")))
+
+    /// The file of the answer to a job: none of the jobs, and no other job's.
+    fn answer(&self, job: &str) -> Result<PathBuf, String> {
+        if job == "-" {
+            return Err("standard input can only be the one job that is drawn".to_string());
+        }
+        let stem = job.strip_suffix(".job").unwrap_or(job);
+        let to = PathBuf::from(format!("{stem}.answer"));
+        let file = whole(&to);
+        let alone = format!("draw {job} alone, or rename it");
+        if self.jobs.contains(&file) {
+            let to = to.display();
+            return Err(format!(
+                "{job}: its answer would replace {to}, which is given as a job: {alone}"
+            ));
+        }
+        match self.written.get(&file) {
+            Some(other) => Err(format!(
+                "{job}: its answer would replace that to {other}, {}: {alone}",
+                to.display()
+            )),
+            None => Ok(to),
+        }
+    }
+}
+
+/// A file by its whole path, whichever way it is named, as far as its folder is there.
+fn whole(file: &Path) -> PathBuf {
+    let folder = match file.parent() {
+        Some(folder) if !folder.as_os_str().is_empty() => folder,
+        _ => Path::new("."),
+    };
+    let folder = folder.canonicalize();
+    match (folder, file.file_name()) {
+        (Ok(folder), Some(name)) => folder.join(name),
+        _ => file.to_path_buf(),
+    }
 }
 
 pub fn done(answer: &Answer) -> Done {

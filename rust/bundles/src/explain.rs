@@ -2,7 +2,7 @@
 
 use bundle_stage::{
     Answer, Board, Bundle, Crossing, DrawnBundle, Endpoint, Forecast, Id, Plan, Refused, Role,
-    Sheet,
+    Sheet, Visits,
 };
 
 use crate::joints::Joints;
@@ -161,6 +161,9 @@ fn way(board: &Board, bundle: &Bundle, loose: &[Loose]) -> String {
             ports.push(word);
         }
     }
+    if ports.is_empty() {
+        return format!("{}, no members", port(bundle.endpoint));
+    }
     let far = ports.join(", ");
     match bundle.role {
         Role::Input => format!("{} → {far}", port(bundle.endpoint)),
@@ -199,14 +202,18 @@ fn ways(board: &Board, names: &Names, loose: &[Loose]) -> String {
     text
 }
 
-/// Where searches ran out of tap visits, what would be enough.
-fn spent(board: &Board) -> String {
+/// Where searches for places ran out of tap visits, what would be enough: a bundle may then stand at the rail
+/// that has a place inside the sheet.
+pub fn spent_words(board: &Board) -> Option<String> {
+    if board.grants.tap >= Visits::MOST.tap {
+        return None;
+    }
     match board.forecast() {
-        Forecast::Drawn(paid) if paid.tap > board.grants.tap => format!(
-            "  the search for places ran out of them; tap_visits {} would be enough\n",
+        Forecast::Drawn(paid) if paid.tap > board.grants.tap => Some(format!(
+            "the search for places ran out of tap visits; tap_visits {} would be enough",
             paid.tap
-        ),
-        _ => String::new(),
+        )),
+        _ => None,
     }
 }
 
@@ -216,7 +223,7 @@ fn drawn(sheet: &Sheet, board: Option<&Board>, plan: Option<&[u8]>, names: &Name
         number(sheet.width),
         number(sheet.height),
         counted(sheet.nodes.len(), "node"),
-        counted(sheet.routes.len(), "route"),
+        counted(sheet.routes.len(), "edge"),
         counted(sheet.bundles.len(), "bundle"),
     );
     if !sheet.bundles.is_empty() {
@@ -237,7 +244,9 @@ fn drawn(sheet: &Sheet, board: Option<&Board>, plan: Option<&[u8]>, names: &Name
     ));
     // From a plan nothing is searched.
     let searched = board.filter(|_| plan.is_none());
-    text.push_str(&searched.map(spent).unwrap_or_default());
+    if let Some(words) = searched.and_then(spent_words) {
+        text.push_str(&format!("  {words}\n"));
+    }
     text.push_str(&visits(
         "geometry visits",
         left.geometry,

@@ -33,6 +33,11 @@ impl Loaded {
 /// A job, or a board's text, which is packed: a file is a text if its name ends in `.txt`, or if it can
 /// be read as one. Names are those of the text and of the file of names, which go first.
 pub fn load(name: &str, names: Option<&str>) -> Result<Loaded, String> {
+    load_up_to(JOB, name, names)
+}
+
+/// The same of so many bytes of a job.
+pub fn load_up_to(most: usize, name: &str, names: Option<&str>) -> Result<Loaded, String> {
     let mut job = read(name)?;
     let mut loaded = Loaded::default();
     match text::read_all(&job) {
@@ -41,7 +46,7 @@ pub fn load(name: &str, names: Option<&str>) -> Result<Loaded, String> {
             (loaded.names, loaded.lines) = (text.names, text.lines);
         }
         Err(wrong) if name.ends_with(".txt") => return Err(of(name)(wrong)),
-        Err(_) => job.truncate(JOB),
+        Err(_) => job.truncate(most),
     }
     if let Some(file) = names {
         let text = read(file)?;

@@ -70,6 +70,11 @@ impl Joints {
         }
     }
 
+    /// Whether the stage made this sheet and searched its places itself.
+    pub fn searched(&self) -> bool {
+        matches!(self, Joints::Permitted(..) | Joints::False(..))
+    }
+
     /// A line for the joints, one for each false one, and one for the last shift.
     pub fn explained(&self) -> String {
         let said = format!("joints: {}\n", self.said());
@@ -162,7 +167,7 @@ impl Joints {
 pub fn name(joint: &FalseJoint) -> &'static str {
     match joint.meeting {
         Meeting::Route { .. } | Meeting::Bundles { .. } => "false joint",
-        Meeting::Node { .. } => "route in a node",
+        Meeting::Node { .. } => "edge in a node",
         Meeting::SlantedRoute { .. } | Meeting::SlantedBundle { .. } => "slanted",
         _ => "false joint",
     }
@@ -171,10 +176,10 @@ pub fn name(joint: &FalseJoint) -> &'static str {
 /// What meets, and where.
 pub fn words(joint: &FalseJoint) -> String {
     let what = match joint.meeting {
-        Meeting::Route { route, bundle } => format!("route {route} touches bundle {bundle}"),
+        Meeting::Route { route, bundle } => format!("edge {route} touches bundle {bundle}"),
         Meeting::Bundles { earlier, later } => format!("bundle {later} touches bundle {earlier}"),
-        Meeting::Node { route, node } => format!("route {route} enters node {node}"),
-        Meeting::SlantedRoute { route } => format!("route {route} is slanted"),
+        Meeting::Node { route, node } => format!("edge {route} enters node {node}"),
+        Meeting::SlantedRoute { route } => format!("edge {route} is slanted"),
         Meeting::SlantedBundle { bundle } => format!("bundle {bundle} is slanted"),
         _ => "parts that must not meet do".to_string(),
     };

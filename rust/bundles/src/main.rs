@@ -17,7 +17,7 @@ use bundles::names::Names;
 use bundles::{loose, text};
 
 use draw::{draw_all, draw_one};
-use files::{called, load, of, out, read};
+use files::{called, load_up_to, of, out, read};
 use lists::{crossings, page};
 use plans::{plan, plan_explained};
 use show::{explained, followed, picture, picture_of};
@@ -131,6 +131,7 @@ fn names(name: &str) -> Result<Done, String> {
 }
 
 fn unpack(name: &str, settings: Settings<'_>) -> Result<Done, String> {
-    let loaded = load(name, settings.names)?;
+    // The stage looks at no more than its limit; a text can say all.
+    let loaded = load_up_to(usize::MAX, name, settings.names)?;
     out(text::write_named(&loaded.board()?, &loaded.names).as_bytes())
 }

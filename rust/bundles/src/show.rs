@@ -10,7 +10,7 @@ use bundles::names::Names;
 use bundles::svg::{Planned, svg, svg_from, svg_refused, svg_refused_from};
 
 use crate::Done;
-use crate::draw::{done, drawn_from, located, tell, tell_loose};
+use crate::draw::{done, drawn_from, located, tell, tell_loose, tell_spent};
 use crate::files::{Loaded, answer, load, of, out};
 use crate::own;
 use crate::plans::plan_of;
@@ -75,6 +75,7 @@ pub fn picture(name: &str, settings: Settings<'_>) -> Result<Done, String> {
     let (_, answer) = drawn_from(&loaded, plan.as_deref())?;
     tell(&answer, &loaded, plan.as_deref());
     tell_loose(&answer, &loaded);
+    tell_spent(&answer, &loaded, plan.as_deref());
     shown(&loaded, &answer, plan.as_deref(), settings)
 }
 
@@ -121,6 +122,7 @@ pub fn followed(name: &str, settings: Settings<'_>) -> Result<Done, String> {
     let (_, answer) = drawn_from(&loaded, plan.as_deref())?;
     tell(&answer, &loaded, plan.as_deref());
     tell_loose(&answer, &loaded);
+    tell_spent(&answer, &loaded, plan.as_deref());
     let page = match (&answer, plan.as_deref()) {
         (Answer::Drawn(sheet), plan) => {
             let board = loaded.board()?;

@@ -126,15 +126,24 @@ fn said_of<T>(keys: &[&'static str], values: &[Option<T>]) -> Vec<&'static str> 
     said.map(|(key, _)| *key).collect()
 }
 
+/// A mark of the order of bytes, which editors write before a text.
+const MARK: &str = "\u{feff}";
+
 pub(crate) fn utf8(text: &[u8]) -> Result<&str, Wrong> {
-    str::from_utf8(text).map_err(|error| {
+    let read = str::from_utf8(text).map_err(|error| {
         let before = &text[..error.valid_up_to()];
+        let words = match text {
+            [0xff, 0xfe, ..] | [0xfe, 0xff, ..] => {
+                "the text is in UTF-16, and is read in UTF-8 alone: write it anew as that"
+            }
+            _ => "the bytes are no text (UTF-8); is this a job? `bundles unpack` reads jobs",
+        };
         Wrong {
             line: 1 + before.iter().filter(|&&byte| byte == b'\n').count(),
-            words: "the bytes are no text (UTF-8); is this a job? `bundles unpack` reads jobs"
-                .to_string(),
+            words: words.to_string(),
         }
-    })
+    })?;
+    Ok(read.strip_prefix(MARK).unwrap_or(read))
 }
 
 /// The words of a line, from left to right.

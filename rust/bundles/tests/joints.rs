@@ -55,7 +55,7 @@ fn in_words() {
     assert_eq!(
         said(&job("gap-closed-by-the-shift")),
         format!(
-            "{ONE}  route 7 touches bundle 1 at (1073741842, 15)\n\
+            "{ONE}  edge 7 touches bundle 1 at (1073741842, 15)\n\
              last shift: across, it rounded a coordinate, or a far side that is summed anew; down, it may have rounded\n"
         )
     );
@@ -63,8 +63,8 @@ fn in_words() {
     assert_eq!(
         said(&job("gap-closed-among-thirds")),
         format!(
-            "{two}  route 1 touches bundle 1 at (4.666666666666666, 3.333333333333333)\n  \
-             route 1 touches bundle 1 from (2, 3.333333333333333) to (4.666666666666666, \
+            "{two}  edge 1 touches bundle 1 at (4.666666666666666, 3.333333333333333)\n  \
+             edge 1 touches bundle 1 from (2, 3.333333333333333) to (4.666666666666666, \
              3.333333333333333)\n\
              last shift: across, it subtracted nothing; down, it rounded a coordinate, or a far side that is summed anew\n"
         )
@@ -72,7 +72,7 @@ fn in_words() {
     assert_eq!(
         said(&job("far-side-by-the-shift")),
         format!(
-            "{ONE}  route 6 enters node 2 from (268435456, 50) to (268435456, 150)\n\
+            "{ONE}  edge 6 enters node 2 from (268435456, 50) to (268435456, 150)\n\
              last shift: across, it rounded a coordinate, or a far side that is summed anew; down, it subtracted nothing\n"
         )
     );
@@ -127,11 +127,11 @@ fn in_pictures() {
     for (name, words) in [
         (
             "gap-closed-by-the-shift",
-            "False joint: route 7 touches bundle 1 at (1073741842, 15).",
+            "False joint: edge 7 touches bundle 1 at (1073741842, 15).",
         ),
         (
             "far-side-by-the-shift",
-            "Route in a node: route 6 enters node 2 from (268435456, 50) to (268435456, 150).",
+            "Edge in a node: edge 6 enters node 2 from (268435456, 50) to (268435456, 150).",
         ),
     ] {
         let board = job(name);
@@ -139,7 +139,7 @@ fn in_pictures() {
             svg(&board, &drawn(&board), &Names::default(), name).expect("a clear picture");
         assert_eq!(picture.matches("class=\"false-joint\"").count(), 1);
         assert!(picture.contains(&format!(">{words}</text>")), "{picture}");
-        assert!(picture.contains(">false joint, or a route in a node</text>"));
+        assert!(picture.contains(">false joint, or an edge in a node</text>"));
         assert!(picture.contains(">Joints: 1 is false, by the rounding of the last shift"));
     }
     for name in ["clock-board", "crossings"] {

@@ -106,8 +106,12 @@ impl<'a> Told<'a> {
         if meant.nodes.len() < 2 && meant.ports.len() < 2 {
             way.lifted.extend(self.end_keys(&meant));
         }
+        let at = self.port(bundle.endpoint, &meant);
+        if routes.is_empty() {
+            let words = format!("No members: no wire is led to {at} by it.");
+            way.notes.insert(0, words);
+        }
         if !self.drawn {
-            let at = self.port(bundle.endpoint, &meant);
             way.notes.insert(0, format!("Not drawn: a bundle at {at}."));
         }
         let label = format!("B{}", bundle.id);

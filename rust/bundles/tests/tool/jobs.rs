@@ -127,6 +127,141 @@ fn several_jobs() {
     assert_eq!(fs::read(name("b.answer")).expect("an answer"), answer);
 }
 
+/// What is whole is unpacked, however long it is; what is cut off is said.
+#[test]
+fn unpacked_jobs() {
+    let row = |id: usize| format!("node {id} at 0,0 size 1,1\n");
+    let rows = (0..3_000).map(row).collect::<String>();
+    let board = format!(
+        "port_stub 10\nroute_lane_gap 10\nedge_node_clearance 0\nminimum_parallel_wire_spacing 0\n\
+         member_endpoint_reserve 20\n{rows}"
+    );
+    let job = out(0, &["pack"], board.as_bytes());
+    assert!(job.len() > 100_000);
+    let unpacked = out(0, &["unpack"], &job);
+    assert_eq!(out(0, &["pack"], &unpacked), job);
+    for (bytes, due) in [(100_000, "missing"), (5, "missing"), (4, "missing")] {
+        let output = bundles(&["unpack"], &job[..bytes]);
+        assert_eq!(output.status.code(), Some(2));
+        let (said, follow) = (job.len() - 4, bytes - 4);
+        let words = format!(
+            "bundles: standard input: no whole job: byte 0: expected the length of all bytes that \
+             follow, found {said}, and {follow} follow: {} are {due}\n",
+            said - follow
+        );
+        assert_eq!(text(output.stderr), words);
+    }
+    let output = bundles(&["unpack"], &[&job[..], b"\0\0"].concat());
+    assert!(text(output.stderr).ends_with("follow: 2 are too many\n"));
+    let output = bundles(&["unpack"], &job[..3]);
+    let words = "byte 0: expected the length of all bytes that follow, found the end\n";
+    assert!(text(output.stderr).ends_with(words));
+}
+
+/// No answer is written twice, or over a job that is given.
+#[test]
+fn answers_in_one_place() {
+    let folder = folder("one-place");
+    let name = |name: &str| folder.join(name).to_str().expect("text").to_string();
+    let job = fs::read(example("board.job")).expect("an example");
+    for job_of in ["a.job", "a", "c.answer", "c.job"] {
+        fs::write(name(job_of), &job).expect("a file");
+    }
+    let said = failed(&["draw", &name("a.job"), &name("a")]);
+    let due = format!(
+        "2 of 2: not drawn: {}: its answer would replace that to {}, {}: ",
+        name("a"),
+        name("a.job"),
+        name("a.answer")
+    );
+    assert!(said.contains(&due), "{said}");
+    assert_eq!(
+        fs::read(name("a.answer")).expect("an answer"),
+        fs::read(example("board.answer")).expect("an example")
+    );
+    // By another way to the same file.
+    let other = name("../one-place/a");
+    let said = failed(&["draw", &name("a.job"), &other]);
+    assert!(said.contains("its answer would replace that to"), "{said}");
+    let said = failed(&["draw", &name("c.job"), &name("c.answer")]);
+    let due = format!("1 of 2: not drawn: {}: its answer would", name("c.job"));
+    assert!(said.contains(&due), "{said}");
+    assert_eq!(fs::read(name("c.answer")).expect("the job"), job);
+}
+
+/// A mark of the order of bytes before a text, as some editors write it.
+#[test]
+fn a_text_with_a_byte_order_mark() {
+    let board = fs::read(example("clock-board.txt")).expect("an example");
+    let job = fs::read(example("clock-board.job")).expect("an example");
+    let marked = [b"\xef\xbb\xbf", &board[..]].concat();
+    assert_eq!(out(0, &["pack"], &marked), job);
+    let names = out(0, &["names", "-"], &board);
+    assert_eq!(out(0, &["names", "-"], &marked), names);
+    let wide = board.iter().flat_map(|byte| [*byte, 0]);
+    let wide = [0xff, 0xfe].into_iter().chain(wide).collect::<Vec<_>>();
+    let output = bundles(&["pack"], &wide);
+    assert_eq!(output.status.code(), Some(2));
+    let said = text(output.stderr);
+    assert!(said.contains("line 1: the text is in UTF-16"), "{said}");
+}
+
+/// The search for places that runs out of tap visits is told by every command that draws, with what would be
+/// enough; from a plan nothing is searched.
+#[test]
+fn a_search_that_runs_out() {
+    let board = fs::read_to_string(example("clock-board.txt")).expect("an example");
+    let board = format!("{board}tap_visits 100\n");
+    let folder = folder("spent");
+    let name = folder.join("board.txt").to_str().expect("text").to_string();
+    fs::write(&name, &board).expect("a file");
+    let words = "the search for places ran out of tap visits; tap_visits 280 would be enough";
+    let due = format!("{name}: {words}\n");
+    for command in ["draw", "picture", "html"] {
+        let output = bundles(&[command, &name], b"");
+        assert_eq!(output.status.code(), Some(0), "{command}");
+        assert_eq!(text(output.stderr), due, "{command}");
+    }
+    let answer = out(0, &["draw", &name], b"");
+    let explained = text(out(0, &["explain", "-", &name], &answer));
+    assert!(explained.contains(&format!("\n  {words}\n")), "{explained}");
+    let picture = text(out(0, &["picture", &name], b""));
+    assert!(
+        picture.contains(&format!(">The{}.</text>", &words[3..])),
+        "{picture}"
+    );
+    let plan = folder.join("plan").to_str().expect("text").to_string();
+    fs::write(&plan, out(0, &["plan", &name], b"")).expect("a file");
+    let output = bundles(&["picture", "--plan", &plan, &name], b"");
+    assert!(output.stderr.is_empty(), "{}", text(output.stderr));
+    assert!(!text(output.stdout).contains("ran out"));
+}
+
+/// A bundle without members: nothing leads to its port, and that is said.
+#[test]
+fn a_bundle_without_members() {
+    let board = fs::read_to_string(example("clock-board.txt")).expect("an example");
+    let board = board.replace("grid yes", "grid no");
+    let board = format!("{board}port 8:9 west 5\nbundle 9 \"spare\" at 8:9 output width 2\n");
+    let answer = out(0, &["draw"], board.as_bytes());
+    let folder = folder("no-members");
+    let name = folder.join("board.txt").to_str().expect("text").to_string();
+    fs::write(&name, &board).expect("a file");
+    let explained = text(out(0, &["explain", "-", &name], &answer));
+    assert!(
+        explained.contains("\nB9 spare: 8:9, no members\n"),
+        "{explained}"
+    );
+    let picture = text(out(0, &["picture", &name], b""));
+    assert!(
+        picture.contains(">spare: 8:9, no members; output, "),
+        "{picture}"
+    );
+    let page = text(out(0, &["html", &name], b""));
+    let note = "notes:[\"No members: no wire is led to port 8:9 by it.\"]";
+    assert!(page.contains(note), "{page}");
+}
+
 /// A text in place of a job: it is packed, and its lines and names are told.
 #[test]
 fn texts_in_place_of_jobs() {

@@ -96,7 +96,7 @@ fn from_text_to_picture() {
 fn an_explanation() {
     let (job, answer) = (example("clock-board.job"), example("clock-board.answer"));
     let table = "\
-a sheet of 1000 by 480: 8 nodes, 20 routes, 6 bundles
+a sheet of 1000 by 480: 8 nodes, 20 edges, 6 bundles
 
 bundle  role    place     collector x  y           taps
 1       input   interior  380          70 to 130   4
