@@ -42,15 +42,60 @@ pub enum Why {
     NoPoints { other: Endpoint },
 }
 
-/// What roundings may put between the two: the last shift moves each by 2^-20 at most, and a port's place is
-/// a sum.
-const NEAR: f64 = 1.0 / 262_144.0;
+/// How near to its port an end is at it: as near as no paper shows, and as roundings may put the two apart, a
+/// port's place being a sum and the last shift a difference. Both are measured by the board, however small or
+/// large it is.
+#[derive(Clone, Copy)]
+pub struct Near(f64);
+
+/// No paper shows this part of the board's length; never more than the absolute number counts as near.
+const UNSEEN: f64 = 1.0 / 4_294_967_296.0;
+const MOST: f64 = 1.0 / 262_144.0;
+/// Sixteen times what the rounding of a number may be, for several of them.
+const ROUNDED: f64 = 16.0 * f64::EPSILON;
+
+impl Near {
+    /// `largest` is of other numbers that are counted too.
+    fn with(board: &Board, largest: f64) -> Near {
+        let nodes = board.nodes.iter();
+        let nodes = nodes.flat_map(|node| {
+            let Node { x, y, .. } = *node;
+            [(x, y), (x + node.width, y + node.height)]
+        });
+        let points = board.edges.iter().flat_map(|edge| &edge.points);
+        let all = nodes.chain(points.map(|at| (at.x, at.y)));
+        let all = all.collect::<Vec<_>>();
+        let ways = [|at: &(f64, f64)| at.0, |at: &(f64, f64)| at.1].map(|way| {
+            let numbers = all.iter().map(way).filter(|number| number.is_finite());
+            let both = (f64::INFINITY, f64::NEG_INFINITY);
+            numbers.fold(both, |(low, high), at| (low.min(at), high.max(at)))
+        });
+        let long = ways.iter().map(|(low, high)| high - low);
+        let long = long.fold(0.0, f64::max);
+        let most = ways.iter().flat_map(|(low, high)| [-low, *high]);
+        let most = most.fold(largest, f64::max);
+        Near((UNSEEN * long).min(MOST).max(ROUNDED * most))
+    }
+
+    pub fn of(board: &Board) -> Near {
+        Near::with(board, 0.0)
+    }
+
+    fn holds(self, one: f64, two: f64) -> bool {
+        (one - two).abs() <= self.0
+    }
+
+    /// Whether two places are one.
+    pub fn one(self, a: Point, b: Point) -> bool {
+        self.holds(a.x, b.x) && self.holds(a.y, b.y)
+    }
+}
 
 /// The loose ends of a board, whether it is drawn or refused: an end that is in a bundle is where the
 /// bundle's port is, wherever its route begins.
 pub fn on_board(board: &Board) -> Vec<Loose> {
     let routes = board.edges.iter().map(|edge| &edge.points[..]);
-    Look::new(board, &board.nodes).ends(routes, &Members::of(board))
+    Look::new(board, &board.nodes, Near::of(board)).ends(routes, &Members::of(board))
 }
 
 /// The same of a finished sheet. The last shift may have moved it: places are told as the board has them,
@@ -76,7 +121,8 @@ fn shown(board: &Board, sheet: &Sheet) -> Vec<Loose> {
     });
     let nodes = placed.collect::<Vec<_>>();
     let routes = sheet.routes.iter().map(|route| &route.points[..]);
-    Look::new(board, &nodes).ends(routes, &Members::of(board))
+    let near = Near::with(board, sheet.width.max(sheet.height));
+    Look::new(board, &nodes, near).ends(routes, &Members::of(board))
 }
 
 /// The bundles that edges are in, by role and edge.
@@ -111,11 +157,12 @@ impl Members {
 struct Look<'a> {
     board: &'a Board,
     ports: HashMap<(Id, Id), Vec<Point>>,
+    near: Near,
 }
 
 impl<'a> Look<'a> {
     /// `nodes` are the board's, where they are placed.
-    fn new(board: &'a Board, nodes: &[Node]) -> Look<'a> {
+    fn new(board: &'a Board, nodes: &[Node], near: Near) -> Look<'a> {
         let mut by_id = HashMap::<Id, Vec<&Node>>::new();
         for node in nodes {
             by_id.entry(node.id).or_default().push(node);
@@ -127,7 +174,7 @@ impl<'a> Look<'a> {
             let of = ports.entry((port.node, port.id)).or_default();
             of.extend(places);
         }
-        Look { board, ports }
+        Look { board, ports, near }
     }
 
     fn ends<'b>(&self, routes: impl Iterator<Item = &'b [Point]>, members: &Members) -> Vec<Loose> {
@@ -169,10 +216,11 @@ impl<'a> Look<'a> {
         let Some(first) = places.first() else {
             return Some(Why::NoPort { at });
         };
-        if places.iter().any(|place| near(*place, at)) {
+        if places.iter().any(|place| self.near.one(*place, at)) {
             return None;
         }
-        let on = |place: &&Point| route.windows(2).any(|run| runs_through(run, **place));
+        let near = self.near;
+        let on = |place: &&Point| route.windows(2).any(|run| runs_through(run, **place, near));
         Some(match places.iter().find(on) {
             Some(port) => Why::Past { at, port: *port },
             None => Why::Elsewhere { at, port: *first },
@@ -181,18 +229,13 @@ impl<'a> Look<'a> {
 }
 
 /// Whether a level or upright run has a place on it.
-fn runs_through(run: &[Point], place: Point) -> bool {
+fn runs_through(run: &[Point], place: Point, near: Near) -> bool {
     let [a, b] = [run[0], run[1]];
     let between = |a: f64, b: f64, at: f64| a.min(b) <= at && at <= a.max(b);
-    let along = |a: f64, b: f64, at: f64| (a - at).abs() <= NEAR && (b - at).abs() <= NEAR;
+    let along = |a: f64, b: f64, at: f64| near.holds(a, at) && near.holds(b, at);
     let level = along(a.y, b.y, place.y) && between(a.x, b.x, place.x);
     let upright = along(a.x, b.x, place.x) && between(a.y, b.y, place.y);
     level || upright
-}
-
-/// Whether two places are one but for roundings.
-pub fn near(one: Point, two: Point) -> bool {
-    (one.x - two.x).abs() <= NEAR && (one.y - two.y).abs() <= NEAR
 }
 
 impl Loose {

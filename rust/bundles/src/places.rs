@@ -5,7 +5,7 @@ use std::collections::HashMap;
 
 use bundle_stage::{Board, Endpoint, Id, Point};
 
-use crate::loose::near;
+use crate::loose::Near;
 
 /// The places of records in their tables by id.
 pub struct Places<'a> {
@@ -16,6 +16,7 @@ pub struct Places<'a> {
     bundles: HashMap<Id, Vec<usize>>,
     /// Where routes end that name a port.
     ends: HashMap<(Id, Id), Vec<Point>>,
+    near: Near,
 }
 
 /// Of more records of one id it is not looked which are meant.
@@ -51,6 +52,7 @@ impl<'a> Places<'a> {
         }
         Places {
             ends,
+            near: Near::of(board),
             board,
             nodes: by_id(board.nodes.iter().map(|node| node.id)),
             ports: by_id(board.ports.iter().map(|port| (port.node, port.id))),
@@ -88,7 +90,7 @@ impl<'a> Places<'a> {
         let (Some(at), true, false) = (at, several, many) else {
             return all;
         };
-        let stands = |node, port| near(self.at(node, port), *at);
+        let stands = |node, port| self.near.one(self.at(node, port), *at);
         let nodes = all.nodes.iter().copied();
         let nodes = nodes.filter(|node| all.ports.iter().any(|port| stands(*node, *port)));
         let ports = all.ports.iter().copied();
@@ -108,7 +110,7 @@ impl<'a> Places<'a> {
         let ends = ends.filter(|_| (2..=MOST).contains(&nodes.len()));
         let is_home = |node: &&usize| {
             let mut ends = ends.into_iter().flatten();
-            ends.any(|end| near(self.at(**node, port), *end))
+            ends.any(|end| self.near.one(self.at(**node, port), *end))
         };
         let home = nodes.iter().find(is_home);
         home.or(nodes.first()).copied()

@@ -49,6 +49,26 @@ fn an_end_that_is_not_at_its_port() {
     assert!(explained.ends_with(&end), "{explained}");
 }
 
+/// How near an end is to be is measured by the board: on a small one nothing but its port is at its port.
+#[test]
+fn a_small_board() {
+    for (end, is_at) in [
+        ("1e-7", true),
+        ("1.2e-7", false),
+        ("1.0000000000000002e-7", true),
+    ] {
+        let board = format!(
+            "port_stub 0\nroute_lane_gap 0\nedge_node_clearance 0\nminimum_parallel_wire_spacing 0\n\
+             member_endpoint_reserve 0\nnode 1 at 0,0 size 1e-8,1e-8\nnode 2 at 1e-7,0 size 1e-8,1e-8\n\
+             port 1:1 east 0\nport 2:1 west 0\nedge 1 from 1:1 to 2:1 via 1e-8,0 {end},0\n"
+        );
+        let output = bundles(&["draw"], board.as_bytes());
+        assert_eq!(output.status.code(), Some(0));
+        let said = text(output.stderr);
+        assert_eq!(said.is_empty(), is_at, "{end}: {said}");
+    }
+}
+
 /// Of a job there is no line; several jobs; from a plan.
 #[test]
 fn jobs_and_plans() {
