@@ -5,10 +5,11 @@ use bundle_stage::{Attempt, Board, DrawnBundle, Id, Point, Segment};
 use crate::names::Names;
 use crate::signs::isolated;
 
+use super::bodies::sides;
 use super::field::{Rect, moved};
 use super::page::MARGIN;
 use super::palette::{GREY, WARNING};
-use super::scene::{MARK, shown};
+use super::scene::{MARK, Scene, shown};
 use super::shapes::ring;
 use super::xml::{BOLD, cut, escaped, mm, place, wide_bold, words};
 
@@ -89,8 +90,8 @@ impl Tried {
     }
 
     /// Over everything else: dashed lines, open dots, a ring where it was refused, and words.
-    pub fn draw(&self, names: &Names, width: f64) -> String {
-        let (id, name) = (self.id, self.name(names));
+    pub fn draw(&self, scene: &Scene, width: f64) -> String {
+        let (id, name) = (self.id, self.name(&scene.names));
         let d = |parts: &[Segment]| {
             let line = |part: &Segment| format!("M{}L{}", place(part.start), place(part.end));
             parts.iter().map(line).collect::<String>()
@@ -114,7 +115,7 @@ impl Tried {
         if let Some(at) = self.at {
             svg.push_str(&ring(at.x, at.y, MARK));
         }
-        let words = self.words(&name, width);
+        let words = self.words(scene, width);
         svg.extend(words.into_iter().map(|(words, _)| words));
         svg + "</g>\n"
     }
@@ -124,39 +125,86 @@ impl Tried {
     }
 
     /// What ids are to leave free.
-    pub fn taken(&self, names: &Names, width: f64) -> Vec<Rect> {
+    pub fn taken(&self, scene: &Scene, width: f64) -> Vec<Rect> {
         let lines = self.lines();
         let lines = lines.map(|part| Rect::of(part.start, part.end, WIDTH));
         let dots = self.taps.iter().map(|tap| Rect::of(*tap, *tap, 1.0));
         let ring = self.ring();
-        let words = self.words(&self.name(names), width);
+        let words = self.words(scene, width);
         let words = words.into_iter().map(|(_, rect)| rect);
         lines.chain(dots).chain(ring).chain(words).collect()
     }
 
-    /// A word at the ring, and the bundle's name at the upper end of its collector; and where they are.
-    fn words(&self, name: &str, width: f64) -> Vec<(String, Rect)> {
-        let here = |at: Point| beside(moved(at, 0.0, MARK), "refused here", width);
-        let here = self.at.map(here).into_iter().collect::<Vec<_>>();
-        let ring = self.ring();
-        let said = format!("B{}{name}: refused, not drawn", self.id);
+    /// A word at the ring, and the bundle's name at the upper end of its collector; and where they are: not over
+    /// the lines of what was tried where there is room beside them, and over as few others as can be.
+    fn words(&self, scene: &Scene, width: f64) -> Vec<(String, Rect)> {
+        let lines = self.lines();
+        let lines = lines.map(|part| Rect::of(part.start, part.end, WIDTH / 2.0 + 0.3));
+        let dots = self.taps.iter().map(|tap| Rect::of(*tap, *tap, 1.0));
+        let mut own = lines.chain(dots).chain(self.ring()).collect::<Vec<_>>();
+        let others = others(scene);
         let top = self.parts.last().map(|collector| {
             let Segment { start, end } = *collector;
             if start.y < end.y { start } else { end }
         });
-        let top = top.into_iter();
-        let mut all = top.flat_map(|top| {
-            let lines = (0..4).map(f64::from);
-            lines.map(move |line| moved(top, 0.0, -1.2 * SIZE * line - 0.5))
-        });
-        let free = all.find_map(|at| {
-            let said = beside(at, &said, width);
-            let mut taken = here.iter().map(|(_, rect)| *rect).chain(ring);
-            let free = !taken.any(|other| other.meets(&said.1));
-            free.then_some(said)
-        });
-        here.into_iter().chain(free).collect()
+        let said = format!(
+            "B{}{}: refused, not drawn",
+            self.id,
+            self.name(&scene.names)
+        );
+        let here = self.at.map(|at| (around(at), "refused here"));
+        let top = top.map(|top| (above(top), &said[..]));
+        let mut words = Vec::new();
+        for (places, said) in here.into_iter().chain(top) {
+            let all = places.into_iter().flat_map(|at| beside(at, said, width));
+            let all = all.collect::<Vec<_>>();
+            let met = |one: &(String, Rect), of: &[Rect]| {
+                of.iter().filter(|rect| rect.meets(&one.1)).count()
+            };
+            let free = all.iter().filter(|one| met(one, &own) == 0);
+            let best = free.min_by_key(|one| met(one, &others));
+            // The word at the ring is worth more than what it may lie over.
+            let best = best.or(all.first().filter(|_| words.is_empty()));
+            if let Some(one) = best.cloned() {
+                own.push(one.1);
+                words.push(one);
+            }
+        }
+        words
     }
+}
+
+/// The lines of the board as it was given, with room for a cross at their ends, the frames of its nodes, and its
+/// ports.
+fn others(scene: &Scene) -> Vec<Rect> {
+    let runs = scene
+        .routes
+        .iter()
+        .flat_map(|route| route.points.windows(2));
+    let runs = runs.map(|run| (run[0], run[1]));
+    let sides = scene.nodes.iter().flat_map(sides);
+    let lines = runs.chain(sides).map(|(a, b)| Rect::of(a, b, 0.4));
+    let ports = scene.ports.iter();
+    let ports = ports.map(|port| Rect::of(port.low, port.high, port.size));
+    let routes = scene.routes.iter();
+    let ends = routes.flat_map(|route| [route.points.first(), route.points.last()]);
+    let ends = ends.flatten().map(|end| Rect::of(*end, *end, 1.5));
+    lines.chain(ports).chain(ends).collect()
+}
+
+/// Where words at a ring may begin: a little below its middle, then further down and up.
+fn around(at: Point) -> Vec<Point> {
+    let lines = [
+        1.0, -0.6, 0.2, 1.4, -1.0, 1.8, -1.4, 2.6, -2.2, 3.4, -3.0, 4.2, -3.8,
+    ];
+    lines.map(|line| moved(at, 0.0, line * MARK)).to_vec()
+}
+
+/// The same at the upper end of a collector.
+fn above(top: Point) -> Vec<Point> {
+    let lines = (0..8).map(f64::from);
+    let places = lines.map(|line| moved(top, 0.0, -0.6 * SIZE * line - 0.5));
+    places.collect()
 }
 
 /// The runs of a member's route, as it was led, that do not lie on its given one.
@@ -180,25 +228,34 @@ fn led(board: &Board, attempt: &Attempt, edge: Id) -> Vec<Segment> {
     .collect()
 }
 
-/// Words to the right of a place, or to its left where the page ends, and where they are.
-fn beside(at: Point, said: &str, width: f64) -> (String, Rect) {
+/// Words to the right of a place and to its left, where the page has more room first, and where they are.
+fn beside(at: Point, said: &str, width: f64) -> Vec<(String, Rect)> {
     let long = wide_bold(said, SIZE);
     let rooms = [width - at.x, at.x].map(|room| room - 1.2 * MARK - MARGIN / 2.0);
-    let (side, anchor, room) = if long < rooms[0] || rooms[0] > rooms[1] {
-        (1.0, "start", rooms[0])
+    let right = (1.0, "start", rooms[0]);
+    let left = (-1.0, "end", rooms[1]);
+    let sides = if long < rooms[0] || rooms[0] > rooms[1] {
+        [right, left]
     } else {
-        (-1.0, "end", rooms[1])
+        [left, right]
     };
-    // The whole name is there under the pointer.
-    let said = &cut(said, SIZE, room);
-    let long = wide_bold(said, SIZE);
-    let at = moved(at, 1.2 * side * MARK, 0.0);
-    let more = format!(
-        "text-anchor=\"{anchor}\" {BOLD} fill=\"{WARNING}\" stroke=\"white\" \
-         stroke-width=\"0.6\" paint-order=\"stroke\""
-    );
-    let rect = Rect::of(at, moved(at, side * long, -SIZE), 0.0);
-    (words(at, SIZE, &more, said), rect)
+    // Words that are cut stand where there is more room.
+    let first = sides[0].2;
+    let sides = sides.into_iter();
+    let sides = sides.filter(|(.., room)| *room == first || long < *room);
+    let words = sides.map(|(side, anchor, room)| {
+        // The whole name is there under the pointer.
+        let said = &cut(said, SIZE, room);
+        let long = wide_bold(said, SIZE);
+        let at = moved(at, 1.2 * side * MARK, 0.0);
+        let more = format!(
+            "text-anchor=\"{anchor}\" {BOLD} fill=\"{WARNING}\" stroke=\"white\" \
+             stroke-width=\"0.6\" paint-order=\"stroke\""
+        );
+        let rect = Rect::of(at, moved(at, side * long, -SIZE), 0.0);
+        (words(at, SIZE, &more, said), rect)
+    });
+    words.collect()
 }
 
 /// A dashed line on white, so that it shows on what it lies over.

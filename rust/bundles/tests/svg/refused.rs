@@ -4,7 +4,8 @@ use bundle_stage::{Attempt, Board, Edge, Endpoint, Id, Node, Point, Refusal};
 use bundles::names::Names;
 use bundles::text;
 
-use super::read::{Element, elements, lines};
+use super::labels::letters;
+use super::read::{Element, elements, lines, nearest};
 use super::{board, checked, example, file, of_class};
 
 fn svg_refused(board: &Board, refusal: Refusal, title: &str) -> String {
@@ -184,6 +185,26 @@ fn ring_at(picture: &str, board: &Board, x: f64, y: f64) {
     assert!(dx.hypot(dy) < 0.05, "{dx} {dy}");
 }
 
+/// The words beside what was tried lie on none of its lines.
+fn words_beside(picture: &str) {
+    let elements = elements(picture);
+    let tried = tried(&elements);
+    let dashed = tried
+        .iter()
+        .filter(|of| !of.value("stroke-dasharray").is_empty());
+    let lines = dashed
+        .flat_map(|of| lines(of.value("d")))
+        .collect::<Vec<_>>();
+    let words = tried.iter().filter(|of| of.name == "text");
+    let words = words.collect::<Vec<_>>();
+    assert_eq!(words.len(), 2);
+    for label in words {
+        let (middle, half) = letters(label);
+        let far = nearest(&[middle], &lines, |_| false).0;
+        assert!(far > half + 0.35, "{}: {far}", label.words);
+    }
+}
+
 /// 11: a wire in no bundle across the spine of bundle 3, which is the one that is shown.
 #[test]
 fn a_spine_that_would_cross_a_wire() {
@@ -199,6 +220,7 @@ fn a_spine_that_would_cross_a_wire() {
         assert!(picture.contains(words), "{words}");
     }
     ring_at(&picture, &board, 320.0, 260.0);
+    words_beside(&picture);
     let names = text::read_all(&file("examples/clock-board.txt"))
         .expect("a text")
         .names;
@@ -223,6 +245,7 @@ fn a_node_in_the_way() {
     let words = "The route of edge 11, a member of bundle 1, would run through node 9, from";
     assert!(picture.contains(words));
     ring_at(&picture, &board, 391.0, 70.0);
+    words_beside(&picture);
 }
 
 /// 10: a member of bundle 5, which stands at the rail, that ends before its corridor.
@@ -240,6 +263,7 @@ fn a_member_that_cannot_be_led() {
     assert!(picture.contains(words));
     // Its tap is the first of three, 10 from the middle one.
     ring_at(&picture, &board, 120.0, 410.0);
+    words_beside(&picture);
 }
 
 /// 13: by the plan, so that nothing was tried; the bundles are named.
