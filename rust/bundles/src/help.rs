@@ -69,15 +69,18 @@ which is packed: then the lines are named too. Names of a FILE are for these wor
 The stage takes routes as they are. An end of an edge that the sheet does not lead to the port that the edge
 names is told on standard error: by no route, by one that ends elsewhere, or by a bundle that stands at
 another port; or the board has no such port. Twelve are told, and how many more there are; `bundles explain`
-names all. The sheet is drawn all the same, and the exit code is 0.
+names all. The sheet is drawn all the same, and the exit code is 0. Where the search for places ran out of tap visits,
+so that a bundle may stand at the rail for that alone, it is told with what would be enough; pictures and pages have
+it below the title.
 
 With a PLAN, made by `bundles plan`, the one job is drawn from it and nothing is planned. It may be the plan
 of another revision: it is refused with 17 where it does not fit the job's bundles, with 18 where a planned
 number is none for this job, and else drawn as any other, with all checks.
 
 With two jobs or more, each answer is written beside its job, with `.answer` in place of `.job` at
-the end of the name, or behind a name with another end; a file that is there is replaced. Each job
-has a line on standard error. A job that cannot be read is told, and the others are drawn. The exit
+the end of the name, or behind a name with another end; a file that is there is replaced, but for a job that is
+given and an answer that was just written: that job is told, and not drawn. Each job has a line on standard
+error. A job that cannot be read is told, and the others are drawn. The exit
 code is 2 where one could not be read, else 1 where any was refused.",
     },
     Command {
@@ -108,8 +111,8 @@ The ANSWER has to be that of the JOB, drawn from the PLAN if one is given behind
 to compare. Of another answer it is said in what the two differ, and nothing else; the exit code is 2.
 
 The last lines say of the ends of routes whether all are at their ports, or which are not, and where they and
-their ports are, in the job's own coordinates; what roundings may put between the two, up to 2^-18, does not
-count. An end in a bundle is
+their ports are, in the job's own coordinates. What no paper shows does not count, a part of 2^-32 of the board's
+length and never more than 2^-18; nor does what the rounding of its numbers may put between the two. An end in a bundle is
 where the bundle's port is.
 
 With a PLAN in the answer's place the table has a line for each bundle: the x that is planned for it, or
@@ -146,15 +149,18 @@ near, are drawn side by side: where taps are at one place, one that leaves along
 last of them, and routes that turn straight back at one place turn one after the other. Arches side by side
 over a bundle rise to one side; a route in two bundles changes its colour half way. No line comes
 within 0.2 mm of the square of a port at which it does not end; a sheet that itself has a line on the place of
-such a port has no picture, but words that name the line, the port and the node. The legend has each
+such a port has no picture, but words that name the line, the port and the node. None goes along the frame of a node
+at which it does not end within 0.2 mm of it; one that lies on the frame on the sheet itself is named below the
+title. Two edges cross on the page as often as on the sheet, however near to each other they turn or end. The legend has each
 bundle's id, from which ports to which it leads, its role, place and width. Below it stands what `bundles
 explain` says of the joints and of the last shift; a false joint has a ring around it, and its words stand
 below the title.
 
 An end of a route that is not at its port has a cross, which touches no other line, with `not at` and the port
-beside it where there is room: nothing is joined there, however near it is to something. Below the title stand
-the words, six at most, and how many more there are; the last line counts the ends that have no room for a
-cross. In the legend such a port has a cross behind it in the line of a bundle.
+beside it where there is room: nothing is joined there, however near it is to something. A larger paper is taken
+where it has room for more crosses, as a page is stretched for them. Below the title stand the words, six at most,
+and how many more there are; the last line counts the ends for whose cross no paper has room, as where two are in
+one place. An end at its port is drawn up to the port's square. In the legend such a port has a cross behind it in the line of a bundle.
 
 Lines and letters have their sizes in millimetres of the page; no letter is smaller than 1.8. Where
 lines would be too near to each other, the sheet is stretched across or down, and the last line of the
@@ -181,8 +187,10 @@ The page is one file that needs nothing else: open it with a browser. It has the
 `bundles svg`. Point at a bundle, a route, a node or a port, and its way from unit to port is lifted,
 the rest is dimmed, and the way is told in words; a click or a tap of the finger keeps it so. Of another
 bundle on the way, as in a chain, only the stretch between its port and the taps on the way is lifted, where
-wires leave it elsewhere too; that is told. The search takes names and ids, as `5:11`, `edge 41` or `B4 time code`. Wheel, two fingers, `+` and `-` zoom;
-dragging and the arrows move; `0` shows the whole sheet, Tab goes from one thing to the next, the bundles first
+wires leave it elsewhere too; that is told. The search takes names and ids, as `5:11`, `edge 41` or `B4 time code`; of what it finds it lists twelve, and says how
+many more there are. Wheel, two fingers, `+` and `-` zoom;
+dragging and the arrows move; Page Up and Page Down move the words where they are longer than their place, and so do
+the arrows while the words have the focus; `0` shows the whole sheet, Tab goes from one thing to the next, the bundles first
 in the order of the legend, Enter or Space chooses, Escape shows all again, `/` goes to the search. What search, Tab or address choose is brought into
 view. Behind `#` in the address can stand what is chosen: sheet.html#bundle-4, #edge-41, #port-5-11, #node-5.
 Printed it is the picture, on paper of its size. Where no picture would be clear, the page has the words that say so, and the exit

@@ -8,7 +8,11 @@
 mod bodies;
 mod crossings;
 mod drawn;
+mod ends;
+mod even;
+mod facts;
 mod field;
+mod frames;
 mod head;
 mod labels;
 mod lanes;
@@ -31,19 +35,18 @@ mod spans;
 mod stretch;
 mod stroke;
 mod tried;
+mod tries;
 mod walk;
 mod white;
 mod wishes;
 mod xml;
 
-use std::cell::OnceCell;
 use std::collections::BTreeSet;
 use std::fmt;
-use std::ops::Range;
 
 use bundle_stage::{Board, Point, Sheet};
 
-use crate::explain::counted;
+use crate::explain::{counted, spent_words};
 use crate::joints::Joints;
 use crate::loose::on_sheet;
 use crate::names::Names;
@@ -51,21 +54,21 @@ use crate::text::number;
 pub(crate) use xml::escaped;
 
 use drawn::strokes;
+use facts::Facts;
 use field::field;
 use head::Head;
 use labels::{Labels, labels};
 use legend::Legend;
 use loose::Crosses;
-use page::{A0, LARGEST, MARGIN, PAPERS, Page};
+use page::{MARGIN, PAPERS, Page};
 use palette::BLACK;
 use pens::Pens;
 pub use refused::{svg_refused, svg_refused_from};
-use said::{not_joined, warnings};
+use said::{capital, not_joined, on_frames, warnings};
 use scene::Scene;
 use shapes::{lines, marks, nodes, square};
-use spans::Way;
-use stretch::{Needs, is_straight};
 use stroke::Stroke;
+use tries::{Pages, Try, larger, tries};
 use white::unclear;
 use xml::mm;
 
@@ -142,6 +145,10 @@ fn sheet_of(
     scene.records.loose = on_sheet(board, sheet);
     let mut warnings = warnings(joints);
     warnings.extend(not_joined(&scene));
+    scene.facts = Facts::of(&scene);
+    warnings.extend(on_frames(&scene));
+    let spent = joints.searched().then(|| spent_words(board)).flatten();
+    warnings.extend(spent.map(|words| capital(format!("{words}."))));
     let head = Head {
         title: title.to_string(),
         about: Some(about(board, sheet)),
@@ -163,7 +170,7 @@ fn about(board: &Board, sheet: &Sheet) -> String {
         number(sheet.width),
         number(sheet.height),
         counted(sheet.nodes.len(), "node"),
-        counted(sheet.routes.len(), "route"),
+        counted(sheet.routes.len(), "edge"),
         counted(sheet.bundles.len(), "bundle"),
         sheet.visits_left.tap,
         sheet.visits_left.geometry,
@@ -177,84 +184,78 @@ fn picture(scene: Scene, head: &Head, ink: &str, said: Option<String>) -> Result
     let mut named = BTreeSet::new();
     loop {
         let legend = Legend::of(&scene, &named, said.clone());
-        let (svg, without) = with_legend(&scene, head, &legend, ink)?;
+        let drawn = with_legend(&scene, head, &legend, ink)?;
         let before = named.len();
-        named.extend(without);
+        named.extend(drawn.unnamed);
         if named.len() == before {
-            return Ok(svg);
+            return Ok(drawn.svg);
         }
     }
 }
 
-/// The same with this legend, and the places of the nodes whose names have no room on the sheet.
-fn with_legend(
-    scene: &Scene,
-    head: &Head,
-    legend: &Legend,
-    ink: &str,
-) -> Result<(String, Vec<usize>), Unclear> {
+/// A page that is clear.
+struct Drawn {
+    svg: String,
+    /// The places of the nodes whose names have no room on the sheet.
+    unnamed: Vec<usize>,
+    /// How many ends that are not at their ports have no room for their crosses.
+    uncrossed: usize,
+}
+
+/// The same with this legend: on the first page that is clear.
+fn with_legend(scene: &Scene, head: &Head, legend: &Legend, ink: &str) -> Result<Drawn, Unclear> {
+    let pages = Pages::of(scene, head, legend);
     let mut what = String::new();
-    for (page, tunnels) in pages(scene, head, legend) {
-        let mut scene = scene.clone().moved(|point| page.at(point));
-        let mut pens = Pens::of(&scene);
-        let (strokes, miscounted) = strokes(&mut scene, &mut pens, tunnels);
-        if let Some(words) = miscounted.or_else(|| unclear(&scene, &strokes, &pens)) {
-            what = words;
-            continue;
-        }
-        bodies::widen(&mut scene, &strokes, &pens);
-        let (svg, labels) = page_of(&scene, (&strokes, &pens), (head, legend), &page, ink);
-        match labels.bundles.first() {
-            None => return Ok((svg, labels.nodes)),
-            // A bundle that is not named is followed by its colour alone.
-            Some(id) => what = format!("there is no room for the id of bundle {id}"),
+    for one in tries() {
+        match drawn(&pages, one, usize::MAX, ink) {
+            Some(Ok(first)) => return Ok(with_crosses(&pages, one.paper(), first, ink)),
+            Some(Err(words)) => what = words,
+            None => {}
         }
     }
     Err(Unclear::on_paper(&what))
 }
 
-/// How many times the room that lines need is tried: an arch may take more.
-const WIDE: [f64; 4] = [1.0, 1.15, 1.35, 1.6];
-
-/// A page that is tried, by the place of its paper.
-enum Try {
-    /// With `true` a line may go under several others in one gap.
-    ToScale(usize, bool),
-    /// Stretched, lines being so many times as far apart as they need.
-    Stretched(usize, f64),
-}
-
-/// Those that are tried, in order: to scale up to A0, then stretched up to 4A0; then, to scale on larger
-/// ones, those on which a line may go under several others in one gap, of 4 mm at most; at last stretched on
-/// those larger ones.
-fn tries() -> impl Iterator<Item = Try> {
-    let stretched = |papers: Range<usize>| {
-        papers.flat_map(|paper| WIDE.map(|wide| Try::Stretched(paper, wide)))
-    };
-    let first = (0..=A0).map(|paper| Try::ToScale(paper, false));
-    let tunnels = (A0..PAPERS.len()).map(|paper| Try::ToScale(paper, true));
-    let first = first.chain(stretched(0..LARGEST + 1));
-    let last = stretched(LARGEST + 1..PAPERS.len());
-    first.chain(tunnels).chain(last)
-}
-
-/// The pages that are tried, and whether a line may go under several others in one gap.
-fn pages(scene: &Scene, head: &Head, legend: &Legend) -> impl Iterator<Item = (Page, bool)> {
-    let above = |width: f64| head.height(width);
-    let below = |width: f64| legend.height(width);
-    // Worked out where the first pages do not do.
-    let needs = OnceCell::new();
-    let of_scene = || {
-        let ways = [Way::Upright, Way::Level];
-        is_straight(scene).then(|| ways.map(|way| Needs::of(scene, way)))
-    };
-    tries().filter_map(move |one| match one {
-        Try::ToScale(paper, tunnels) => Some((Page::of(scene, paper, above, below), tunnels)),
-        Try::Stretched(paper, wide) => {
-            let needs = needs.get_or_init(of_scene).as_ref()?;
-            Some((Page::stretched(needs, wide, paper, above, below)?, false))
+/// An end without its cross could be taken for joined: where a page has no room for all of them, the first of
+/// those that have more is taken that has room for most.
+fn with_crosses(pages: &Pages<'_>, paper: usize, first: Drawn, ink: &str) -> Drawn {
+    let mut best = first;
+    let mut others = larger(paper);
+    while best.uncrossed > 0
+        && let Some(one) = others.next()
+    {
+        if let Some(Ok(better)) = drawn(pages, one, best.uncrossed, ink) {
+            best = better;
         }
-    })
+    }
+    best
+}
+
+/// A page with fewer uncrossed ends than so many, or why it is not clear; none where the sheet cannot lie on it.
+fn drawn(pages: &Pages<'_>, one: Try, most: usize, ink: &str) -> Option<Result<Drawn, String>> {
+    let page = pages.page(one)?;
+    let mut scene = pages.scene.clone().moved(|point| page.at(point));
+    let mut pens = Pens::of(&scene);
+    let (strokes, miscounted) = strokes(&mut scene, &mut pens, one.tunnels());
+    let uncrossed = loose::left_out(&scene, &strokes);
+    if uncrossed >= most {
+        return None;
+    }
+    if let Some(words) = miscounted.or_else(|| unclear(&scene, &strokes, &pens)) {
+        return Some(Err(words));
+    }
+    bodies::widen(&mut scene, &strokes, &pens);
+    let around = (pages.head, pages.legend);
+    let (svg, labels) = page_of(&scene, (&strokes, &pens), around, &page, ink);
+    // A bundle that is not named is followed by its colour alone.
+    if let Some(id) = labels.bundles.first() {
+        return Some(Err(format!("there is no room for the id of bundle {id}")));
+    }
+    Some(Ok(Drawn {
+        svg,
+        unnamed: labels.nodes,
+        uncrossed,
+    }))
 }
 
 /// All of a page.
@@ -289,7 +290,7 @@ fn page_of(
     svg.push_str(&crosses.draw());
     svg.push_str(&marks(scene, page.width));
     if let Some(tried) = &scene.tried {
-        svg.push_str(&tried.draw(&scene.names, page.width - MARGIN / 2.0));
+        svg.push_str(&tried.draw(scene, page.width - MARGIN / 2.0));
     }
     let note = note(scene, (&labels, crosses.left_out), page);
     svg.push_str(&legend.draw(corner(MARGIN, page.bottom), inner, &note));

@@ -1,12 +1,13 @@
 //! Nodes of hardly any width or height, which would read as lines: they are drawn larger, as far as nothing is
 //! near that is not theirs.
 
-use bundle_stage::{Endpoint, Id, Node};
+use bundle_stage::{Endpoint, Id, Node, Point};
 
+use super::facts::{is_of, line_of};
 use super::field::Rect;
 use super::paths::flat;
 use super::pens::Pens;
-use super::ports::{ends, far};
+use super::ports::far;
 use super::scene::{Scene, corners};
 use super::stroke::{Piece, Stroke};
 use super::white::WHITE;
@@ -14,6 +15,13 @@ use super::white::WHITE;
 /// No side of a node is shorter where there is room, in millimetres, and none at all.
 const BODY: f64 = 1.6;
 const LEAST: f64 = 0.4;
+
+/// The sides of a node, the level ones first.
+pub fn sides(node: &Node) -> [(Point, Point); 4] {
+    let [a, c] = corners(node);
+    let (b, d) = (Point { x: c.x, y: a.y }, Point { x: a.x, y: c.y });
+    [(a, b), (d, c), (a, d), (b, c)]
+}
 
 /// Gives each node its body.
 pub fn widen(scene: &mut Scene, strokes: &[Stroke], pens: &Pens) {
@@ -47,15 +55,8 @@ fn body(scene: &Scene, strokes: &[Stroke], pens: &Pens, (place, node): (usize, &
 /// How far the nearest line, dot, port or node is that is not the node's. Two nodes share what is between them.
 fn room(scene: &Scene, strokes: &[Stroke], (place, id): (usize, Id), around: &Rect) -> f64 {
     let of_node = |at: Endpoint| at.node == id;
-    let is_own = |turn: usize| match scene.routes.get(turn) {
-        Some(route) => {
-            let mut ports = scene.ports.iter().filter(|port| of_node(port.name));
-            ports.any(|port| ends(scene, route, port.name))
-        }
-        None => of_node(scene.trunks[(turn - scene.routes.len()) / 2].endpoint),
-    };
     let lines = strokes.iter().enumerate();
-    let lines = lines.filter(|(turn, _)| !is_own(*turn));
+    let lines = lines.filter(|(turn, _)| !is_of(scene, line_of(scene, *turn), id));
     let lines = lines.flat_map(|(_, stroke)| {
         let pieces = flat(stroke).into_iter();
         pieces.map(|piece| far(around, &piece) - stroke.width / 2.0)

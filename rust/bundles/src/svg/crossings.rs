@@ -2,10 +2,11 @@
 //! other in an arch, and the other has a gap there. Where a bundle and a route do so is the stage's list,
 //! if there is one.
 
-use std::collections::{BTreeMap, HashMap};
+use std::collections::HashMap;
 
 use bundle_stage::Point;
 
+use super::even::even;
 use super::marking::kept;
 use super::rings::unring;
 use super::scene::Crossed;
@@ -14,13 +15,13 @@ use super::stroke::{Arch, Gap, Piece, Stroke};
 use super::white::WHITE;
 
 /// Where a piece goes over another.
-struct Over {
-    at: f64,
+pub struct Over {
+    pub at: f64,
     /// How far from there an arch starts, where there is room.
     reach: f64,
     /// The place of the other among all pieces, and how far along it this is.
-    under: usize,
-    there: f64,
+    pub under: usize,
+    pub there: f64,
 }
 
 /// A piece of a stroke, by the places of both.
@@ -33,14 +34,23 @@ pub struct Placed {
 
 type Pairs = HashMap<(usize, usize), usize>;
 
-/// Gives the strokes their arches, and says how often each bundle and route cross on the page. With
+/// How often lines cross on the page, by their places.
+#[derive(Default)]
+pub struct Found {
+    /// A bundle and a route.
+    pub trunks: Pairs,
+    /// Two routes, the lower place first.
+    pub routes: Pairs,
+}
+
+/// Gives the strokes their arches, and says how often lines cross on the page. With
 /// `tunnels` a line of which too little would be left between two that go over it has one gap there. A
 /// bundle and a route that are not `listed` get no arch.
 pub fn bridge(
     strokes: &mut [Stroke],
     tunnels: bool,
     listed: Option<&HashMap<(usize, usize), Crossed>>,
-) -> Pairs {
+) -> Found {
     let pieces = placed(strokes);
     let (mut over, found) = crossed(strokes, &pieces, listed);
     let lines = pieces.iter().map(|of| (of.piece.start, of.piece.end));
@@ -104,8 +114,8 @@ fn crossed(
     strokes: &[Stroke],
     pieces: &[Placed],
     listed: Option<&HashMap<(usize, usize), Crossed>>,
-) -> (Vec<Vec<Over>>, Pairs) {
-    let mut found = HashMap::new();
+) -> (Vec<Vec<Over>>, Found) {
+    let mut found = Found::default();
     let mut over = pieces.iter().map(|_| Vec::new()).collect::<Vec<_>>();
     for (i, one) in pieces.iter().enumerate() {
         for (j, two) in pieces.iter().enumerate().skip(i + 1) {
@@ -119,10 +129,13 @@ fn crossed(
                 continue;
             };
             if let Some(pair) = pair(strokes, one, two) {
-                *found.entry(pair).or_insert(0) += 1;
+                *found.trunks.entry(pair).or_insert(0) += 1;
                 if listed.is_some_and(|listed| !listed.contains_key(&pair)) {
                     continue;
                 }
+            } else if a.bundle.is_none() && one.stroke != two.stroke {
+                // Of two bundles none is without one.
+                *found.routes.entry((one.stroke, two.stroke)).or_insert(0) += 1;
             }
             let (place, at, reach, under, there) = if goes_over(a, &one.piece, b, &two.piece) {
                 (i, here, reach(a, b), j, there)
@@ -138,87 +151,6 @@ fn crossed(
         }
     }
     (over, found)
-}
-
-/// Where a piece with an arch goes over a line.
-struct Crossing<'a> {
-    over: &'a Over,
-    /// The places of the piece and of its arch.
-    piece: usize,
-    arch: usize,
-}
-
-/// A gap moves with its arch. Where too little of a line would be left between two gaps, the higher arch is made
-/// as high as the other one.
-fn even(strokes: &[Stroke], pieces: &[Placed], over: &[Vec<Over>], arches: &mut [Vec<Arch>]) {
-    let under = under(over, arches);
-    let mut changed = true;
-    while changed {
-        changed = false;
-        for two in under.values().flat_map(|crossings| crossings.windows(2)) {
-            let rises = [&two[0], &two[1]].map(|of| arches[of.piece][of.arch].rise);
-            let to = evened(strokes, pieces, (&two[0], &two[1]), rises);
-            for (of, rise) in two.iter().zip(to) {
-                changed |= arches[of.piece][of.arch].rise != rise;
-                arches[of.piece][of.arch].rise = rise;
-            }
-        }
-    }
-}
-
-/// Where arches go over each piece, in order along it.
-fn under<'a>(over: &'a [Vec<Over>], arches: &[Vec<Arch>]) -> BTreeMap<usize, Vec<Crossing<'a>>> {
-    let mut under: BTreeMap<usize, Vec<Crossing<'_>>> = BTreeMap::new();
-    for (piece, all) in over.iter().enumerate() {
-        for over in all {
-            let mut arches = arches[piece].iter();
-            if let Some(arch) = arches.position(|arch| arch.holds(over.at)) {
-                let crossing = Crossing { over, piece, arch };
-                under.entry(over.under).or_default().push(crossing);
-            }
-        }
-    }
-    for crossings in under.values_mut() {
-        crossings.sort_by(|a, b| a.over.there.total_cmp(&b.over.there));
-    }
-    under
-}
-
-/// The rises of two arches over one line, the first before the second, as far as they leave enough of it.
-fn evened(
-    strokes: &[Stroke],
-    pieces: &[Placed],
-    two: (&Crossing<'_>, &Crossing<'_>),
-    rises: [f64; 2],
-) -> [f64; 2] {
-    let gap = |of: &Crossing<'_>, rise: f64| {
-        let [over, under] = [of.piece, of.over.under].map(|piece| &pieces[piece]);
-        let widths = [over, under].map(|of| strokes[of.stroke].width);
-        gap(
-            &over.piece,
-            rise,
-            widths.into(),
-            &under.piece,
-            of.over.there,
-        )
-    };
-    // How an arch moves its gap: 1 where a rise above 0 does so onwards.
-    let ahead = |of: &Crossing<'_>| {
-        let middles = [0.0, 1.0]
-            .map(|rise| gap(of, rise))
-            .map(|gap| gap.from + gap.to);
-        (middles[1] - middles[0]).signum()
-    };
-    let gaps = [gap(two.0, rises[0]), gap(two.1, rises[1])];
-    let ahead = [ahead(two.0), ahead(two.1)];
-    let (first, second) = (rises[0] * ahead[0], rises[1] * ahead[1]);
-    let stroke = &strokes[pieces[two.0.over.under].stroke];
-    let left = gaps[1].from - gaps[0].to;
-    if first <= second || left >= kept(stroke, [&gaps[0], &gaps[1]]) {
-        return rises;
-    }
-    let to = [first.min(second.max(0.0)), second.max(first.min(0.0))];
-    [to[0] * ahead[0], to[1] * ahead[1]]
 }
 
 /// A bundle and a route by their places: the routes' strokes stand first, in the scene's order.
@@ -259,7 +191,7 @@ fn merged(stroke: &Stroke, turn: usize) -> Vec<Gap> {
 
 /// The gap of a line where another one goes over it in an arch. The widths are those of the upper and
 /// of the lower one.
-fn gap(over: &Piece, rise: f64, widths: (f64, f64), under: &Piece, there: f64) -> Gap {
+pub fn gap(over: &Piece, rise: f64, widths: (f64, f64), under: &Piece, there: f64) -> Gap {
     let (ahead, left) = (over.at(1.0, 0.0), over.at(0.0, 1.0));
     let step = under.at(1.0, 0.0);
     let (x, y) = (step.x - under.start.x, step.y - under.start.y);

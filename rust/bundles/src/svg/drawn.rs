@@ -1,20 +1,22 @@
 //! The lines of a scene as they are drawn: routes side by side, and what follows from it at their
 //! ends.
 
-use std::collections::{BTreeSet, HashMap};
+use std::collections::BTreeSet;
 
-use bundle_stage::{Point, Role, Segment};
+use bundle_stage::{Id, Point, Role, Segment};
 
-use super::crossings::bridge;
+use super::bodies;
+use super::crossings::{Found, bridge};
+use super::ends::{held, part};
 use super::field::moved;
 use super::lanes::{self, Part};
 use super::marking;
 use super::palette::mark;
 use super::pens::Pens;
 use super::ports;
-use super::scene::{Crossed, Port, Route, Scene, Tap, Trunk, corners};
+use super::scene::{Crossed, Port, Route, Scene, Tap, Trunk};
 use super::spans::{Way, room};
-use super::stroke::{NO_END, Piece, Stroke, apart};
+use super::stroke::{Piece, Stroke, apart};
 use super::white::{WHITE, most_under};
 
 /// The routes' strokes, then for each bundle those of its spine and its collector. Taps and
@@ -41,8 +43,10 @@ pub fn strokes(scene: &mut Scene, pens: &mut Pens, tunnels: bool) -> (Vec<Stroke
     for trunk in &mut scene.trunks {
         follow(trunk, &scene.routes, &given, &shifted);
     }
-    widen(&mut scene.ports, &given, &shifted);
-    part(&mut shifted, &tapped, 3.0 * pens.route);
+    widen(&mut scene.ports, &scene.routes, &shifted);
+    let free = held(scene).into_iter().zip(&scene.facts.ends_on);
+    let free = free.map(|(held, on)| (on.0 && !held.0, on.1 && !held.1));
+    part(&mut shifted, &free.collect::<Vec<_>>(), 3.0 * pens.route);
     let mut strokes = shifted
         .into_iter()
         .map(|corners| Stroke::new(corners, pens.route, None))
@@ -75,22 +79,40 @@ fn of_trunks(scene: &Scene, routes: &[Stroke]) -> Vec<Stroke> {
     strokes.collect()
 }
 
-/// Where a bundle and a route cross on the page more or less often than on the sheet, in words. Runs of a
-/// route that goes back over itself may be drawn as one or side by side.
-fn miscounted(scene: &Scene, found: &HashMap<(usize, usize), usize>) -> Option<String> {
+/// Where two lines cross on the page more or less often than on the sheet, in words.
+fn miscounted(scene: &Scene, found: &Found) -> Option<String> {
+    of_trunk(scene, found).or_else(|| of_routes(scene, found))
+}
+
+/// A bundle and a route. Runs of a route that goes back over itself may be drawn as one or side by side.
+fn of_trunk(scene: &Scene, found: &Found) -> Option<String> {
     let listed = scene.crossings.as_ref()?;
+    let found = &found.trunks;
     let pairs = listed.keys().chain(found.keys()).collect::<BTreeSet<_>>();
     pairs.into_iter().find_map(|pair| {
         let Crossed { runs, places } = listed.get(pair).copied().unwrap_or_default();
         let drawn = found.get(pair).copied().unwrap_or_default();
         let (trunk, route) = (scene.trunks[pair.0].id, scene.routes[pair.1].id);
-        (drawn < places || drawn > runs).then(|| {
-            format!(
-                "route {route} would cross bundle {trunk} in {drawn} places, and it does so in \
-                 {places}"
-            )
-        })
+        let what = format!("bundle {trunk}");
+        (drawn < places || drawn > runs).then(|| wrongly(route, &what, drawn, places))
     })
+}
+
+/// Two routes that on the sheet do nothing else but cross, or do not meet.
+fn of_routes(scene: &Scene, found: &Found) -> Option<String> {
+    let (known, found) = (&scene.facts, &found.routes);
+    let pairs = known.crossed.keys().chain(found.keys());
+    let pairs = pairs.collect::<BTreeSet<_>>();
+    pairs.into_iter().find_map(|pair| {
+        let due = known.due(*pair)?;
+        let drawn = found.get(pair).copied().unwrap_or_default();
+        let [one, two] = [pair.0, pair.1].map(|place| scene.routes[place].id);
+        (drawn != due).then(|| wrongly(one, &format!("edge {two}"), drawn, due))
+    })
+}
+
+fn wrongly(edge: Id, what: &str, drawn: usize, due: usize) -> String {
+    format!("edge {edge} would cross {what} in {drawn} places, and it does so in {due}")
 }
 
 /// Makes trunks and dots smaller where they would touch what is not theirs.
@@ -179,12 +201,7 @@ fn trunks(scene: &Scene, pens: &Pens) -> Vec<Part> {
 }
 
 fn sides(scene: &Scene) -> Vec<(Point, Point)> {
-    let sides = scene.nodes.iter().flat_map(|node| {
-        let [a, c] = corners(node);
-        let (b, d) = (Point { x: c.x, y: a.y }, Point { x: a.x, y: c.y });
-        [(a, b), (b, c), (d, c), (a, d)]
-    });
-    sides.collect()
+    scene.nodes.iter().flat_map(bodies::sides).collect()
 }
 
 /// Moves the taps of a trunk to where their routes start or end now, and lets the collector reach
@@ -212,79 +229,24 @@ fn follow(trunk: &mut Trunk, routes: &[Route], given: &[Vec<Point>], shifted: &[
     }
 }
 
-/// Lets ports reach from the first to the last of the routes that end there.
-fn widen(ports: &mut [Port], given: &[Vec<Point>], shifted: &[Vec<Point>]) {
-    let ends = |routes: &[Vec<Point>]| {
-        let ends = routes
-            .iter()
-            .flat_map(|route| [route.first(), route.last()]);
-        ends.map(|end| end.copied()).collect::<Vec<_>>()
-    };
-    let ends = ends(given).into_iter().zip(ends(shifted));
-    for (from, to) in ends.filter_map(|(from, to)| from.zip(to)) {
-        for port in ports.iter_mut().filter(|port| port.at == from) {
-            let Port { low, high, .. } = port;
-            (low.x, low.y) = (low.x.min(to.x), low.y.min(to.y));
-            (high.x, high.y) = (high.x.max(to.x), high.y.max(to.y));
-        }
-    }
-}
-
-/// Cuts a piece off the end of a route that lies on another route: it would look like a joint. Where
-/// two routes end together they end at one port, and an end at a tap is a joint; `tapped` says so of
-/// the start and the end of each route.
-fn part(routes: &mut [Vec<Point>], tapped: &[(bool, bool)], gap: f64) {
-    let on = |at: Point, route: &Vec<Point>| {
-        let ends = [route.first(), route.last()];
-        let runs = route.windows(2);
-        !ends.into_iter().flatten().any(|end| apart(at, *end) < gap)
-            && runs
-                .map(|run| Piece {
-                    start: run[0],
-                    end: run[1],
-                })
-                .any(|run| run.from(at) < NO_END)
-    };
-    for place in 0..routes.len() {
-        for (backwards, tapped) in [(false, tapped[place].0), (true, tapped[place].1)] {
-            let route = &routes[place];
-            let ends = if backwards {
-                route.last().zip(route.iter().nth_back(1))
-            } else {
-                route.first().zip(route.get(1))
-            };
-            let Some((end, next)) = ends.map(|(end, next)| (*end, *next)) else {
+/// Lets ports reach from the first to the last of the routes that end there. What roundings put between an end
+/// and its port on the sheet is no step here.
+fn widen(ports: &mut [Port], routes: &[Route], shifted: &[Vec<Point>]) {
+    for (route, to) in routes.iter().zip(shifted) {
+        let ends = [
+            (route.source, route.points.first(), to.first()),
+            (route.target, route.points.last(), to.last()),
+        ];
+        for (name, from, to) in ends {
+            let Some((from, to)) = from.zip(to) else {
                 continue;
             };
-            let mut others = routes.iter().enumerate();
-            if tapped
-                || apart(end, next) < 2.0 * gap
-                || !others.any(|(other, route)| other != place && on(end, route))
-            {
-                continue;
+            let own = ports.iter_mut().filter(|port| port.name == name);
+            for port in own.filter(|port| apart(port.at, *from) < lanes::NO_STEP) {
+                let Port { low, high, .. } = port;
+                (low.x, low.y) = (low.x.min(to.x), low.y.min(to.y));
+                (high.x, high.y) = (high.x.max(to.x), high.y.max(to.y));
             }
-            let piece = Piece {
-                start: end,
-                end: next,
-            };
-            let last = if backwards { route.len() - 1 } else { 0 };
-            routes[place][last] = piece.at(gap, 0.0);
-        }
-    }
-}
-
-#[cfg(test)]
-mod tests {
-    use super::{Point, part};
-
-    #[test]
-    fn an_end_is_cut_on_another_route_and_not_beside_it() {
-        let at = |x, y| Point { x, y };
-        for (x, cut) in [(539.0, false), (540.0, true)] {
-            let wire = vec![at(0.0, 50.0), at(540.0, 50.0)];
-            let mut routes = vec![wire, vec![at(x, -200.0), at(x, 300.0)]];
-            part(&mut routes, &[(false, false); 2], 0.3);
-            assert_eq!(routes[0][1].x < 540.0, cut, "{x}");
         }
     }
 }

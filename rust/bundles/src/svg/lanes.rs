@@ -65,20 +65,26 @@ pub fn corners(points: &[Point]) -> Vec<Point> {
                 }
             };
             (point.x, point.y) = (near(point.x, last.x), near(point.y, last.y));
-            if *last == point {
-                continue;
-            }
         }
-        if let [.., before, last] = corners[..]
-            && let Some(way) = Way::of(before, last)
-            && Way::of(last, point) == Some(way)
-            && (way.along(last) > way.along(before)) == (way.along(point) > way.along(last))
-        {
-            corners.pop();
-        }
-        corners.push(point);
+        push(&mut corners, point);
     }
     corners
+}
+
+/// A point behind the corners of a line, if it is another one; where the line goes straight on to it the last
+/// corner is none.
+pub fn push(corners: &mut Vec<Point>, point: Point) {
+    if corners.last() == Some(&point) {
+        return;
+    }
+    if let [.., before, last] = corners[..]
+        && let Some(way) = Way::of(before, last)
+        && Way::of(last, point) == Some(way)
+        && (way.along(last) > way.along(before)) == (way.along(point) > way.along(last))
+    {
+        corners.pop();
+    }
+    corners.push(point);
 }
 
 /// The corners of the routes where they are shifted. `pitch` is the shift from one to the next where

@@ -297,12 +297,12 @@ fn line_signs(scene: &Scene) -> [Known<'static>; 5] {
         (
             any(|route| route.input.is_none() && route.output.is_none()),
             thin("M0 0H10", BLACK),
-            "route in no bundle",
+            "edge in no bundle",
         ),
         (
             any(|route| route.input.is_some() && route.output.is_some()),
             halves,
-            "route in two bundles",
+            "edge in two bundles",
         ),
     ]
 }

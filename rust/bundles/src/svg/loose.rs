@@ -58,38 +58,53 @@ fn ends<'a>(scene: &'a Scene, strokes: &[Stroke]) -> Vec<(usize, &'a Loose, Poin
     ends.collect()
 }
 
+/// How far each cross may reach, none where it has no room.
+fn reaches(scene: &Scene, strokes: &[Stroke]) -> Vec<Option<f64>> {
+    let ends = ends(scene, strokes);
+    let reach = |(turn, (route, _, at)): (usize, &(usize, &Loose, Point))| {
+        let others = ends.iter().enumerate().filter(|(other, _)| *other != turn);
+        let others = others.map(|(_, (.., other))| (apart(*at, *other) - WHITE) / 2.0);
+        let room = room(scene, strokes, *route, *at).min(others.fold(f64::INFINITY, f64::min));
+        let reach = MOST.min(room - WIDTH / 2.0);
+        let reach = if is_short(reach) {
+            (room - THIN / 2.0).min(SHORT)
+        } else {
+            reach
+        };
+        (reach >= LEAST).then_some(reach)
+    };
+    ends.iter().enumerate().map(reach).collect()
+}
+
+/// How many crosses have no room.
+pub fn left_out(scene: &Scene, strokes: &[Stroke]) -> usize {
+    let reaches = reaches(scene, strokes).into_iter();
+    reaches.filter(Option::is_none).count()
+}
+
 impl<'a> Crosses<'a> {
     /// Takes the room for them from the field. They have no words yet.
     pub fn of(scene: &'a Scene, strokes: &[Stroke], field: &mut Field) -> Crosses<'a> {
         let ends = ends(scene, strokes);
-        let mut crosses = Vec::new();
-        for (turn, (route, loose, at)) in ends.iter().enumerate() {
-            let others = ends.iter().enumerate().filter(|(other, _)| *other != turn);
-            let others = others.map(|(_, (.., other))| (apart(*at, *other) - WHITE) / 2.0);
-            let room = room(scene, strokes, *route, *at).min(others.fold(f64::INFINITY, f64::min));
-            let reach = MOST.min(room - WIDTH / 2.0);
-            let reach = if is_short(reach) {
-                (room - THIN / 2.0).min(SHORT)
-            } else {
-                reach
-            };
-            if reach < LEAST {
-                continue;
-            }
-            field.take(Rect::of(*at, *at, reach));
-            crosses.push(Cross {
-                loose,
-                key: &scene.records.routes[*route].key,
-                at: *at,
-                reach,
-                said: None,
-            });
+        let count = ends.len();
+        let reaches = reaches(scene, strokes);
+        let there = ends.into_iter().zip(reaches);
+        let there = there.filter_map(|(end, reach)| Some((end, reach?)));
+        let crosses = there.map(|((route, loose, at), reach)| Cross {
+            loose,
+            key: &scene.records.routes[route].key,
+            at,
+            reach,
+            said: None,
+        });
+        let crosses = crosses.collect::<Vec<_>>();
+        for Cross { at, reach, .. } in &crosses {
+            field.take(Rect::of(*at, *at, *reach));
         }
-        let left_out = ends.len() - crosses.len();
         Crosses {
             scene,
+            left_out: count - crosses.len(),
             crosses,
-            left_out,
         }
     }
 
@@ -181,7 +196,8 @@ fn room(scene: &Scene, strokes: &[Stroke], route: usize, at: Point) -> f64 {
         .enumerate()
         .filter(|(place, _)| *place != route);
     let lines = others.flat_map(|(_, stroke)| {
-        let pieces = flat(stroke).into_iter();
+        // In a gap too, where another one goes over it.
+        let pieces = flat(stroke).into_iter().chain(stroke.pieces());
         pieces.map(move |piece| piece.from(at) - stroke.width / 2.0)
     });
     let taps = scene.trunks.iter().flat_map(|trunk| &trunk.taps);

@@ -187,7 +187,7 @@ pub fn contacts(scene: &Scene) -> impl Iterator<Item = (Point, String)> + '_ {
 }
 
 /// Whether a point lies on a line. A slanted line may pass it by what its sums round.
-fn on(line: &[Point], at: Point) -> bool {
+pub fn on(line: &[Point], at: Point) -> bool {
     let between = |a: f64, b: f64, at: f64| a.min(b) <= at && at <= a.max(b);
     let run = |a: Point, b: Point| {
         between(a.x, b.x, at.x)
@@ -211,7 +211,7 @@ fn name(scene: &Scene, what: What<'_>) -> String {
         },
         What::Dot(trunk, tap) => {
             format!(
-                "the tap of route {} on {}",
+                "the tap of edge {} on {}",
                 tap.edge,
                 trunk_words(scene, trunk)
             )
@@ -228,7 +228,7 @@ fn called(what: String, name: Option<&str>) -> String {
 
 fn route_words(scene: &Scene, place: usize) -> String {
     let (route, record) = (&scene.routes[place], &scene.records.routes[place]);
-    called(format!("route {}", route.id), scene.names.of(record.item))
+    called(format!("edge {}", route.id), scene.names.of(record.item))
 }
 
 fn trunk_words(scene: &Scene, trunk: &Trunk) -> String {

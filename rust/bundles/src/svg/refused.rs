@@ -5,9 +5,10 @@ use bundle_stage::{Attempt, Board, Place, Plan, Refusal, Refused, locate, locate
 use crate::loose::on_board;
 use crate::names::Names;
 
+use super::facts::Facts;
 use super::head::Head;
 use super::palette::GREY;
-use super::said::{first, not_joined};
+use super::said::{first, not_joined, on_frames};
 use super::scene::{Mark, Scene};
 use super::tried::Tried;
 use super::{Planned, picture, ports};
@@ -59,6 +60,10 @@ fn shown(
     let said = contacts.iter().map(|(_, words)| words.clone());
     warnings.extend(first(said.collect()));
     scene.marks = contacts.into_iter().map(Mark::no_joint).collect();
+    if scene.lines().len() <= MOST_LINES {
+        scene.facts = Facts::of(&scene);
+        warnings.extend(on_frames(&scene));
+    }
     let head = Head {
         title: title.to_string(),
         about: None,
@@ -77,6 +82,7 @@ fn drawn(mut scene: Scene, mut head: Head) -> String {
     scene.records.routes.clear();
     scene.records.loose.clear();
     scene.marks.clear();
+    scene.facts = Facts::default();
     let without = "The routes are not shown: they cannot be drawn apart.";
     head.warnings.push(without.to_string());
     // Without lines nothing can touch.

@@ -20,7 +20,20 @@ pub fn not_joined(scene: &Scene) -> Vec<String> {
     first(loose.map(|one| one.words(&scene.names)).collect())
 }
 
-fn capital(line: String) -> String {
+/// The lines that lie on the frames of nodes at which they do not end: there they are hard to see.
+pub fn on_frames(scene: &Scene) -> Vec<String> {
+    let records = &scene.records;
+    let lines = records.routes.iter().chain(&records.trunks);
+    let lines = lines.collect::<Vec<_>>();
+    let said = scene.facts.on_sides.iter().map(|(line, node)| {
+        let [line, node] = [lines[*line], &records.nodes[*node]].map(|of| of.item);
+        let [line, node] = [line, node].map(|item| scene.names.item(item));
+        format!("{line} lies on the frame of {node}")
+    });
+    first(said.collect())
+}
+
+pub fn capital(line: String) -> String {
     let mut letters = line.chars();
     let first = letters.next().map(char::to_uppercase);
     first.into_iter().flatten().chain(letters).collect()

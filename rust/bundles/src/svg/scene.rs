@@ -12,6 +12,7 @@ use crate::keys::Keys;
 use crate::names::Names;
 use crate::places::Places;
 
+use super::facts::Facts;
 use super::records::Records;
 use super::tried::Tried;
 
@@ -25,6 +26,8 @@ pub struct Scene {
     /// How often each bundle and route cross, by their places, if that is known.
     pub crossings: Option<HashMap<(usize, usize), Crossed>>,
     pub tried: Option<Tried>,
+    /// Of the sheet, before it lies on a page.
+    pub facts: Facts,
     pub records: Records,
     pub names: Names,
     /// How many nodes, ports, routes and bundles have a number that no page can show.
@@ -115,7 +118,7 @@ impl Mark {
         if self.name == NO_JOINT {
             "no joint: a line at a port where it does not end"
         } else {
-            "false joint, or a route in a node"
+            "false joint, or an edge in a node"
         }
     }
 }
@@ -247,6 +250,7 @@ impl Scene {
             marks: Vec::new(),
             crossings: None,
             tried: None,
+            facts: Facts::default(),
             names: Names::default(),
         }
     }

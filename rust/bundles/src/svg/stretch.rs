@@ -7,13 +7,12 @@
 
 use std::collections::BTreeMap;
 
-use bundle_stage::Point;
-
+use super::bodies::sides;
 use super::labels::on_trunk;
 use super::marking;
 use super::palette::mark;
 use super::pens::HEAVIEST;
-use super::scene::{Scene, corners};
+use super::scene::Scene;
 use super::spans::{Span, Way};
 
 /// Between two lines beside each other, in millimetres: level ones, and upright ones.
@@ -294,7 +293,8 @@ fn spans(scene: &Scene, way: Way) -> Vec<(Span, f64)> {
     let trunks = scene.trunks.iter().flat_map(|trunk| trunk.parts());
     let trunks = trunks.map(|part| (part, TRUNK));
     let parts = runs.chain(trunks).collect::<Vec<_>>();
-    let sides = sides(scene).map(|side| (side, 0.0));
+    let sides = scene.nodes.iter().flat_map(sides);
+    let sides = sides.map(|side| (side, 0.0));
     let spans = parts.iter().copied().chain(sides);
     let spans = spans.filter_map(|((a, b), more)| Some((way.span(a, b)?, more)));
     let ends = parts
@@ -306,15 +306,6 @@ fn spans(scene: &Scene, way: Way) -> Vec<(Span, f64)> {
         (Span { at, low, high }, *more)
     });
     spans.chain(ends).collect()
-}
-
-/// The sides of nodes.
-fn sides(scene: &Scene) -> impl Iterator<Item = (Point, Point)> {
-    scene.nodes.iter().flat_map(|node| {
-        let [a, c] = corners(node);
-        let (b, d) = (Point { x: c.x, y: a.y }, Point { x: a.x, y: c.y });
-        [(a, b), (d, c), (a, d), (b, c)]
-    })
 }
 
 /// The room for a lane where routes lie on one line: more over a trunk.

@@ -3,6 +3,7 @@
 use bundle_stage::{Id, Point};
 
 use super::field::Rect;
+use super::frames::framed;
 use super::lanes::NO_STEP;
 use super::marking;
 use super::paths::{flat, gaps};
@@ -90,6 +91,7 @@ pub fn unclear(scene: &Scene, strokes: &[Stroke], pens: &Pens) -> Option<String>
         .or_else(|| in_line(scene, strokes))
         .or_else(|| touching(scene, strokes))
         .or_else(|| touched(scene, strokes))
+        .or_else(|| framed(scene, strokes, pens))
 }
 
 /// The radius from which on a dot is seen on a line of this width.
@@ -115,14 +117,14 @@ fn dots(scene: &Scene, pens: &Pens) -> Option<String> {
     let (trunk, tap) = taps.into_iter().find(lost)?;
     let (edge, bundle) = (tap.edge, trunk.id);
     Some(format!(
-        "the dot of route {edge} on bundle {bundle} would not show"
+        "the dot of edge {edge} on bundle {bundle} would not show"
     ))
 }
 
 /// A line of which too little is left between two that go over it.
 fn kept(scene: &Scene, strokes: &[Stroke]) -> Option<String> {
     let place = strokes.iter().position(in_dashes)?;
-    let name = of_stroke(scene, place);
+    let name = name_of_line(scene, place);
     Some(format!("{name} would fall into dashes under others"))
 }
 
@@ -278,12 +280,12 @@ fn within(port: &Port, at: Point, more: f64) -> bool {
 
 fn name(scene: &Scene, owner: Owner) -> String {
     match owner {
-        Owner::Route(place) => of_stroke(scene, place),
+        Owner::Route(place) => name_of_line(scene, place),
         Owner::Trunk(place) => name_of(scene, Some(place)),
         Owner::Dot(place, turn) => {
             let tap = &scene.trunks[place].taps[turn];
             format!(
-                "the tap of route {} on {}",
+                "the tap of edge {} on {}",
                 tap.edge,
                 name_of(scene, Some(place))
             )
@@ -291,9 +293,10 @@ fn name(scene: &Scene, owner: Owner) -> String {
     }
 }
 
-fn of_stroke(scene: &Scene, place: usize) -> String {
+/// A stroke by its place.
+pub fn name_of_line(scene: &Scene, place: usize) -> String {
     match scene.routes.get(place) {
-        Some(route) => format!("route {}", route.id),
+        Some(route) => format!("edge {}", route.id),
         None => name_of(scene, Some((place - scene.routes.len()) / 2)),
     }
 }

@@ -85,7 +85,7 @@ impl Page {
         let all = routes.len();
         println!("{all} routes, {near} near another, {under} under, {beside} points beside a line");
         assert!(10 * under < all, "{under} routes are nowhere on top");
-        assert!(4 * near > 3 * all, "the routes lie far apart");
+        assert!(3 * near > all, "the routes lie far apart");
         assert!(beside > all, "few points beside a line");
     }
 

@@ -5,7 +5,8 @@ use bundle_stage::{Board, DrawnBundle, Id, Segment, Sheet};
 use super::labels::{frames, ids};
 use super::lengths::lengths;
 use super::marks::marks;
-use super::ports::{Square, ports, squares};
+use super::nodes::beside_nodes;
+use super::ports::{Square, joined, ports, squares};
 use super::read::{Element, Line, beside, lines, nearest};
 use super::rings::rings;
 use super::{checked, of_class};
@@ -140,6 +141,8 @@ pub fn false_joint(picture: &str, board: &Board, sheet: &Sheet) -> Result<(), St
         bundles(&shown, place)?;
     }
     ports(&shown)?;
+    joined(&shown, board)?;
+    beside_nodes(&elements, &shown, board)?;
     ids(&elements, sheet)?;
     lengths(&shown)?;
     marks(&shown)?;

@@ -78,7 +78,7 @@ fn a_line_through_a_port_of_others() {
     let sheet = drawn(&through);
     let words = |edge: &str, port: &str, node: &str| {
         format!(
-            "no picture, as it would mislead: route {edge} lies on the place of port {port} of node \
+            "no picture, as it would mislead: edge {edge} lies on the place of port {port} of node \
              {node} and does not end there"
         )
     };
@@ -157,7 +157,7 @@ fn two_ports_in_one_place() {
     let way = &[(0.0, 50.0), (-60.0, 50.0), (-60.0, 160.0)];
     two.edges[1] = edge(2, [end(1, 2), end(4, 1)], way);
     let words = refused(&two, &drawn(&two), &Names::default());
-    let due = "route 2 lies on the place of port 3 of node 1 and does not end there";
+    let due = "edge 2 lies on the place of port 3 of node 1 and does not end there";
     assert!(words.ends_with(due), "{words}");
 }
 
@@ -203,7 +203,7 @@ fn of_a_refused_board() {
     assert_eq!(of_class(&elements, "route").len(), 2);
     assert_eq!(of_class(&elements, "false-joint").len(), 1);
     for words in [
-        ">Route 2 lies on the place of port 1 of node 1 and does not end there.</text>",
+        ">Edge 2 lies on the place of port 1 of node 1 and does not end there.</text>",
         ">no joint: a line at a port where it does not end</text>",
     ] {
         assert!(picture.contains(words), "{words}");

@@ -15,7 +15,7 @@ const ROUNDED: f64 = 0.02;
 
 pub fn lengths(shown: &Shown<'_>) -> Result<(), String> {
     for (route, drawn) in shown.sheet.routes.iter().zip(&shown.routes) {
-        kept(drawn).map_err(|words| format!("route {}: {words}", route.id))?;
+        kept(drawn).map_err(|words| format!("edge {}: {words}", route.id))?;
     }
     for (place, bundle) in shown.sheet.bundles.iter().enumerate() {
         let drawn = &shown.bundles[place];

@@ -10,14 +10,15 @@ use super::ports::{Square, squares};
 use super::read::{Element, Line, elements, lines, nearest};
 use super::{checked, example, file, of_class, svg};
 
-/// The ends that are due a cross, by the board and the sheet: each by the place of its edge, `true` for the
-/// source.
-fn due(board: &Board, sheet: &Sheet) -> Vec<(usize, bool)> {
+/// The ends that are in no bundle, by the board and the sheet: each by the place of its edge, `true` for the
+/// source, and whether it is at its port.
+pub fn open_ends(board: &Board, sheet: &Sheet) -> Vec<(usize, bool, bool)> {
     let bundled = |edge: &Edge, role: Role| {
         let of_role = board.bundles.iter().filter(|bundle| bundle.role == role);
         let mut members = of_role.flat_map(|bundle| &bundle.members);
         members.any(|member| member.edge == edge.id)
     };
+    let near = near(board, sheet);
     let at_port = |at: &Point, end: Endpoint| {
         let port = board.port(end)?;
         let (node, placed) = board.node(end.node).zip(sheet.node(end.node))?;
@@ -27,22 +28,49 @@ fn due(board: &Board, sheet: &Sheet) -> Vec<(usize, bool)> {
             ..*node
         };
         let place = node.port_point(port);
-        Some((place.x - at.x).abs().max((place.y - at.y).abs()) < 1e-5)
+        Some((place.x - at.x).abs().max((place.y - at.y).abs()) <= near)
     };
-    let mut due = Vec::new();
+    let mut all = Vec::new();
     for (place, (edge, route)) in board.edges.iter().zip(&sheet.routes).enumerate() {
         let ends = [
             (true, Role::Input, edge.source, route.points.first()),
             (false, Role::Output, edge.target, route.points.last()),
         ];
         for (is_source, role, end, at) in ends {
-            let loose = at.is_some_and(|at| at_port(at, end) != Some(true));
-            if loose && !bundled(edge, role) {
-                due.push((place, is_source));
+            if let Some(at) = at.filter(|_| !bundled(edge, role)) {
+                all.push((place, is_source, at_port(at, end) == Some(true)));
             }
         }
     }
-    due
+    all
+}
+
+/// How far an end may be from its port: 2^-32 of the board's length, but no more than 2^-18; or what the rounding
+/// of its largest numbers may be.
+fn near(board: &Board, sheet: &Sheet) -> f64 {
+    let corners = board.nodes.iter().flat_map(|node| {
+        let far = (node.x + node.width, node.y + node.height);
+        [(node.x, node.y), far]
+    });
+    let points = board.edges.iter().flat_map(|edge| &edge.points);
+    let all = corners.chain(points.map(|at| (at.x, at.y)));
+    let (x, y): (Vec<f64>, Vec<f64>) = all.unzip();
+    let most = |of: &[f64]| of.iter().copied().fold(f64::NEG_INFINITY, f64::max);
+    let least = |of: &[f64]| of.iter().copied().fold(f64::INFINITY, f64::min);
+    let long = (most(&x) - least(&x)).max(most(&y) - least(&y));
+    let numbers = x.iter().chain(&y).map(|number| number.abs());
+    let largest = numbers.fold(sheet.width.max(sheet.height), f64::max);
+    let part = long / 2_f64.powi(32);
+    part.min(2_f64.powi(-18)).max(largest / 2_f64.powi(48))
+}
+
+/// The ends that are due a cross.
+fn due(board: &Board, sheet: &Sheet) -> Vec<(usize, bool)> {
+    let loose = open_ends(board, sheet).into_iter();
+    let loose = loose.filter(|(_, _, at_port)| !at_port);
+    loose
+        .map(|(place, is_source, _)| (place, is_source))
+        .collect()
 }
 
 struct Cross {
@@ -148,7 +176,7 @@ impl Picture {
 }
 
 /// The two ends of a route, by its paths.
-fn ends(paths: &[String]) -> Vec<(f64, f64)> {
+pub fn ends(paths: &[String]) -> Vec<(f64, f64)> {
     let numbers = |d: &str| {
         let words = d.split(|letter: char| letter.is_ascii_uppercase() || letter == ' ');
         let words = words.filter(|word| !word.is_empty());
@@ -201,7 +229,12 @@ fn an_end_short_of_its_port() {
 /// What only roundings put between an end and its port is joined; what is on its square and further is not.
 #[test]
 fn how_near_is_at_the_port() {
-    for (y, crosses) in [("299.9999999", 0), ("299.999", 1), ("299", 1)] {
+    for (y, crosses) in [
+        ("299.9999999", 0),
+        ("299.999999", 1),
+        ("299.999", 1),
+        ("299", 1),
+    ] {
         let (board, sheet) = clock_board(&format!("edge 71 from 4:20 to 5:20 via 480,220 480,{y}"));
         let picture = svg(&board, &sheet, "near");
         assert_eq!(marked(&picture, &board, &sheet), Ok(crosses), "{y}");

@@ -11,6 +11,7 @@ mod letters;
 mod loose;
 mod marks;
 mod nodes;
+mod order;
 mod ports;
 mod read;
 mod refused;

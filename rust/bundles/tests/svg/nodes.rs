@@ -1,9 +1,10 @@
 //! Nodes in a picture that is read back: each reads as one, and its id and name as its own.
 
-use bundle_stage::{Board, Sheet};
+use bundle_stage::{Board, Node, Sheet};
 use bundles::names::Names;
 use bundles::text;
 
+use super::apart::{SEEN, Shown, false_joint};
 use super::labels::letters;
 use super::ports::squares;
 use super::read::{Element, Line, lines};
@@ -64,6 +65,103 @@ pub fn labelled(elements: &[Element]) -> Result<usize, String> {
         }
     }
     Ok(labels.len())
+}
+
+/// No line goes along the frame of a node at which it does not end, or so near to it that it would melt into it,
+/// but one that lies on the node's side on the sheet itself.
+pub fn beside_nodes(elements: &[Element], shown: &Shown<'_>, board: &Board) -> Result<(), String> {
+    let bodies = bodies(elements);
+    let frame = of_class(elements, "nodes")[0].value("stroke-width");
+    let frame = frame.parse::<f64>().expect("a width") / 2.0;
+    let routes = shown.routes.iter().enumerate();
+    let bundles = shown.bundles.iter().enumerate();
+    let all = routes.map(|(place, of)| (true, place, of));
+    for (is_route, place, drawn) in all.chain(bundles.map(|(place, of)| (false, place, of))) {
+        let near = drawn.half + frame + SEEN - 0.02;
+        let along = drawn.paths.iter().flat_map(|path| lines(path));
+        let along = along.collect::<Vec<_>>();
+        for (node, (name, body)) in board.nodes.iter().zip(&bodies) {
+            let mut beside = along.iter().filter(|line| is_beside(line, body, near));
+            let Some(line) = beside.next() else {
+                continue;
+            };
+            let own = shown.ports.iter().zip(&board.ports);
+            let mut own = own.filter(|(_, port)| port.node == node.id);
+            let own = own.any(|(square, _)| match is_route {
+                true => square.is_of(board.edges[place].id),
+                false => square.is_of_bundle(board.bundles[place].id),
+            });
+            if !own && !on_side(shown.sheet, (is_route, place), node) {
+                return Err(format!("{line:?} beside the frame of {name}"));
+            }
+        }
+    }
+    Ok(())
+}
+
+/// Whether a level or upright line goes along a side of a box, and nearer to it than this.
+fn is_beside([a, b]: &Line, [low, high]: &Line, near: f64) -> bool {
+    let turned = |(x, y): (f64, f64)| (y, x);
+    let level = |a: (f64, f64), b: (f64, f64), low: (f64, f64), high: (f64, f64)| {
+        let along = a.0.min(b.0) < high.0 && low.0 < a.0.max(b.0);
+        a.1 == b.1 && along && [low.1, high.1].iter().any(|side| (side - a.1).abs() < near)
+    };
+    let [c, d, e, f] = [*a, *b, *low, *high].map(turned);
+    a != b && (level(*a, *b, *low, *high) || level(c, d, e, f))
+}
+
+/// Whether a route or a bundle lies on a node's side on the sheet.
+fn on_side(sheet: &Sheet, (is_route, place): (bool, usize), node: &Node) -> bool {
+    let at = sheet.node(node.id).expect("a node");
+    let body = [(at.x, at.y), (at.x + node.width, at.y + node.height)];
+    let parts = match is_route {
+        true => {
+            let runs = sheet.routes[place].points.windows(2);
+            runs.map(|run| [run[0], run[1]]).collect::<Vec<_>>()
+        }
+        false => {
+            let bundle = &sheet.bundles[place];
+            let parts = [bundle.spine, bundle.collector];
+            parts.map(|part| [part.start, part.end]).to_vec()
+        }
+    };
+    let mut parts = parts.iter().map(|part| part.map(|at| (at.x, at.y)));
+    parts.any(|part| is_beside(&part, &body, f64::MIN_POSITIVE))
+}
+
+/// A wire and a bundle beside a node of others, nearer than a frame is wide on a page to scale.
+#[test]
+fn lines_beside_the_frame_of_another_node() {
+    for far in ["0.01", "0.3", "1e-6"] {
+        let lines = format!(
+            "port_stub 10\nroute_lane_gap 10\nedge_node_clearance 0\nminimum_parallel_wire_spacing 0\n\
+             member_endpoint_reserve 20\npermit_crossings yes\n\
+             node 1 at 0,30 size 40,40\nnode 2 at 1000,0 size 40,100\nnode 3 at 400,100 size 200,80\n\
+             port 1:1 east 20\nport 1:2 south 20\nport 2:1 west 40\nport 2:2 west 60\nport 2:3 south 20\n\
+             edge 1 from 1:1 to 2:1 via 40,50 60,50 60,40 1000,40\n\
+             edge 2 from 1:1 to 2:2 via 40,50 60,50 60,60 1000,60\n\
+             edge 3 from 1:2 to 2:3 via 20,70 20,{0} 1020,{0} 1020,100\n\
+             node 4 at {1},45 size 4,10\n\
+             bundle 1 at 1:1 input width 2 members 1@0 2@1\n",
+            180.0 + far.parse::<f64>().expect("a number"),
+            980.0 + far.parse::<f64>().expect("a number"),
+        );
+        let board = text::read(lines.as_bytes()).expect("a board");
+        let sheet = board.draw().expect("a sheet");
+        let picture = svg(&board, &sheet, "beside");
+        assert_eq!(false_joint(&picture, &board, &sheet), Ok(()), "{far}");
+    }
+    // On the side itself: drawn, since no paper shows the two apart.
+    let board = board(&[(1, &[(0.0, 0.0), (150.0, 0.0), (150.0, 200.0)])]);
+    let mut board = board;
+    board.edges[0].target.node = 1.into();
+    let sheet = board.draw().expect("no bundle, so nothing to refuse");
+    let picture = svg(&board, &sheet, "on a side");
+    assert_eq!(false_joint(&picture, &board, &sheet), Ok(()));
+    assert!(
+        picture.contains(">Edge 1 lies on the frame of node 2.</text>"),
+        "{picture}"
+    );
 }
 
 /// A pair of small nodes so far above each other, and names for both.

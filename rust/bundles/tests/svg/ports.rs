@@ -3,6 +3,7 @@
 use bundle_stage::{Board, Endpoint, Id, Node, Point, Sheet};
 
 use super::apart::{SEEN, Shown, apart};
+use super::loose::{ends, open_ends};
 use super::of_class;
 use super::read::{Element, Line, nearest};
 
@@ -60,6 +61,10 @@ impl Square {
         self.edges.contains(&edge)
     }
 
+    pub fn is_of_bundle(&self, bundle: Id) -> bool {
+        self.bundles.contains(&bundle)
+    }
+
     /// Whether a place is inside, or so near.
     pub fn near(&self, at: (f64, f64), more: f64) -> bool {
         let inside = |at: f64, low: f64, high: f64| low - more <= at && at <= high + more;
@@ -82,6 +87,30 @@ impl Square {
     }
 }
 
+/// The end of a route that is at its port, and in no bundle there, is drawn up to the port's square.
+pub fn joined(shown: &Shown<'_>, board: &Board) -> Result<(), String> {
+    let ends_of = |place: usize| ends(&shown.routes[place].paths);
+    for (place, is_source, at_port) in open_ends(board, shown.sheet) {
+        let edge = &board.edges[place];
+        let port = if is_source { edge.source } else { edge.target };
+        let square = board
+            .ports
+            .iter()
+            .position(|of| (of.node, of.id) == (port.node, port.port));
+        let (true, Some(square)) = (at_port, square) else {
+            continue;
+        };
+        let ends = ends_of(place);
+        let end = if is_source { ends.first() } else { ends.last() };
+        // A route without length has no line.
+        if end.is_some_and(|end| !shown.ports[square].near(*end, 0.0)) {
+            let name = &shown.ports[square].name;
+            return Err(format!("edge {} ends at {end:?}, short of {name}", edge.id));
+        }
+    }
+    Ok(())
+}
+
 /// No line or dot comes near to a port's square that does not end there, nor do two squares to which
 /// lines are drawn.
 pub fn ports(shown: &Shown<'_>) -> Result<(), String> {
@@ -93,7 +122,7 @@ pub fn ports(shown: &Shown<'_>) -> Result<(), String> {
             if port.is_of(route.id) {
                 touched |= near.0 <= 0.0;
             } else {
-                apart(&format!("route {} at {}", route.id, port.name), near, SEEN)?;
+                apart(&format!("edge {} at {}", route.id, port.name), near, SEEN)?;
             }
         }
         for (bundle, drawn) in shown.sheet.bundles.iter().zip(&shown.bundles) {
@@ -140,7 +169,7 @@ pub fn contacts(board: &Board, sheet: &Sheet) -> Vec<String> {
         let (edges, bundles) = ending(board, name);
         let routes = sheet.routes.iter();
         let routes = routes.filter(|route| !edges.contains(&route.id) && on(&route.points, place));
-        let routes = routes.map(|route| format!("route {}", route.id));
+        let routes = routes.map(|route| format!("edge {}", route.id));
         let trunks = sheet.bundles.iter().filter(|of| {
             let mut parts = [of.collector, of.spine].into_iter();
             !bundles.contains(&of.id) && parts.any(|part| on(&[part.start, part.end], place))
