@@ -100,6 +100,17 @@ struct Own<'a> {
     words: &'a str,
 }
 
+impl<'a> Own<'a> {
+    fn of([key, name, lifted, words]: [&'a str; 4]) -> Own<'a> {
+        Own {
+            key,
+            name,
+            lifted,
+            words,
+        }
+    }
+}
+
 /// Each of the two that share this id, on the clock board with these changes.
 fn both(name: &str, changes: &[(&str, &str)], id: &str, all: [Own<'_>; 2]) {
     let Some(mut page) = page(name, changes) else {
@@ -112,36 +123,36 @@ fn both(name: &str, changes: &[(&str, &str)], id: &str, all: [Own<'_>; 2]) {
 
 #[test]
 fn edges() {
-    let first = Own {
-        key: "route-41",
-        name: "edge 41, 1 of 2 with this id",
-        lifted: "node-5 node-7 port-5-11 port-7-1 route-41",
-        words: " edge 41, 1 of 2 with this id (of bundle 4 time code, not drawn) ",
-    };
-    let second = Own {
-        key: "route-41-2",
-        name: "edge 41, 2 of 2 with this id",
-        lifted: "node-5 node-7 port-5-12 port-7-1 route-41-2",
-        words: " edge 41, 2 of 2 with this id (of bundle 4 time code, not drawn) ",
-    };
+    let first = Own::of([
+        "route-41",
+        "edge 41, 1 of 2 with this id",
+        "node-5 node-7 port-5-11 port-7-1 route-41",
+        " edge 41, 1 of 2 with this id (of bundle 4 time code, not drawn) ",
+    ]);
+    let second = Own::of([
+        "route-41-2",
+        "edge 41, 2 of 2 with this id",
+        "node-5 node-7 port-5-12 port-7-1 route-41-2",
+        " edge 41, 2 of 2 with this id (of bundle 4 time code, not drawn) ",
+    ]);
     let changes = [("edge 42 from", "edge 41 from")];
     both("twice-edges", &changes, "edge 41", [first, second]);
 }
 
 #[test]
 fn ports() {
-    let first = Own {
-        key: "port-5-11",
-        name: "port 5:11 time code, 1 of 2 with this id",
-        lifted: "node-5 node-7 port-5-11 port-7-1 route-41",
-        words: " edge 41 ",
-    };
-    let second = Own {
-        key: "port-5-11-2",
-        name: "port 5:11 time code, inverted, 2 of 2 with this id",
-        lifted: "node-5 node-7 port-5-11-2 port-7-1 route-42",
-        words: " edge 42 ",
-    };
+    let first = Own::of([
+        "port-5-11",
+        "port 5:11 time code, 1 of 2 with this id",
+        "node-5 node-7 port-5-11 port-7-1 route-41",
+        " edge 41 ",
+    ]);
+    let second = Own::of([
+        "port-5-11-2",
+        "port 5:11 time code, inverted, 2 of 2 with this id",
+        "node-5 node-7 port-5-11-2 port-7-1 route-42",
+        " edge 42 ",
+    ]);
     let changes = [("port 5:12 ", "port 5:11 "), ("from 5:12", "from 5:11")];
     both("twice-ports", &changes, "5:11", [first, second]);
 }
@@ -149,23 +160,23 @@ fn ports() {
 /// Each of the nodes has the ports at which its routes end.
 #[test]
 fn nodes() {
-    let first = Own {
-        key: "node-4",
-        name: "node 4 PLL, 1 of 2 with this id",
-        lifted: "node-1 node-2 node-4 node-4-2 node-6 port-1-1 port-2-1 port-4-1 port-4-11 port-4-12 \
+    let first = Own::of([
+        "node-4",
+        "node 4 PLL, 1 of 2 with this id",
+        "node-1 node-2 node-4 node-4-2 node-6 port-1-1 port-2-1 port-4-1 port-4-11 port-4-12 \
                  port-4-13 port-4-14 port-4-2 port-4-20 port-4-3 port-4-4 port-4-5 port-4-920 port-6-1 \
                  route-11 route-12 route-13 route-14 route-21 route-22 route-23 route-24 route-31 route-71",
-        words: " node 4 timestamp unit, 2 of 2 with this id",
-    };
-    let second = Own {
-        key: "node-4-2",
-        name: "node 4 timestamp unit, 2 of 2 with this id",
-        lifted: "node-2 node-3 node-4 node-4-2 node-7 node-8 port-2-1 port-3-1 port-4-20 port-4-91 \
+        " node 4 timestamp unit, 2 of 2 with this id",
+    ]);
+    let second = Own::of([
+        "node-4-2",
+        "node 4 timestamp unit, 2 of 2 with this id",
+        "node-2 node-3 node-4 node-4-2 node-7 node-8 port-2-1 port-3-1 port-4-20 port-4-91 \
                  port-4-911 port-4-912 port-4-913 port-4-914 port-4-92 port-4-920 port-4-93 port-4-94 \
                  port-7-1 port-8-1 route-34 route-41 route-42 route-51 route-52 route-53 route-61 route-62 \
                  route-71",
-        words: " node 4 timestamp unit, 2 of 2 with this id",
-    };
+        " node 4 timestamp unit, 2 of 2 with this id",
+    ]);
     let changes = [("node 5 ", "node 4 "), (" 5:", " 4:9")];
     both("twice-nodes", &changes, "node 4", [first, second]);
 }
@@ -173,20 +184,20 @@ fn nodes() {
 /// Neither is drawn: each has the ways of its own members.
 #[test]
 fn bundles() {
-    let first = Own {
-        key: "bundle-3",
-        name: "bundle 3 oscillator, 1 of 2 with this id",
-        lifted: "node-2 node-4 node-5 node-7 port-2-1 port-4-5 port-5-1 port-7-1 route-31 route-32 \
+    let first = Own::of([
+        "bundle-3",
+        "bundle 3 oscillator, 1 of 2 with this id",
+        "node-2 node-4 node-5 node-7 port-2-1 port-4-5 port-5-1 port-7-1 route-31 route-32 \
                  route-33 route-34",
-        words: " edge 34 ",
-    };
-    let second = Own {
-        key: "bundle-3-2",
-        name: "bundle 3 time code, 2 of 2 with this id",
-        lifted: "node-2 node-5 node-7 port-2-1 port-5-11 port-5-12 port-7-1 route-32 route-33 route-41 \
+        " edge 34 ",
+    ]);
+    let second = Own::of([
+        "bundle-3-2",
+        "bundle 3 time code, 2 of 2 with this id",
+        "node-2 node-5 node-7 port-2-1 port-5-11 port-5-12 port-7-1 route-32 route-33 route-41 \
                  route-42",
-        words: " edge 42 ",
-    };
+        " edge 42 ",
+    ]);
     let changes = [("bundle 4 ", "bundle 3 ")];
     both("twice-bundles", &changes, "bundle 3", [first, second]);
 }

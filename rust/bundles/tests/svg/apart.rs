@@ -28,6 +28,20 @@ pub struct Drawn {
 /// The middle of a tap's dot, and its radius.
 pub type Dot = ((f64, f64), f64);
 
+impl Drawn {
+    /// Paths alone, one millimetre wide, with these marks and dots.
+    pub fn of(paths: &[&str], white: &[&str], taps: &[Dot]) -> Drawn {
+        let owned = |of: &[&str]| of.iter().map(|path| path.to_string()).collect();
+        Drawn {
+            lines: Vec::new(),
+            paths: owned(paths),
+            white: owned(white),
+            taps: taps.to_vec(),
+            half: 0.5,
+        }
+    }
+}
+
 /// All of a class, in order. A white path is the mark on a trunk, and lies on a line that is there.
 pub fn drawn(elements: &[Element], class: &str) -> Vec<Drawn> {
     let number = |element: &Element, name: &str| element.value(name).parse().expect("a number");

@@ -112,13 +112,7 @@ fn in_line(one: &Drawn, two: &Drawn) -> Result<(), String> {
 
 #[test]
 fn what_is_measured() {
-    let of = |paths: &[&str]| Drawn {
-        lines: Vec::new(),
-        paths: paths.iter().map(|path| path.to_string()).collect(),
-        white: Vec::new(),
-        taps: Vec::new(),
-        half: 0.5,
-    };
+    let of = |paths: &[&str]| Drawn::of(paths, &[], &[]);
     assert_eq!(kept(&of(&["M0 0L3 0M4 0L5.5 0M6.5 0L9 0"])), Ok(()));
     assert!(kept(&of(&["M0 0L3 0M4 0L5.4 0M6.4 0L9 0"])).is_err());
     assert!(kept(&of(&["M0 0L3 0M4 0L5.5 0M6.6 0L9 0"])).is_err());

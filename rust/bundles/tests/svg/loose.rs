@@ -202,11 +202,17 @@ fn clock_board(edge: &str) -> (Board, Sheet) {
     (board, sheet)
 }
 
+/// Its picture, which has so many crosses.
+fn crossed(edge: &str, crosses: usize) -> String {
+    let (board, sheet) = clock_board(edge);
+    let picture = svg(&board, &sheet, "crossed");
+    assert_eq!(marked(&picture, &board, &sheet), Ok(crosses), "{edge}");
+    picture
+}
+
 #[test]
 fn an_end_short_of_its_port() {
-    let (board, sheet) = clock_board("edge 71 from 4:20 to 5:20 via 480,220 480,260");
-    let picture = svg(&board, &sheet, "short");
-    assert_eq!(marked(&picture, &board, &sheet), Ok(1));
+    let picture = crossed("edge 71 from 4:20 to 5:20 via 480,220 480,260", 1);
     let words = "edge 71 ends at (480, 260), not at its port 5:20, which stands at (480, 300)";
     assert!(picture.contains(&format!(">Edge{}.</text>", &words[4..])));
     assert!(picture.contains(&format!("data-of=\"route-71\"><title>{words}</title>")));
@@ -235,23 +241,20 @@ fn how_near_is_at_the_port() {
         ("299.999", 1),
         ("299", 1),
     ] {
-        let (board, sheet) = clock_board(&format!("edge 71 from 4:20 to 5:20 via 480,220 480,{y}"));
-        let picture = svg(&board, &sheet, "near");
-        assert_eq!(marked(&picture, &board, &sheet), Ok(crosses), "{y}");
+        crossed(
+            &format!("edge 71 from 4:20 to 5:20 via 480,220 480,{y}"),
+            crosses,
+        );
     }
 }
 
 #[test]
 fn a_port_that_is_not_there() {
-    let (board, sheet) = clock_board("edge 71 from 4:20 to 5:21 via 480,220 480,260");
-    let picture = svg(&board, &sheet, "no port");
-    assert_eq!(marked(&picture, &board, &sheet), Ok(1));
+    let picture = crossed("edge 71 from 4:20 to 5:21 via 480,220 480,260", 1);
     let words = ">Edge 71 ends at (480, 260), and the board has no port 5:21.</text>";
     assert!(picture.contains(words));
     // Without points there is no line, and no end that could have a cross.
-    let (board, sheet) = clock_board("edge 71 from 4:20 to 5:20");
-    let picture = svg(&board, &sheet, "no line");
-    assert_eq!(marked(&picture, &board, &sheet), Ok(0));
+    let picture = crossed("edge 71 from 4:20 to 5:20", 0);
     assert!(
         picture.contains(">Edge 71 has no points: no line is drawn from port 4:20 to port 5:20.<")
     );
@@ -354,9 +357,7 @@ fn a_sheet_that_was_shifted() {
 /// A line that runs through its port and ends inside the node is joined, and its end has a cross.
 #[test]
 fn an_end_past_its_port() {
-    let (board, sheet) = clock_board("edge 71 from 4:20 to 5:20 via 480,220 480,320");
-    let picture = svg(&board, &sheet, "past");
-    assert_eq!(marked(&picture, &board, &sheet), Ok(1));
+    let picture = crossed("edge 71 from 4:20 to 5:20 via 480,220 480,320", 1);
     let words = ">Edge 71 ends at (480, 320), past its port 5:20, through which it runs at (480, 300).</text>";
     assert!(picture.contains(words), "{picture}");
 }

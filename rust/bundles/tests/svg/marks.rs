@@ -225,13 +225,7 @@ fn under_many_wires() {
 
 #[test]
 fn what_is_marked() {
-    let of = |path: &str, white: &str| Drawn {
-        lines: Vec::new(),
-        paths: vec![path.to_string()],
-        white: vec![white.to_string()],
-        taps: Vec::new(),
-        half: 0.5,
-    };
+    let of = |path: &str, white: &str| Drawn::of(&[path], &[white], &[]);
     let told = |drawn: &Drawn, dashes| marked(drawn, &[], dashes);
     let two = "M0 0L9 0M10 0L13 0M14 0L20 0";
     assert_eq!(
@@ -256,13 +250,8 @@ fn what_is_marked() {
 /// Between two dots, and between a frame and the collector, a dash has full ink around it or there is none.
 #[test]
 fn marks_beside_dots_and_corners() {
-    let of = |path: &str, white: &str| Drawn {
-        lines: Vec::new(),
-        paths: vec![path.to_string()],
-        white: vec![white.to_string()],
-        taps: vec![((20.0, -1.7), 1.0), ((20.0, 1.7), 1.0)],
-        half: 0.5,
-    };
+    let taps = [((20.0, -1.7), 1.0), ((20.0, 1.7), 1.0)];
+    let of = |path: &str, white: &str| Drawn::of(&[path], &[white], &taps);
     let told = |path: &str, white: &str| marked(&of(path, white), &[], (1, 1));
     let two = "M0 0L20 0M20 -1.7L20 1.7";
     assert_eq!(told(two, "M17.6 0L19 0"), Ok(()));

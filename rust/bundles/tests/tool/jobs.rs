@@ -2,13 +2,12 @@
 
 use std::fs;
 
-use super::{NO_JOB, NOTICE, bundles, example, failed, folder, out, text};
+use super::{NO_JOB, NOTICE, bundles, clock_board, example, failed, folder, out, text};
 
 /// Document 02, F-1: `-0` is packed as it stands, and drawn, explained and shown as 0 is.
 #[test]
 fn minus_zero_in_a_board() {
     let folder = folder("minus");
-    let name = |name: &str| folder.join(name).to_str().expect("text").to_string();
     let text_of = |zero: &str| {
         format!(
             "port_stub 10\nroute_lane_gap 10\nedge_node_clearance {zero}\n\
@@ -23,7 +22,7 @@ fn minus_zero_in_a_board() {
         )
     };
     let [plus, minus] = [("plus", "0"), ("minus", "-0")].map(|(board, zero)| {
-        let job = name(&format!("{board}.job"));
+        let job = folder.file(&format!("{board}.job"));
         let packed = out(0, &["pack", "-"], text_of(zero).as_bytes());
         fs::write(&job, &packed).expect("a file");
         assert_eq!(
@@ -48,7 +47,7 @@ fn minus_zero_in_a_board() {
 #[test]
 fn numbers_off_the_grid() {
     let folder = folder("grid");
-    let job = folder.join("off.job").to_str().expect("text").to_string();
+    let job = folder.file("off.job");
     let board = "port_stub 10\nroute_lane_gap 10\nedge_node_clearance 0.1\n\
                  minimum_parallel_wire_spacing 0\nmember_endpoint_reserve 20\n# a comment\n\
                  node 1 at 0,30 size 40,40.5\nport 1:1 east 20\n\
@@ -92,19 +91,18 @@ fn only_65536_bytes_of_a_job_are_looked_at() {
 #[test]
 fn several_jobs() {
     let folder = folder("several");
-    let name = |name: &str| folder.join(name).to_str().expect("text").to_string();
     for job in ["a.job", "b"] {
-        fs::copy(example("board.job"), name(job)).expect("a copy");
+        fs::copy(example("board.job"), folder.file(job)).expect("a copy");
     }
-    let output = bundles(&["draw", &name("a.job"), &name("b")], b"");
+    let output = bundles(&["draw", &folder.file("a.job"), &folder.file("b")], b"");
     assert_eq!(output.status.code(), Some(0));
     assert!(output.stdout.is_empty());
     let lines = text(output.stderr);
     let due = |turn: &str, job: &str, answer: &str| {
         format!(
             "{turn} of 2: {}: 8 bundles drawn; {}\n",
-            name(job),
-            name(answer)
+            folder.file(job),
+            folder.file(answer)
         )
     };
     assert_eq!(
@@ -113,18 +111,33 @@ fn several_jobs() {
     );
     let answer = fs::read(example("board.answer")).expect("an example");
     for written in ["a.answer", "b.answer"] {
-        assert_eq!(fs::read(name(written)).expect("an answer"), answer);
+        assert_eq!(fs::read(folder.file(written)).expect("an answer"), answer);
     }
     // One of them is refused.
-    fs::write(name("c.job"), NO_JOB).expect("a file");
-    assert!(out(1, &["draw", &name("c.job"), &name("a.job")], b"").is_empty());
-    assert_eq!(fs::read(name("c.answer")).expect("a notice"), NOTICE);
-    assert!(failed(&["draw", &name("a.job"), "-"]).contains("standard input"));
+    folder.write("c.job", NO_JOB);
+    assert!(
+        out(
+            1,
+            &["draw", &folder.file("c.job"), &folder.file("a.job")],
+            b""
+        )
+        .is_empty()
+    );
+    assert_eq!(fs::read(folder.file("c.answer")).expect("a notice"), NOTICE);
+    assert!(failed(&["draw", &folder.file("a.job"), "-"]).contains("standard input"));
     // One cannot be read: it is told, and the others are drawn.
-    fs::remove_file(name("b.answer")).expect("a file");
-    let said = failed(&["draw", &name("not-there.job"), &name("c.job"), &name("b")]);
+    fs::remove_file(folder.file("b.answer")).expect("a file");
+    let said = failed(&[
+        "draw",
+        &folder.file("not-there.job"),
+        &folder.file("c.job"),
+        &folder.file("b"),
+    ]);
     assert!(said.contains("1 of 3: not drawn: "), "{said}");
-    assert_eq!(fs::read(name("b.answer")).expect("an answer"), answer);
+    assert_eq!(
+        fs::read(folder.file("b.answer")).expect("an answer"),
+        answer
+    );
 }
 
 /// What is whole is unpacked, however long it is; what is cut off is said.
@@ -162,31 +175,33 @@ fn unpacked_jobs() {
 #[test]
 fn answers_in_one_place() {
     let folder = folder("one-place");
-    let name = |name: &str| folder.join(name).to_str().expect("text").to_string();
     let job = fs::read(example("board.job")).expect("an example");
     for job_of in ["a.job", "a", "c.answer", "c.job"] {
-        fs::write(name(job_of), &job).expect("a file");
+        folder.write(job_of, &job);
     }
-    let said = failed(&["draw", &name("a.job"), &name("a")]);
+    let said = failed(&["draw", &folder.file("a.job"), &folder.file("a")]);
     let due = format!(
         "2 of 2: not drawn: {}: its answer would replace that to {}, {}: ",
-        name("a"),
-        name("a.job"),
-        name("a.answer")
+        folder.file("a"),
+        folder.file("a.job"),
+        folder.file("a.answer")
     );
     assert!(said.contains(&due), "{said}");
     assert_eq!(
-        fs::read(name("a.answer")).expect("an answer"),
+        fs::read(folder.file("a.answer")).expect("an answer"),
         fs::read(example("board.answer")).expect("an example")
     );
     // By another way to the same file.
-    let other = name("../one-place/a");
-    let said = failed(&["draw", &name("a.job"), &other]);
+    let other = folder.file("../one-place/a");
+    let said = failed(&["draw", &folder.file("a.job"), &other]);
     assert!(said.contains("its answer would replace that to"), "{said}");
-    let said = failed(&["draw", &name("c.job"), &name("c.answer")]);
-    let due = format!("1 of 2: not drawn: {}: its answer would", name("c.job"));
+    let said = failed(&["draw", &folder.file("c.job"), &folder.file("c.answer")]);
+    let due = format!(
+        "1 of 2: not drawn: {}: its answer would",
+        folder.file("c.job")
+    );
     assert!(said.contains(&due), "{said}");
-    assert_eq!(fs::read(name("c.answer")).expect("the job"), job);
+    assert_eq!(fs::read(folder.file("c.answer")).expect("the job"), job);
 }
 
 /// A mark of the order of bytes before a text, as some editors write it.
@@ -210,10 +225,10 @@ fn a_text_with_a_byte_order_mark() {
 /// enough; from a plan nothing is searched.
 #[test]
 fn a_search_that_runs_out() {
-    let board = fs::read_to_string(example("clock-board.txt")).expect("an example");
+    let board = clock_board();
     let board = format!("{board}tap_visits 100\n");
     let folder = folder("spent");
-    let name = folder.join("board.txt").to_str().expect("text").to_string();
+    let name = folder.file("board.txt");
     fs::write(&name, &board).expect("a file");
     let words = "the search for places ran out of tap visits; tap_visits 280 would be enough";
     let due = format!("{name}: {words}\n");
@@ -230,7 +245,7 @@ fn a_search_that_runs_out() {
         picture.contains(&format!(">The{}.</text>", &words[3..])),
         "{picture}"
     );
-    let plan = folder.join("plan").to_str().expect("text").to_string();
+    let plan = folder.file("plan");
     fs::write(&plan, out(0, &["plan", &name], b"")).expect("a file");
     let output = bundles(&["picture", "--plan", &plan, &name], b"");
     assert!(output.stderr.is_empty(), "{}", text(output.stderr));
@@ -240,12 +255,12 @@ fn a_search_that_runs_out() {
 /// A bundle without members: nothing leads to its port, and that is said.
 #[test]
 fn a_bundle_without_members() {
-    let board = fs::read_to_string(example("clock-board.txt")).expect("an example");
+    let board = clock_board();
     let board = board.replace("grid yes", "grid no");
     let board = format!("{board}port 8:9 west 5\nbundle 9 \"spare\" at 8:9 output width 2\n");
     let answer = out(0, &["draw"], board.as_bytes());
     let folder = folder("no-members");
-    let name = folder.join("board.txt").to_str().expect("text").to_string();
+    let name = folder.file("board.txt");
     fs::write(&name, &board).expect("a file");
     let explained = text(out(0, &["explain", "-", &name], &answer));
     assert!(
@@ -280,14 +295,17 @@ fn texts_in_place_of_jobs() {
     let named = out(0, &["explain", "-", &job, "--names", &board], &answer);
     assert_eq!(text(named), words);
     let folder = folder("texts");
-    let name = |name: &str| folder.join(name).to_str().expect("text").to_string();
     let names = out(0, &["names", &board], b"");
-    fs::write(name("board.names"), &names).expect("a file");
-    let unpacked = out(0, &["unpack", &job, "--names", &name("board.names")], b"");
-    fs::write(name("unpacked.txt"), &unpacked).expect("a file");
-    assert_eq!(out(0, &["names", &name("unpacked.txt")], b""), names);
+    folder.write("board.names", &names);
+    let unpacked = out(
+        0,
+        &["unpack", &job, "--names", &folder.file("board.names")],
+        b"",
+    );
+    folder.write("unpacked.txt", &unpacked);
+    assert_eq!(out(0, &["names", &folder.file("unpacked.txt")], b""), names);
     assert_eq!(
-        out(0, &["pack", &name("unpacked.txt")], b""),
+        out(0, &["pack", &folder.file("unpacked.txt")], b""),
         fs::read(&job).expect("a job")
     );
 }

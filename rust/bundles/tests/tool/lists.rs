@@ -2,7 +2,7 @@
 
 use std::fs;
 
-use super::{NO_JOB, bundles, example, folder, out, text};
+use super::{NO_JOB, bundles, clock_board, example, folder, out, text};
 
 /// Document 02, F-4: the page of a board on the grid, from its text and from its job.
 #[test]
@@ -15,7 +15,7 @@ fn a_bundle_page() {
     }
     assert!(due.len() == 6 * 76 && due.ends_with(b"425.0000000\n"));
     // Not said to be on the grid; then refused for another reason as well, which goes first.
-    let board = fs::read_to_string(example("clock-board.txt")).expect("an example");
+    let board = clock_board();
     let off = board.replace("grid                yes", "grid                no");
     let refused = bundles(&["page"], off.as_bytes());
     assert_eq!(refused.status.code(), Some(1));
@@ -54,15 +54,13 @@ x    y    bundle  edge
     assert_eq!(text(out(0, &["crossings", &job], b"")), list);
     assert_eq!(text(out(0, &["crossings", &board], b"")), list);
     assert_eq!(text(out(0, &["crossings"], &read(&job))), list);
-    let names = folder("crossings").join("names");
-    fs::write(&names, "bundle 2 \"clocks\"\nedge 51 \"sync\"\n").expect("a file");
-    let names = names.to_str().expect("text");
-    let named = text(out(0, &["crossings", &job, "--names", names], b""));
+    let names = "bundle 2 \"clocks\"\nedge 51 \"sync\"\n";
+    let names = folder("crossings").write("names", names);
+    let named = text(out(0, &["crossings", &job, "--names", &names], b""));
     assert!(named.contains("\n190  240  2 clocks  51 sync\n"), "{named}");
     // Drawn from a plan; forbidden, so that there is none; refused.
-    let plan = folder("crossed").join("plan");
-    fs::write(&plan, out(0, &["plan", &job], b"")).expect("a file");
-    let plan = plan.to_str().expect("text");
+    let plan = folder("crossed").write("plan", out(0, &["plan", &job], b""));
+    let plan = &plan;
     assert_eq!(
         text(out(0, &["crossings", &job, "--plan", plan], b"")),
         list

@@ -2,17 +2,16 @@
 
 use std::fs;
 
-use super::{bundles, example, folder, out, text};
+use super::{bundles, clock_board, example, folder, out, text};
 
 /// The clock board with a change, as a file of this name, and the line on which a record stands.
 fn changed(folder: &str, from: &str, to: &str) -> (String, String) {
-    let board = fs::read_to_string(example("clock-board.txt")).expect("an example");
+    let board = clock_board();
     assert_eq!(board.matches(from).count(), 1, "{from}");
     let at = board.lines().position(|line| line.contains(from));
     let line = format!("line {}: ", 1 + at.expect("a line"));
-    let name = super::folder(folder).join("board.txt");
-    fs::write(&name, board.replace(from, to)).expect("a file");
-    (name.to_str().expect("text").to_string(), line)
+    let name = super::folder(folder).write("board.txt", board.replace(from, to));
+    (name, line)
 }
 
 /// What is said on standard error by a command that does well, and what it writes.
@@ -75,8 +74,8 @@ fn jobs_and_plans() {
     let (board, line) = changed("short-job", "via 480,220 480,300", SHORT);
     let job = out(0, &["pack", &board], b"");
     let jobs = folder("short-jobs");
-    let job_of = |name: &str| jobs.join(name).to_str().expect("text").to_string();
-    fs::write(job_of("a.job"), job).expect("a file");
+    let job_of = |name: &str| jobs.file(name);
+    jobs.write("a.job", job);
     fs::copy(example("clock-board.job"), job_of("b.job")).expect("a copy");
     let (drawn, _) = said(&["draw", &job_of("a.job"), &job_of("b.job")]);
     let a = format!(
@@ -90,8 +89,7 @@ fn jobs_and_plans() {
         job_of("b.answer")
     );
     assert_eq!(drawn, a + &b);
-    let plan = job_of("a.plan");
-    fs::write(&plan, out(0, &["plan", &board], b"")).expect("a file");
+    let plan = jobs.write("a.plan", out(0, &["plan", &board], b""));
     let (drawn, _) = said(&["draw", "--plan", &plan, &board]);
     let due = format!("{board}: ends of routes: 1 is not at its port\n  {line}{WORDS}\n");
     assert_eq!(drawn, due);

@@ -54,12 +54,35 @@ fn failed(words: &[&str]) -> String {
     text(output.stderr)
 }
 
-/// An empty folder of this test's own.
-fn folder(name: &str) -> PathBuf {
+/// A folder of a test's own.
+struct Folder(PathBuf);
+
+impl Folder {
+    /// The name of a file in it.
+    fn file(&self, name: &str) -> String {
+        let path = self.0.join(name);
+        path.to_str().expect("text").to_string()
+    }
+
+    /// The same, the file being written.
+    fn write(&self, name: &str, bytes: impl AsRef<[u8]>) -> String {
+        let file = self.file(name);
+        fs::write(&file, bytes).expect("a file");
+        file
+    }
+}
+
+/// An empty one.
+fn folder(name: &str) -> Folder {
     let folder = Path::new(env!("CARGO_TARGET_TMPDIR")).join(name);
     let _ = fs::remove_dir_all(&folder);
     fs::create_dir_all(&folder).expect("a folder");
-    folder
+    Folder(folder)
+}
+
+/// The text of the clock board.
+fn clock_board() -> String {
+    fs::read_to_string(example("clock-board.txt")).expect("an example")
 }
 
 const NO_JOB: &[u8] = b"no job";

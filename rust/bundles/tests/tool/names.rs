@@ -2,13 +2,13 @@
 
 use std::fs;
 
-use super::{bundles, example, failed, folder, out, text};
+use super::{bundles, clock_board, example, failed, folder, out, text};
 
 const CODE: &str = "\u{5e7}\u{5d5}\u{5d3}";
 
 /// The clock board with such a name, and the name as it stands in a sentence.
 fn named() -> (String, String) {
-    let board = fs::read_to_string(example("clock-board.txt")).expect("an example");
+    let board = clock_board();
     let board = board.replace("\"time code\" at", &format!("\"{CODE}\" at"));
     (board, format!("\u{2068}{CODE}\u{2069}"))
 }
@@ -18,30 +18,33 @@ fn named() -> (String, String) {
 #[test]
 fn from_right_to_left() {
     let folder = folder("right-to-left");
-    let name = |name: &str| folder.join(name).to_str().expect("text").to_string();
     let (board, apart) = named();
-    fs::write(name("board.txt"), &board).expect("a file");
-    let answer = out(0, &["draw", &name("board.txt")], b"");
-    let words = text(out(0, &["explain", "-", &name("board.txt")], &answer));
+    folder.write("board.txt", &board);
+    let answer = out(0, &["draw", &folder.file("board.txt")], b"");
+    let words = text(out(
+        0,
+        &["explain", "-", &folder.file("board.txt")],
+        &answer,
+    ));
     assert!(
         words.contains(&format!("\nB4 {apart}: 2:1, 5:11, 5:12 \u{2192} 7:1\n")),
         "{words}"
     );
     assert!(words.contains("\nB3 oscillator: "), "{words}");
     assert_eq!(words.matches('\u{2068}').count(), 1, "{words}");
-    let picture = text(out(0, &["picture", &name("board.txt")], b""));
+    let picture = text(out(0, &["picture", &folder.file("board.txt")], b""));
     assert!(picture.contains(&format!(
         ">{apart}: 2:1, 5:11, 5:12 \u{2192} 7:1; output, interior, width 4<"
     )));
     assert!(picture.contains(&format!("<title>bundle 4 {apart} at 7:1</title>")));
-    let page = text(out(0, &["html", &name("board.txt")], b""));
+    let page = text(out(0, &["html", &folder.file("board.txt")], b""));
     assert!(page.contains(&format!(
         "collector and spine of bundle 4 {apart} \u{2192} port 7:1"
     )));
     // The text and the names file.
     for words in [
-        ["unpack", &name("board.txt")],
-        ["names", &name("board.txt")],
+        ["unpack", &folder.file("board.txt")],
+        ["names", &folder.file("board.txt")],
     ] {
         let written = text(out(0, &words, b""));
         assert!(
@@ -56,20 +59,24 @@ fn from_right_to_left() {
 #[test]
 fn tables_and_refusals() {
     let folder = folder("right-to-left-refused");
-    let name = |name: &str| folder.join(name).to_str().expect("text").to_string();
     let (board, apart) = named();
-    fs::write(name("board.txt"), &board).expect("a file");
-    let kept = out(0, &["plan", &name("board.txt")], b"");
-    fs::write(name("plan"), kept).expect("a file");
+    folder.write("board.txt", &board);
+    let kept = out(0, &["plan", &folder.file("board.txt")], b"");
+    folder.write("plan", kept);
     let words = text(out(
         0,
-        &["explain", "--plan", &name("plan"), &name("board.txt")],
+        &[
+            "explain",
+            "--plan",
+            &folder.file("plan"),
+            &folder.file("board.txt"),
+        ],
         b"",
     ));
     assert!(words.contains(&format!("interior  {apart}\n")), "{words}");
     let far = board.replace(" at 7:1 ", " at 7:9 ");
-    fs::write(name("far.txt"), far).expect("a file");
-    let refused = bundles(&["draw", &name("far.txt")], b"");
+    folder.write("far.txt", far);
+    let refused = bundles(&["draw", &folder.file("far.txt")], b"");
     let said = text(refused.stderr);
     assert!(
         said.contains(&format!("bundle 4 ({apart}) names port 7:9")),
@@ -81,8 +88,7 @@ fn tables_and_refusals() {
 #[test]
 fn signs_that_no_name_has() {
     let folder = folder("signs");
-    let name = |name: &str| folder.join(name).to_str().expect("text").to_string();
-    let board = fs::read_to_string(example("clock-board.txt")).expect("an example");
+    let board = clock_board();
     let line = 1 + board
         .lines()
         .position(|line| line.starts_with("bundle 4 "))
@@ -96,24 +102,24 @@ fn signs_that_no_name_has() {
     ] {
         let turned = format!("\"time{sign} code\" at 7:1");
         fs::write(
-            name("board.txt"),
+            folder.file("board.txt"),
             board.replace("\"time code\" at 7:1", &turned),
         )
         .expect("a file");
         for command in ["pack", "draw", "picture", "html", "names"] {
-            let said = failed(&[command, &name("board.txt")]);
+            let said = failed(&[command, &folder.file("board.txt")]);
             let due = format!(
                 "line {line}: expected a name without control characters, found U+{number} in `"
             );
             assert!(said.contains(&due), "{command}: {said}");
             assert!(!said.contains(sign), "{command}");
         }
-        fs::write(name("names"), format!("bundle 4 \"time{sign} code\"\n")).expect("a file");
+        folder.write("names", format!("bundle 4 \"time{sign} code\"\n"));
         let said = failed(&[
             "picture",
             &example("clock-board.job"),
             "--names",
-            &name("names"),
+            &folder.file("names"),
         ]);
         assert!(said.contains(&format!(
             "line 1: expected a name without control characters, found U+{number}"

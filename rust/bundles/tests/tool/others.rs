@@ -2,15 +2,13 @@
 
 use std::fs;
 
-use super::{NO_JOB, NOTICE, bundles, example, failed, folder, out, text};
+use super::{NO_JOB, NOTICE, bundles, clock_board, example, failed, folder, out, text};
 
 /// The clock board with a change, as a file in this folder.
 fn changed(folder: &str, from: &str, to: &str) -> String {
-    let board = fs::read_to_string(example("clock-board.txt")).expect("an example");
+    let board = clock_board();
     assert_eq!(board.matches(from).count(), 1, "{from}");
-    let name = super::folder(folder).join("board.txt");
-    fs::write(&name, board.replace(from, to)).expect("a file");
-    name.to_str().expect("text").to_string()
+    super::folder(folder).write("board.txt", board.replace(from, to))
 }
 
 /// What every command that takes both says, and the exit code 2; each begins with the same words.
@@ -60,22 +58,21 @@ fn sheets_of_other_boards() {
 #[test]
 fn refusals_of_other_boards() {
     let folder = folder("other-refusals");
-    let name = |name: &str| folder.join(name).to_str().expect("text").to_string();
-    fs::write(name("notice"), NOTICE).expect("a file");
+    folder.write("notice", NOTICE);
     let job = example("clock-board.job");
-    let said = refused(&job, &name("notice"));
+    let said = refused(&job, &folder.file("notice"));
     assert_eq!(
         said,
         format!("it is the refusal 1, and the stage draws this job{ASKED}")
     );
-    fs::write(name("none.job"), NO_JOB).expect("a file");
-    let said = refused(&name("none.job"), &example("clock-board.answer"));
+    folder.write("none.job", NO_JOB);
+    let said = refused(&folder.file("none.job"), &example("clock-board.answer"));
     assert_eq!(
         said,
         format!("it is a sheet, and the stage refuses this job with 1{ASKED}")
     );
-    fs::write(name("eleven"), [0, 0, 0, 2, 1, 11]).expect("a file");
-    let said = refused(&name("none.job"), &name("eleven"));
+    folder.write("eleven", [0, 0, 0, 2, 1, 11]);
+    let said = refused(&folder.file("none.job"), &folder.file("eleven"));
     assert_eq!(
         said,
         format!("it is the refusal 11, and the stage refuses this job with 1{ASKED}")
@@ -83,9 +80,9 @@ fn refusals_of_other_boards() {
     // A page may have been wanted, or a buffer too short: that is of this job.
     let free = changed("no-grid", "grid", "# grid");
     for (number, own) in [(16, true), (2, true), (19, false)] {
-        fs::write(name("output"), [0, 0, 0, 2, 1, number]).expect("a file");
+        folder.write("output", [0, 0, 0, 2, 1, number]);
         let code = if own { 1 } else { 2 };
-        let words = text(out(code, &["explain", &name("output"), &free], b""));
+        let words = text(out(code, &["explain", &folder.file("output"), &free], b""));
         assert_eq!(
             words.starts_with(&format!("refused with {number}, ")),
             own,
@@ -97,10 +94,8 @@ fn refusals_of_other_boards() {
 /// The plan of a board with other grants, which is refused: no visits less than none are said.
 #[test]
 fn a_plan_of_other_grants() {
-    let kept = folder("other-plan").join("plan");
     let plan = out(0, &["plan", &example("clock-board.job")], b"");
-    fs::write(&kept, plan).expect("a file");
-    let kept = kept.to_str().expect("text");
+    let kept = &folder("other-plan").write("plan", plan);
     let few = changed("plan-of-other-grants", "grid ", "tap_visits 300\ngrid ");
     let words = text(out(1, &["explain", "--plan", kept, &few], b""));
     let visits = "\ntap visits: 1999720 left, more than the 300 that are granted\n";
@@ -112,9 +107,8 @@ fn a_plan_of_other_grants() {
 #[test]
 fn answers_from_plans() {
     let folder = folder("other-plans");
-    let name = |name: &str| folder.join(name).to_str().expect("text").to_string();
     fs::write(
-        name("plan"),
+        folder.file("plan"),
         out(0, &["plan", &example("clock-board.job")], b""),
     )
     .expect("a file");
@@ -123,20 +117,20 @@ fn answers_from_plans() {
         "member_endpoint_reserve       20",
         "member_endpoint_reserve 30",
     );
-    let drawn = out(0, &["draw", "--plan", &name("plan"), &next], b"");
-    fs::write(name("answer"), &drawn).expect("a file");
-    assert!(refused(&next, &name("answer")).ends_with(ASKED));
-    let with = ["--plan", &name("plan")];
+    let drawn = out(0, &["draw", "--plan", &folder.file("plan"), &next], b"");
+    folder.write("answer", &drawn);
+    assert!(refused(&next, &folder.file("answer")).ends_with(ASKED));
+    let with = ["--plan", &folder.file("plan")];
     let words = text(out(
         0,
-        &[&["explain", &name("answer"), &next][..], &with].concat(),
+        &[&["explain", &folder.file("answer"), &next][..], &with].concat(),
         b"",
     ));
     assert!(
         words.contains("\njoints: drawn from the plan that is given; "),
         "{words}"
     );
-    let own = name("own");
+    let own = folder.file("own");
     fs::write(&own, out(0, &["draw", &next], b"")).expect("a file");
     let output = bundles(&[&["explain", &own, &next][..], &with].concat(), b"");
     assert_eq!(output.status.code(), Some(2));

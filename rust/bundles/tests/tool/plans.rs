@@ -1,13 +1,12 @@
 //! Planned first, drawn later.
 
 use std::fs;
-use std::path::PathBuf;
 
-use super::{NO_JOB, NOTICE, bundles, example, failed, folder, out, text};
+use super::{Folder, NO_JOB, NOTICE, bundles, clock_board, example, failed, folder, out, text};
 
 /// The plan of the clock board, in a file of a folder of this name.
 struct Kept {
-    folder: PathBuf,
+    folder: Folder,
     file: String,
     plan: Vec<u8>,
 }
@@ -15,15 +14,13 @@ struct Kept {
 impl Kept {
     fn new(name: &str) -> Kept {
         let folder = folder(name);
-        let file = folder.join("clock-board.plan");
         let plan = out(0, &["plan", &example("clock-board.job")], b"");
-        fs::write(&file, &plan).expect("a file");
-        let file = file.to_str().expect("text").to_string();
+        let file = folder.write("clock-board.plan", &plan);
         Kept { folder, file, plan }
     }
 
     fn name(&self, name: &str) -> String {
-        self.folder.join(name).to_str().expect("text").to_string()
+        self.folder.file(name)
     }
 }
 
@@ -176,11 +173,10 @@ fn words_about_plans() {
 #[test]
 fn a_page_from_a_plan() {
     let folder = folder("planned-page");
-    let name = |name: &str| folder.join(name).to_str().expect("text").to_string();
-    let board = fs::read_to_string(example("clock-board.txt")).expect("an example");
-    let kept = name("kept.plan");
+    let board = clock_board();
+    let kept = folder.file("kept.plan");
     fs::write(&kept, out(0, &["plan", &example("clock-board.txt")], b"")).expect("a file");
-    let next = name("next.txt");
+    let next = folder.file("next.txt");
     let changed = board.replace(
         "member_endpoint_reserve       20",
         "member_endpoint_reserve 30",
@@ -194,10 +190,10 @@ fn a_page_from_a_plan() {
     // A bundle that is planned where a wire stands: refused from the plan alone.
     let wire = "edge 81 from 4:20 to 5:20 via 250,150 250,330\n";
     let crossed = board.replace("# ---- Bundles", &format!("{wire}# ---- Bundles"));
-    let cut = name("cut.plan");
+    let cut = folder.file("cut.plan");
     let mut bytes = fs::read(&kept).expect("a plan");
-    fs::write(name("crossed.txt"), crossed).expect("a file");
-    let refused = bundles(&["html", &name("crossed.txt"), "--plan", &kept], b"");
+    folder.write("crossed.txt", crossed);
+    let refused = bundles(&["html", &folder.file("crossed.txt"), "--plan", &kept], b"");
     assert_eq!(refused.status.code(), Some(1));
     let said = text(refused.stderr);
     assert!(said.contains("refused with 11, "), "{said}");

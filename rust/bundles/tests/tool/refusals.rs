@@ -2,7 +2,7 @@
 
 use std::fs;
 
-use super::{NO_JOB, NOTICE, bundles, example, failed, folder, out, text};
+use super::{NO_JOB, NOTICE, bundles, clock_board, example, failed, folder, out, text};
 
 #[test]
 fn a_refusal() {
@@ -10,9 +10,7 @@ fn a_refusal() {
     let words = text(out(1, &["explain"], NOTICE));
     assert!(words.starts_with("refused with 1, caused by the calling program: "));
     // Nothing of a board, as the bytes are no job.
-    let job = folder("refusal").join("none.job");
-    fs::write(&job, NO_JOB).expect("a file");
-    let job = job.to_str().expect("text");
+    let job = &folder("refusal").write("none.job", NO_JOB);
     let picture = text(out(1, &["svg", job, "-"], NOTICE));
     assert!(picture.contains("refused with 1"), "{picture}");
     let explained = text(out(1, &["explain", "-", job], NOTICE));
@@ -25,12 +23,11 @@ fn a_refusal() {
 #[test]
 fn names_beside_a_job() {
     let folder = folder("names");
-    let name = |name: &str| folder.join(name).to_str().expect("text").to_string();
-    let board = fs::read_to_string(example("clock-board.txt")).expect("an example");
+    let board = clock_board();
     let far = board.replace("\"alarms\" at 8:1", "at 8:7");
-    fs::write(name("far.job"), out(0, &["pack", "-"], far.as_bytes())).expect("a file");
-    fs::write(name("names"), "bundle 6 \"alarms\"\n").expect("a file");
-    let (job, names) = (name("far.job"), name("names"));
+    folder.write("far.job", out(0, &["pack", "-"], far.as_bytes()));
+    folder.write("names", "bundle 6 \"alarms\"\n");
+    let (job, names) = (folder.file("far.job"), folder.file("names"));
     let draws: [&[&str]; 5] = [
         &["draw", &job],
         &["picture", &job],
@@ -78,8 +75,8 @@ fn names_beside_a_job() {
 #[test]
 fn refusals_with_their_place() {
     let folder = folder("refusals");
-    let name = folder.join("board.txt").to_str().expect("text").to_string();
-    let board = fs::read_to_string(example("clock-board.txt")).expect("an example");
+    let name = folder.file("board.txt");
+    let board = clock_board();
     let line = |start: &str| {
         1 + board
             .lines()
@@ -121,18 +118,17 @@ fn refusals_with_their_place() {
 #[test]
 fn names_of_one_id() {
     let folder = folder("one-id");
-    let name = |name: &str| folder.join(name).to_str().expect("text").to_string();
-    let board = fs::read_to_string(example("clock-board.txt")).expect("an example");
+    let board = clock_board();
     let twice = board.replace("node 5 \"timestamp unit\"", "node 4 \"timestamp unit\"");
-    fs::write(name("twice.txt"), &twice).expect("a file");
-    let unpacked = text(out(0, &["unpack", &name("twice.txt")], b""));
+    folder.write("twice.txt", &twice);
+    let unpacked = text(out(0, &["unpack", &folder.file("twice.txt")], b""));
     for line in [
         "\nnode 4 \"PLL\" at 400,20 size 160,200\n",
         "\nnode 4 \"timestamp unit\" at 400,300 size 160,180\n",
     ] {
         assert!(unpacked.contains(line), "{unpacked}");
     }
-    let picture = text(out(1, &["picture", &name("twice.txt")], b""));
+    let picture = text(out(1, &["picture", &folder.file("twice.txt")], b""));
     for group in [
         "id=\"node-4\"><title>node 4 PLL</title>",
         "id=\"node-4-2\"><title>node 4 timestamp unit</title>",
