@@ -32,9 +32,8 @@ extern "C" {
 #define STAGE_PLAN_GIVEN 1u
 #define STAGE_WANT_PAGE 2u
 #define STAGE_WANT_CROSSINGS 4u
-/* Stack that a call needs at most, as measured before the crossings were kept as rows; README.md says
-   how much more a call may need that asks for their list. */
-#define STAGE_STACK_SIZE 637360
+/* Stack that a call needs at most, as measured. */
+#define STAGE_STACK_SIZE 664000
 
 /*
  * Writes the answer to the job, or the notice of its refusal, to the front of the answer's buffer, and
