@@ -237,13 +237,15 @@ fn drawn(pages: &Pages<'_>, one: Try, most: usize, ink: &str) -> Option<Result<D
     let mut scene = pages.scene.clone().moved(|point| page.at(point));
     let mut pens = Pens::of(&scene);
     let (strokes, miscounted) = strokes(&mut scene, &mut pens, one.tunnels());
-    let uncrossed = loose::left_out(&scene, &strokes);
-    if uncrossed >= most {
+    // Where others are to be better than one that is clear, few are.
+    let is_better = || loose::left_out(&scene, &strokes) < most;
+    if most < usize::MAX && !is_better() {
         return None;
     }
     if let Some(words) = miscounted.or_else(|| unclear(&scene, &strokes, &pens)) {
         return Some(Err(words));
     }
+    let uncrossed = loose::left_out(&scene, &strokes);
     bodies::widen(&mut scene, &strokes, &pens);
     let around = (pages.head, pages.legend);
     let (svg, labels) = page_of(&scene, (&strokes, &pens), around, &page, ink);

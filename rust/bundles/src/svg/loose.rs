@@ -7,7 +7,7 @@ use super::field::{Field, Rect, Spot, moved};
 use super::palette::WARNING;
 use super::paths::flat;
 use super::scene::Scene;
-use super::stroke::{Stroke, apart};
+use super::stroke::{Piece, Stroke, apart};
 use super::white::WHITE;
 use super::xml::{BOLD, escaped, mm, wide_bold, words};
 use crate::loose::{End, Loose};
@@ -61,10 +61,14 @@ fn ends<'a>(scene: &'a Scene, strokes: &[Stroke]) -> Vec<(usize, &'a Loose, Poin
 /// How far each cross may reach, none where it has no room.
 fn reaches(scene: &Scene, strokes: &[Stroke]) -> Vec<Option<f64>> {
     let ends = ends(scene, strokes);
+    if ends.is_empty() {
+        return Vec::new();
+    }
+    let inks = inks(strokes);
     let reach = |(turn, (route, _, at)): (usize, &(usize, &Loose, Point))| {
         let others = ends.iter().enumerate().filter(|(other, _)| *other != turn);
         let others = others.map(|(_, (.., other))| (apart(*at, *other) - WHITE) / 2.0);
-        let room = room(scene, strokes, *route, *at).min(others.fold(f64::INFINITY, f64::min));
+        let room = room(scene, &inks, *route, *at).min(others.fold(f64::INFINITY, f64::min));
         let reach = MOST.min(room - WIDTH / 2.0);
         let reach = if is_short(reach) {
             (room - THIN / 2.0).min(SHORT)
@@ -188,18 +192,23 @@ pub fn cross(at: Point, reach: f64) -> String {
     )
 }
 
+/// A piece of a line, by the place of its stroke, and half its width.
+type Ink = (usize, Piece, f64);
+
+/// All of them, also those in a gap, where another line goes over.
+fn inks(strokes: &[Stroke]) -> Vec<Ink> {
+    let inks = strokes.iter().enumerate().flat_map(|(place, stroke)| {
+        let pieces = flat(stroke).into_iter().chain(stroke.pieces());
+        pieces.map(move |piece| (place, piece, stroke.width / 2.0))
+    });
+    inks.collect()
+}
+
 /// How far a cross at the end of a route may reach: up to no other line, dot or port, but for the route's own
 /// ports, over which it is drawn.
-fn room(scene: &Scene, strokes: &[Stroke], route: usize, at: Point) -> f64 {
-    let others = strokes
-        .iter()
-        .enumerate()
-        .filter(|(place, _)| *place != route);
-    let lines = others.flat_map(|(_, stroke)| {
-        // In a gap too, where another one goes over it.
-        let pieces = flat(stroke).into_iter().chain(stroke.pieces());
-        pieces.map(move |piece| piece.from(at) - stroke.width / 2.0)
-    });
+fn room(scene: &Scene, inks: &[Ink], route: usize, at: Point) -> f64 {
+    let others = inks.iter().filter(|(place, ..)| *place != route);
+    let lines = others.map(|(_, piece, half)| piece.from(at) - half);
     let taps = scene.trunks.iter().flat_map(|trunk| &trunk.taps);
     let dots = taps.map(|tap| apart(tap.at, at) - tap.radius);
     let own = [scene.routes[route].source, scene.routes[route].target];
