@@ -235,6 +235,18 @@ fn drawn(sheet: &Sheet, board: Option<&Board>, plan: Option<&[u8]>, names: &Name
         text.push_str(&ways.unwrap_or_default());
     }
     text.push('\n');
+    text.push_str(&paid(sheet, board, plan));
+    text.push_str(&match (board, plan) {
+        (Some(board), Some(plan)) => Joints::of_plan(board, sheet, plan).explained(),
+        (Some(board), None) => Joints::of(board, sheet).explained(),
+        (None, _) => "joints: not looked at, as that takes the job\n".to_string(),
+    });
+    text
+}
+
+/// The visits that are left, and what is known of those paid.
+fn paid(sheet: &Sheet, board: Option<&Board>, plan: Option<&[u8]>) -> String {
+    let mut text = String::new();
     let left = sheet.visits_left;
     let granted = board.map(|board| board.grants);
     text.push_str(&visits(
@@ -252,11 +264,6 @@ fn drawn(sheet: &Sheet, board: Option<&Board>, plan: Option<&[u8]>, names: &Name
         left.geometry,
         granted.map(|grant| grant.geometry),
     ));
-    text.push_str(&match (board, plan) {
-        (Some(board), Some(plan)) => Joints::of_plan(board, sheet, plan).explained(),
-        (Some(board), None) => Joints::of(board, sheet).explained(),
-        (None, _) => "joints: not looked at, as that takes the job\n".to_string(),
-    });
     text
 }
 

@@ -43,6 +43,26 @@ pub struct Found {
     pub routes: Pairs,
 }
 
+impl Found {
+    /// Counts a crossing of two pieces; whether it is to have an arch.
+    fn take(
+        &mut self,
+        strokes: &[Stroke],
+        (one, two): (&Placed, &Placed),
+        listed: Option<&HashMap<(usize, usize), Crossed>>,
+    ) -> bool {
+        if let Some(pair) = pair(strokes, one, two) {
+            *self.trunks.entry(pair).or_insert(0) += 1;
+            return listed.is_none_or(|listed| listed.contains_key(&pair));
+        }
+        // Of two bundles none is without one.
+        if strokes[one.stroke].bundle.is_none() && one.stroke != two.stroke {
+            *self.routes.entry((one.stroke, two.stroke)).or_insert(0) += 1;
+        }
+        true
+    }
+}
+
 /// Gives the strokes their arches, and says how often lines cross on the page. With
 /// `tunnels` a line of which too little would be left between two that go over it has one gap there. A
 /// bundle and a route that are not `listed` get no arch.
@@ -128,14 +148,8 @@ fn crossed(
             let Some((here, there)) = one.piece.crossing(&two.piece) else {
                 continue;
             };
-            if let Some(pair) = pair(strokes, one, two) {
-                *found.trunks.entry(pair).or_insert(0) += 1;
-                if listed.is_some_and(|listed| !listed.contains_key(&pair)) {
-                    continue;
-                }
-            } else if a.bundle.is_none() && one.stroke != two.stroke {
-                // Of two bundles none is without one.
-                *found.routes.entry((one.stroke, two.stroke)).or_insert(0) += 1;
+            if !found.take(strokes, (one, two), listed) {
+                continue;
             }
             let (place, at, reach, under, there) = if goes_over(a, &one.piece, b, &two.piece) {
                 (i, here, reach(a, b), j, there)
