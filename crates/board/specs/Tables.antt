@@ -8,25 +8,25 @@ use Rattle.board.specs.declared.Bundle.{Bundle}
 use Rattle.board.specs.declared.Member.{Member}
 use Rattle.board.specs.declared.DrawnTap.{DrawnTap}
 use Rattle.board.specs.declared.DrawnBundle.{DrawnBundle}
-use Rattle.board.specs.declared.Table.{Table}
+use Rattle.arrayvec.specs.ArrayVec.{ArrayVec}
 
 abbrev pub Nodes : Type 0
-Nodes = Table PlacedNode max_nodes
+Nodes = ArrayVec PlacedNode
 
 abbrev pub Ports : Type 0
-Ports = Table Port max_ports
+Ports = ArrayVec Port
 
 abbrev pub Edges : Type 0
-Edges = Table Edge max_edges
+Edges = ArrayVec Edge
 
 abbrev pub Bundles : Type 0
-Bundles = Table Bundle max_bundles
+Bundles = ArrayVec Bundle
 
 abbrev pub Members : Type 0
-Members = Table Member max_members
+Members = ArrayVec Member
 
 abbrev pub DrawnTaps : Type 0
-DrawnTaps = Table DrawnTap max_members
+DrawnTaps = ArrayVec DrawnTap
 
 abbrev pub DrawnBundles : Type 0
-DrawnBundles = Table DrawnBundle max_bundles
+DrawnBundles = ArrayVec DrawnBundle

@@ -1,6 +1,7 @@
 -- The taps of a bundle written one after the other, and what is read of them.
 -- Assumes nothing.
 use Rattle.std.specs.Prelude.{Some, None, Option, ℕ, suc, ◌+◌, ◌-◌, ◌≤◌, ◌<◌, ◌≡◌, refl, List, [], ◌∷◌, ◌++◌, map, Bool, true, false, ◌&&◌, length, get_or, slice_get, take, drop, set, Float}
+use Rattle.std.specs.List.{list_all}
 use Rattle.std.specs.Float.{binary64}
 use Rattle.std.specs.Float.Ieee.{eq, div}
 use Rattle.std.proofs.Common.{sym, ap, ◌∙◌, arith}
@@ -137,17 +138,12 @@ module _ (ps : List Point) (i : ℕ) where
   unfolding highest
   high_end y h = rw (rest_none ps i h)
 
-  pub at_next : (x : Float) (d : Point) → i < length ps → eq (get_or ps i d).x x ≡ true → all_at x taps_later ≡ all_at x taps_rest
-  unfolding all_at
-  at_next x d h e = rw (rest_cons ps i d h, e)
+-- ---- every tap
 
-  pub at_off : (x : Float) (d : Point) → i < length ps → eq (get_or ps i d).x x ≡ false → all_at x taps_rest ≡ false
-  unfolding all_at
-  at_off x d h e = rw (rest_cons ps i d h, e)
-
-  pub at_end : (x : Float) → length ps ≤ i → all_at x taps_rest ≡ true
-  unfolding all_at
-  at_end x h = rw (rest_none ps i h)
+pub all_taps : (x : Float) (ps : List Point) → list_all (λ p. eq p.x x) ps ≡ all_at x (taps_in ps)
+unfolding all_at
+all_taps x [] = refl
+all_taps x (p ∷ ps) = ap (λ (b : Bool). eq p.x x && b) (all_taps x ps)
 
 -- ---- the first and the last
 

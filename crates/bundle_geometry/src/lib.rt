@@ -98,16 +98,10 @@ fn tap_reach(y: f64, taps: &[Point]) -> Reach
 // ---- the interior test of rewrite_member_routes
 
 // Whether every tap stands at x.
-#[tactic(auto, using(crate::proofs::Taps::at_next, crate::proofs::Taps::at_off, crate::proofs::Taps::at_end))]
 fn taps_are_at(x: f64, taps: &[Point]) -> bool
     ensures { result ≡ all_at x (taps_in taps.now) }
 {
-    for p in taps {
-        if !(p.x == x) {
-            return false;
-        }
-    }
-    true
+    taps.iter().all(|p| p.x == x)
 }
 
 fn reaches(depth: f64, pitch: f64, from: f64, to: f64) -> bool

@@ -18,7 +18,7 @@ use search_calls::{Call, Mark, SearchAnswer};
 // made there and taken apart here.
 
 // The stretches are kept, and the candidates sorted, in an array of its own, for which scratch would
-// be too short.
+// be too short. Both entries stay: they differ in two sizes, and in that the second's bounds may be absent.
 pub fn search_checked<'a>(
     call: Call<'a>,
     bounds: Bounds,

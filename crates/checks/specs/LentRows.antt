@@ -1,16 +1,10 @@
--- What the rows of a bundle's members and the places of its taps hold. Definitions of inner contracts.
+-- A bundle's members and the places of their taps, as slices of just these. Definitions of inner contracts.
 -- Assumes nothing.
 use Rattle.std.specs.Prelude.{ℕ, ◌<◌, List, [], ◌∷◌, map, Bool, cond, Float, Option, Some, None, All}
 use Rattle.board.specs.declared.Member.{Member}
 use Rattle.geometry.specs.declared.Point.{Point}
-use Rattle.plan.specs.MemberColumns.{edges_of, lanes_of}
 use Rattle.drawing.specs.Build.{TapOn}
-use Rattle.checks.specs.declared.BundleRows.{BundleRows}
-use Rattle.checks.specs.MemberSlices.{members_from, rail_point}
-
--- a bundle's members
-abbrev pub rows_lent : BundleRows → List Member
-rows_lent m = members_from (edges_of m.rows.now) (lanes_of m.rows.now) m.first m.count
+use Rattle.checks.specs.MemberSlices.{rail_point}
 
 -- a tap of no edge in particular
 abbrev pub bare_tap : Point → TapOn

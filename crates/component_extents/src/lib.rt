@@ -18,7 +18,7 @@ use arrayvec::ArrayVec;
 use components::{Extent, Places};
 use geometry::Role;
 use limits::MAX_BUNDLES;
-use plan::{Bound, Planned, Planning, Range};
+use plan::{Bound, NO_X, Planned, Planning, Range};
 use search::{Bounds, TapVisits};
 
 // ---- the bundles of a component
@@ -87,7 +87,7 @@ pub fn drop_all(which: &[usize], p: Planning) -> Planning
 {
     let mut rows = p.rows;
     for &i in which {
-        rows[i] = Planned { x: Bound::None };
+        rows[i] = NO_X;
     }
     Planning { rows, left: p.left }
 }
@@ -107,14 +107,14 @@ fn initial_x(b: Option<Bounds>) -> Bound
 
 // The plan of the first pass. By index, as the others that write a row at each turn:
 // plan_depths::corridor_depth_offsets, plan_searches::first_pass, plan_neighbours::adjacent_row and adjacency,
-// planner::member_windows, bundle_ends and reaches, separation::separate, draw_job::tap_rows. With
+// planner::member_windows and bundle_ends, separation::separate, bundle_geometry::trunk_taps and rail_taps. With
 // `rows.iter_mut().zip(ranges)` the proof did not close: after an adapter of `iter_mut` a proof knows how many
 // rows there are, and not what they hold.
 pub fn initial(ranges: &[Range], left: TapVisits) -> Planning
     requires { length ranges.now ≤ max_bundles }
     ensures { plan_in (length ranges.now) result ≡ record { xs = map initial_x (ranges_in ranges.now); left = left.0 } }
 {
-    let mut rows = [Planned { x: Bound::None }; MAX_BUNDLES];
+    let mut rows = [NO_X; MAX_BUNDLES];
     for (at, r) in ranges.iter().enumerate() {
         rows[at] = Planned {
             x: initial_x(r.bounds),

@@ -102,7 +102,7 @@ fn meet_in_line(level: bool, bus: Span, route: Span) -> Meet
 fn meet_crossing(h: Span, v: Span) -> Meet
     ensures { result ≡ crossing h v }
 {
-    if (v.fixed >= h.low) & (v.fixed <= h.high) & (h.fixed >= v.low) & (h.fixed <= v.high) {
+    if is_over(h, v) {
         return Meet::One(Point {
             x: v.fixed,
             y: h.fixed,

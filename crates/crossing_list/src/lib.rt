@@ -15,7 +15,6 @@ ghost use Rattle.crossing_bytes.specs.RowBytes.{row_bytes, rows_bytes, row_key};
 use crossing_rows::Row;
 use limits::{CROSSING_BYTES, MAX_CROSSINGS};
 
-#[tactic(auto, using(crossing_bytes::proofs::Laws::entry_joined))]
 fn put_row(out: &mut [u8], at: usize, row: &Row)
     requires { at + crossing_bytes ≤ length out.old }
     ensures { out.new ≡ sets out.old at (row_bytes row.now) }
@@ -49,12 +48,15 @@ fn put_list(out: &mut [u8], rows: &[Row])
     put_rows(out, rows);
 }
 
-// The rows, sorted and written.
-pub fn put_crossings(rows: &mut [Row], out: &mut [u8])
-    requires { (length rows.old ≤ max_crossings) × (crossings_room ≤ length out.old) }
-    ensures { out.new ≡ sets out.old 0 (rows_bytes (sorted row_key rows.old)) }
+// The rows, sorted and written. A copy is sorted: the caller's rows are lent, and stay as they are.
+pub fn put_crossings(rows: &[Row], out: &mut [u8])
+    requires { (length rows.now ≤ max_crossings) × (crossings_room ≤ length out.old) }
+    ensures { out.new ≡ sets out.old 0 (rows_bytes (sorted row_key rows.now)) }
 {
+    let mut room = [Row::default(); MAX_CROSSINGS];
     let mut spare = [Row::default(); MAX_CROSSINGS];
-    place_sort::sort(rows, &mut spare[..]);
-    put_list(out, rows);
+    let own = &mut room[..rows.len()];
+    own.copy_from_slice(rows);
+    place_sort::sort(own, &mut spare[..]);
+    put_list(out, own);
 }

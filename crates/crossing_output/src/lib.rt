@@ -34,7 +34,7 @@ pub fn list_crossings(
 {
     let mut kept = ArrayVec::new();
     crossing_walk::sheet_crossings(permitted, table, drawn, present, &mut kept)?;
-    let rows = kept.as_mut_slice();
+    let rows = kept.as_slice();
     if withheld {
         return Ok(());
     }

@@ -33,28 +33,27 @@ use Rattle.answer.specs.Answer.{Trunk, trunk_of, spot_of, lines_of}
 use Rattle.answer.specs.SheetTables.{sheet_of}
 use Rattle.job.specs.declared.Job as code
 use Rattle.promise.specs.Stage.{tap_told, bundle_told, bundles_told, page_told, answer_of}
-use Rattle.job_tables.specs.Came.{Sizes, job_in}
+use Rattle.job_tables.specs.Came.{job_in}
 use Rattle.draw_job.specs.JobTables.{TapsOf, OnSheet, finished}
 
 null_tap : DrawnTap
 null_tap = record { edge = 0; point = no_point }
 
-module _ (table : List Edge) (members : List Member) (edges : List ℕ) (taps : List Point) (t : DrawnTaps) (of : TapsOf table members taps t) (kt : length members ≤ length t.rows)
-    (are : (k : ℕ) → get_or edges k 0 ≡ (member_at members k).edge) where
+module _ (table : List Edge) (members : List Member) (edges : List ℕ) (taps : List Point) (t : DrawnTaps) (of : TapsOf table members taps t)
+    (are : (k : ℕ) → k < length members → get_or edges k 0 ≡ (member_at members k).edge) where
   abbrev listed : List DrawnTap
-  listed = take (length members) t.rows
+  listed = t.items
 
   tap_same : (k : ℕ) → k < length members → get_or listed k null_tap ≡ tap_told table (record { edge = get_or edges k 0; place = get_or taps k no_point })
   tap_same k h =
-      get_or-take (length members) t.rows k null_tap h
-      ∙ of.row_is k h null_tap
-      ∙ ap (λ (e : ℕ). record { edge = (get_or table e no_edge).id; point = get_or taps k no_point }) (sym (are k))
+      of.row_is k h null_tap
+      ∙ ap (λ (e : ℕ). record { edge = (get_or table e no_edge).id; point = get_or taps k no_point }) (sym (are k h))
 
   taps_same : (k first : ℕ) → first + k ≤ length members → window first k listed ≡ map (tap_told table) (taps_from edges taps first k)
   unfolding taps_from
   taps_same zero first h = refl
   taps_same (suc k) first h =
-      rw (window_cons listed first k null_tap (omega (arith, length-take-le (length members) t.rows kt)))
+      rw (window_cons listed first k null_tap (omega (arith, of.count_is)))
       (ap (λ (d : DrawnTap). d ∷ window (suc first) k listed) (tap_same first (omega arith))
       ∙ ap (λ (l : List DrawnTap). tap_told table (record { edge = get_or edges first 0; place = get_or taps first no_point }) ∷ l) (taps_same k (suc first) (omega arith)))
 
@@ -91,50 +90,26 @@ row_at (v ∷ us) [] r i h u d = absurd r
 row_at (v ∷ us) (c ∷ ds) r zero h u d = r.0
 row_at (v ∷ us) (c ∷ ds) r (suc i) h u d = row_at us ds r.1 i (omega arith) u d
 
-rows_alike : (us : List Bundle) (ds : List DrawnBundle) → Rows us ds → length ds ≡ length us
-unfolding Rows
-rows_alike [] [] r = refl
-rows_alike [] (d ∷ ds) r = absurd r
-rows_alike (u ∷ us) [] r = absurd r
-rows_alike (u ∷ us) (d ∷ ds) r = let e = rows_alike us ds r.1 in omega arith
-
-module _ (j : code.Job) (edges : List ℕ) (ds : DrawnBundles) (points : List Float) (counts : List ℕ) (taps : List Point) (on : OnSheet j edges ds points counts taps) (sizes : Sizes j) where
-  short : ds.count ≤ length j.bundles.rows
-  short = omega (arith, on.all_drawn, on.fits.bundles, sizes.bundles)
-
-  pub drawn_long : length (take ds.count ds.rows) ≡ ds.count
-  drawn_long = rows_alike (take ds.count j.bundles.rows) (take ds.count ds.rows) on.each_row ∙ length-take-le ds.count j.bundles.rows short
-
-  pub windows : Windows (take ds.count ds.rows) j.members.count
+module _ (j : code.Job) (edges : List ℕ) (ds : DrawnBundles) (points : List Float) (counts : List ℕ) (taps : List Point) (on : OnSheet j edges ds points counts taps) where
+  pub windows : Windows ds.items (length j.members.items)
   windows i d h =
-      let k : i < ds.count = omega (arith, h, drawn_long) in
-      let r = row_at (take ds.count j.bundles.rows) (take ds.count ds.rows) on.each_row i (omega (arith, k, length-take-le ds.count j.bundles.rows short)) no_bundle d in
-      let u = get_or-take ds.count j.bundles.rows i no_bundle k in
-      omega (arith, on.windows i k, r.first, r.count, ap (λ (u : Bundle). u.first) u, ap (λ (u : Bundle). u.count) u)
+      let r = row_at j.bundles.items ds.items on.each_row i (omega (arith, h, on.all_drawn)) no_bundle d in
+      omega (arith, on.windows i h, r.first, r.count)
 
-  members_long : length (take j.members.count j.members.rows) ≡ j.members.count
-  members_long = length-take-le j.members.count j.members.rows (omega (arith, on.fits.members, sizes.members))
+  bundle_windows : (i : ℕ) → i < length j.bundles.items → (get_or j.bundles.items i no_bundle).first + (get_or j.bundles.items i no_bundle).count ≤ length j.members.items
+  bundle_windows i h = on.windows i (omega (arith, h, on.all_drawn))
 
-  bundle_windows : (i : ℕ) → i < length (take ds.count j.bundles.rows) → (get_or (take ds.count j.bundles.rows) i no_bundle).first + (get_or (take ds.count j.bundles.rows) i no_bundle).count ≤ length (take j.members.count j.members.rows)
-  bundle_windows i h =
-      let k : i < ds.count = omega (arith, h, length-take-le ds.count j.bundles.rows short) in
-      subst (λ (u : Bundle). u.first + u.count ≤ length (take j.members.count j.members.rows)) (sym (get_or-take ds.count j.bundles.rows i no_bundle k)) (omega (arith, on.windows i k, members_long))
-
-  module _ (buffer : List Float) (p : Planning) (rest : ℕ) (l : Laid) (after : List Float) (shifted : List Point) (t : DrawnTaps) (of : TapsOf (take j.edges.count j.edges.rows) (take j.members.count j.members.rows) shifted t)
-      (page : page_in edges l after counts shifted ≡ page_of (sheet_in edges (take j.nodes.count j.nodes.rows) (take ds.count ds.rows) points counts taps)) (as_many : l.drawn.count ≡ ds.count)
-      (kept : map heading (take l.drawn.count l.drawn.rows) ≡ map heading (take ds.count ds.rows)) where
+  module _ (buffer : List Float) (p : Planning) (rest : ℕ) (l : Laid) (after : List Float) (shifted : List Point) (t : DrawnTaps) (of : TapsOf j.edges.items j.members.items shifted t)
+      (page : page_in edges l after counts shifted ≡ page_of (sheet_in edges j.nodes.items ds.items points counts taps)) (kept : map heading l.drawn.items ≡ map heading ds.items) where
     abbrev frame : Frame
     frame = record { tap_visits = p.left.0; geometry_visits = rest; width = l.width; height = l.height }
 
-    trunks : map (trunk_of (take t.count t.rows)) (take l.drawn.count l.drawn.rows)
-        ≡ bundles_told (take j.edges.count j.edges.rows) (take j.bundles.count j.bundles.rows) (map (drawn_of edges shifted) (take l.drawn.count l.drawn.rows))
-    trunks =
-        ap (λ (n : ℕ). map (trunk_of (take n t.rows)) (take l.drawn.count l.drawn.rows)) of.count_is
-        ∙ trunks_same (take j.edges.count j.edges.rows) (take j.members.count j.members.rows) edges shifted t of (omega (arith, of.rows_long, members_long, on.fits.members)) on.edges_are (take ds.count j.bundles.rows) (take l.drawn.count l.drawn.rows) (take ds.count ds.rows) kept on.each_row bundle_windows
-        ∙ ap (λ (n : ℕ). bundles_told (take j.edges.count j.edges.rows) (take n j.bundles.rows) (map (drawn_of edges shifted) (take l.drawn.count l.drawn.rows))) on.all_drawn
+    trunks : map (trunk_of t.items) l.drawn.items
+        ≡ bundles_told j.edges.items j.bundles.items (map (drawn_of edges shifted) l.drawn.items)
+    trunks = trunks_same j.edges.items j.members.items edges shifted t of on.edges_are j.bundles.items l.drawn.items ds.items kept on.each_row bundle_windows
 
-    pub sheet_same : sheet_of frame (take l.nodes.count l.nodes.rows) (take j.edges.count j.edges.rows) after counts (take l.drawn.count l.drawn.rows) (take t.count t.rows) ≡ answer_of (finished j buffer p edges ds points counts taps rest)
+    pub sheet_same : sheet_of frame l.nodes.items j.edges.items after counts l.drawn.items t.items ≡ answer_of (finished j buffer p edges ds points counts taps rest)
     unfolding page_told
     sheet_same =
-        ap (λ (b : List Trunk). record { tap_visits = p.left.0; geometry_visits = rest; width = l.width; height = l.height; nodes = map spot_of (take l.nodes.count l.nodes.rows); routes = lines_of (take j.edges.count j.edges.rows) (routes_of after counts); bundles = b }) trunks
+        ap (λ (b : List Trunk). record { tap_visits = p.left.0; geometry_visits = rest; width = l.width; height = l.height; nodes = map spot_of l.nodes.items; routes = lines_of j.edges.items (routes_of after counts); bundles = b }) trunks
         ∙ ap (λ (q : Page). page_told (job_in j buffer).board p.left.0 rest q) page

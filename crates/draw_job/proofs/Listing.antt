@@ -45,18 +45,18 @@ module _ (j : code.Job) (buffer : List Float) (p : Planning) (edges : List ℕ) 
   abbrev permitted : Bool
   permitted = j.flags.permits_crossings
 
-  ids : map (λ (d : DrawnBundle). d.id) (take ds.count ds.rows) ≡ map (λ (u : Bundle). u.id) (job_in j buffer).board.bundles
-  ids = same_ids (take ds.count j.bundles.rows) (take ds.count ds.rows) on.each_row ∙ ap (λ (n : ℕ). map (λ (u : Bundle). u.id) (take n j.bundles.rows)) on.all_drawn
+  ids : map (λ (d : DrawnBundle). d.id) ds.items ≡ map (λ (u : Bundle). u.id) (job_in j buffer).board.bundles
+  ids = same_ids j.bundles.items ds.items on.each_row
 
-  many_rows : length (rows_met permitted (take j.edges.count j.edges.rows) (take ds.count ds.rows) points counts) ≡ length (list_of (finished j buffer p edges ds points counts taps rest))
+  many_rows : length (rows_met permitted j.edges.items ds.items points counts) ≡ length (list_of (finished j buffer p edges ds points counts taps rest))
   unfolding rows_met
-  many_rows = rows_many (job_in j buffer).board (drawn_of edges taps) (λ d. refl) (λ d. refl) permitted (take ds.count ds.rows) (routes_of points counts) ids
+  many_rows = rows_many (job_in j buffer).board (drawn_of edges taps) (λ d. refl) (λ d. refl) permitted ds.items (routes_of points counts) ids
 
-  list_rows : rows_bytes (sorted row_key (rows_met permitted (take j.edges.count j.edges.rows) (take ds.count ds.rows) points counts)) ≡ list_bytes (job_in j buffer).board (list_of (finished j buffer p edges ds points counts taps rest))
+  list_rows : rows_bytes (sorted row_key (rows_met permitted j.edges.items ds.items points counts)) ≡ list_bytes (job_in j buffer).board (list_of (finished j buffer p edges ds points counts taps rest))
   unfolding rows_met
-  list_rows = bytes_same (job_in j buffer).board (drawn_of edges taps) (λ d. refl) (λ d. refl) permitted (take ds.count ds.rows) (routes_of points counts) ids
+  list_rows = bytes_same (job_in j buffer).board (drawn_of edges taps) (λ d. refl) (λ d. refl) permitted ds.items (routes_of points counts) ids
 
-  module _ (w : Wants) (withheld r : Bool) (before after : List ℕ) (wanted : w.crossings ≡ true) (is : r ≡ ltb max_crossings (length (rows_met j.flags.permits_crossings (take j.edges.count j.edges.rows) (take ds.count ds.rows) points counts))) (left : after ≡ sets before 0 (written_rows withheld (rows_met j.flags.permits_crossings (take j.edges.count j.edges.rows) (take ds.count ds.rows) points counts))) where
+  module _ (w : Wants) (withheld r : Bool) (before after : List ℕ) (wanted : w.crossings ≡ true) (is : r ≡ ltb max_crossings (length (rows_met j.flags.permits_crossings j.edges.items ds.items points counts))) (left : after ≡ sets before 0 (written_rows withheld (rows_met j.flags.permits_crossings j.edges.items ds.items points counts))) where
     too_many_is : too_many w (finished j buffer p edges ds points counts taps rest) ≡ r
     unfolding too_many
     too_many_is = ap (λ (b : Bool). b && ltb max_crossings (length (list_of f))) wanted ∙ sym (is ∙ ap (λ (n : ℕ). ltb max_crossings n) many_rows)
@@ -64,13 +64,13 @@ module _ (j : code.Job) (buffer : List Float) (p : Planning) (edges : List ℕ) 
     -- 19
     pub many : r ≡ true → (too_many w (finished j buffer p edges ds points counts taps rest) ≡ true) × (after ≡ before)
     unfolding written_rows
-    many h = (too_many_is ∙ h, left ∙ ap (λ (b : Bool). sets before 0 (cond (b || withheld) [] (rows_bytes (sorted row_key (rows_met permitted (take j.edges.count j.edges.rows) (take ds.count ds.rows) points counts))))) (sym is ∙ h))
+    many h = (too_many_is ∙ h, left ∙ ap (λ (b : Bool). sets before 0 (cond (b || withheld) [] (rows_bytes (sorted row_key (rows_met permitted j.edges.items ds.items points counts))))) (sym is ∙ h))
 
     few_left : r ≡ false → after ≡ sets before 0 (cond withheld [] (list_bytes (job_in j buffer).board (list_of (finished j buffer p edges ds points counts taps rest))))
     unfolding written_rows
     few_left h =
         left
-        ∙ ap (λ (b : Bool). sets before 0 (cond (b || withheld) [] (rows_bytes (sorted row_key (rows_met permitted (take j.edges.count j.edges.rows) (take ds.count ds.rows) points counts))))) (sym is ∙ h)
+        ∙ ap (λ (b : Bool). sets before 0 (cond (b || withheld) [] (rows_bytes (sorted row_key (rows_met permitted j.edges.items ds.items points counts))))) (sym is ∙ h)
         ∙ ap (λ (l : List ℕ). sets before 0 (cond withheld [] l)) list_rows
 
 -- the list's buffer past 19: written where the list is wanted and nothing else is refused
@@ -79,7 +79,7 @@ pub record Listed (w : Wants) (f : Finished) (withheld : Bool) (before after : L
   pub bytes : after ≡ sets before 0 (cond withheld [] (cond w.crossings (list_bytes f.said.board (list_of f)) []))
 
 pub wanted_listed : (j : code.Job) (buffer : List Float) (p : Planning) (edges : List ℕ) (ds : DrawnBundles) (points : List Float) (counts : List ℕ) (taps : List Point) (rest : ℕ) → OnSheet j edges ds points counts taps
-    → (w : Wants) (withheld r : Bool) (before after : List ℕ) → w.crossings ≡ true → r ≡ ltb max_crossings (length (rows_met j.flags.permits_crossings (take j.edges.count j.edges.rows) (take ds.count ds.rows) points counts)) → after ≡ sets before 0 (written_rows withheld (rows_met j.flags.permits_crossings (take j.edges.count j.edges.rows) (take ds.count ds.rows) points counts)) → r ≡ false
+    → (w : Wants) (withheld r : Bool) (before after : List ℕ) → w.crossings ≡ true → r ≡ ltb max_crossings (length (rows_met j.flags.permits_crossings j.edges.items ds.items points counts)) → after ≡ sets before 0 (written_rows withheld (rows_met j.flags.permits_crossings j.edges.items ds.items points counts)) → r ≡ false
     → Listed w (finished j buffer p edges ds points counts taps rest) withheld before after
 wanted_listed j buffer p edges ds points counts taps rest on w withheld r before after wanted is left h =
     let f = finished j buffer p edges ds points counts taps rest in

@@ -67,8 +67,8 @@ use Rattle.outputs.specs.declared.Wants.{Wants}
 use Rattle.crossing_bytes.specs.Bytes.{list_bytes}
 use Rattle.crossing_promise.specs.SheetList.{list_of}
 use Rattle.outputs.specs.Outputs.{Outputs, notice, too_many, after_all, outputs_told}
-use Rattle.job_tables.proofs.Ready.{read_accepted, bundles_in, members_in, tables_sound, routes_in, bundles_lent, given_lent}
-use Rattle.job_tables.specs.Came.{Sizes, job_in, Came}
+use Rattle.job_tables.proofs.Ready.{read_accepted, tables_sound, routes_in, bundles_lent, given_lent}
+use Rattle.job_tables.specs.Came.{job_in, Came}
 use Rattle.draw_job.specs.JobTables.{Writes, Ended, TapsOf, OnSheet, Lent, finished}
 use Rattle.draw_job.proofs.Answers.{sheet_same}
 
@@ -160,41 +160,40 @@ module _ (j : code.Job) (buffer : List Float) (bytes : List ℕ) (t : JobTold (O
 -- ---- the plan
 
 -- our own
-module _ (j : code.Job) (buffer : List Float) (from : Came j buffer) (sizes : Sizes j) (t : BoardTables) (lent : board_lent t ≡ (job_in j buffer).board) (s : Result Planning NoRoom)
+module _ (j : code.Job) (buffer : List Float) (from : Came j buffer) (t : BoardTables) (lent : board_lent t ≡ (job_in j buffer).board) (s : Result Planning NoRoom)
     (is : step_in (length t.bundles.now) s ≡ plan_of (board_lent t) (tables.given_routes buffer t.edges.now) j.flags.separates_collectors j.grants.tap_visits) where
-  planned_is : planned (job_in j buffer) ≡ step_in j.bundles.count s
+  planned_is : planned (job_in j buffer) ≡ step_in (length j.bundles.items) s
   planned_is =
-      ap (λ (g : List Route). plan_of (job_in j buffer).board g j.flags.separates_collectors j.grants.tap_visits) (sym (given_lent j buffer from sizes t lent))
+      ap (λ (g : List Route). plan_of (job_in j buffer).board g j.flags.separates_collectors j.grants.tap_visits) (sym (given_lent j buffer from t lent))
       ∙ ap (λ (b : Board). plan_of b (tables.given_routes buffer t.edges.now) j.flags.separates_collectors j.grants.tap_visits) (sym lent)
       ∙ sym is
-      ∙ ap (λ (n : ℕ). step_in n s) (bundles_lent j buffer from sizes t lent)
+      ∙ ap (λ (n : ℕ). step_in n s) (bundles_lent j buffer from t lent)
 
-  pub own_phase : (given : Bool) → given ≡ false → (plan : List ℕ) (r : Result Planning Refusal) → ((n : ℕ) → told_plan n r ≡ after_search (step_in n s)) → told_plan j.bundles.count r ≡ plan_phase given (job_in j buffer) plan
+  pub own_phase : (given : Bool) → given ≡ false → (plan : List ℕ) (r : Result Planning Refusal) → ((n : ℕ) → told_plan n r ≡ after_search (step_in n s)) → told_plan (length j.bundles.items) r ≡ plan_phase given (job_in j buffer) plan
   unfolding plan_phase
-  own_phase given e plan r told = told j.bundles.count ∙ ap after_search (sym planned_is) ∙ sym (ap (λ (b : Bool). cond b (plan_for (job_in j buffer) plan) (after_search (planned (job_in j buffer)))) e)
+  own_phase given e plan r told = told (length j.bundles.items) ∙ ap after_search (sym planned_is) ∙ sym (ap (λ (b : Bool). cond b (plan_for (job_in j buffer) plan) (after_search (planned (job_in j buffer)))) e)
 
 -- one that is given
-pub given_phase : (j : code.Job) (buffer : List Float) (given : Bool) → given ≡ true → j.bundles.count ≤ length j.bundles.rows → (plan : List ℕ) (r : Result Planning Refusal) → told_plan j.bundles.count r ≡ read_plan j.flags.on_grid j.bundles.count j.grants.tap_visits plan
-    → told_plan j.bundles.count r ≡ plan_phase given (job_in j buffer) plan
+pub given_phase : (j : code.Job) (buffer : List Float) (given : Bool) → given ≡ true → (plan : List ℕ) (r : Result Planning Refusal) → told_plan (length j.bundles.items) r ≡ read_plan j.flags.on_grid (length j.bundles.items) j.grants.tap_visits plan
+    → told_plan (length j.bundles.items) r ≡ plan_phase given (job_in j buffer) plan
 unfolding plan_phase
-given_phase j buffer given e few plan r told =
+given_phase j buffer given e plan r told =
     told
-    ∙ ap (λ (n : ℕ). read_plan j.flags.on_grid n j.grants.tap_visits plan) (sym (length-take-le j.bundles.count j.bundles.rows few))
     ∙ sym (ap (λ (b : Bool). cond b (plan_for (job_in j buffer) plan) (after_search (planned (job_in j buffer)))) e)
 
 -- either
-module _ (j : code.Job) (buffer : List Float) (given : Bool) (plan : List ℕ) (r : Result Planning Refusal) (is : told_plan j.bundles.count r ≡ plan_phase given (job_in j buffer) plan) where
+module _ (j : code.Job) (buffer : List Float) (given : Bool) (plan : List ℕ) (r : Result Planning Refusal) (is : told_plan (length j.bundles.items) r ≡ plan_phase given (job_in j buffer) plan) where
   pub phase_refused : (e : Refusal) (n : ℕ) → n ≡ refusal_number e → r ≡ Err e → after_taking (job_in j buffer) (plan_phase given (job_in j buffer) plan) ≡ refused n
   unfolding told_plan after_taking
   phase_refused e n h k =
-      let z : plan_phase given (job_in j buffer) plan ≡ rejected (refusal_number e) = sym is ∙ ap (told_plan j.bundles.count) k in
+      let z : plan_phase given (job_in j buffer) plan ≡ rejected (refusal_number e) = sym is ∙ ap (told_plan (length j.bundles.items)) k in
       ap (after_taking (job_in j buffer)) z ∙ ap refused (sym h)
 
-  pub phase_taken : (p : Planning) → r ≡ Ok p → plan_phase given (job_in j buffer) plan ≡ taken (plan_in j.bundles.count p)
+  pub phase_taken : (p : Planning) → r ≡ Ok p → plan_phase given (job_in j buffer) plan ≡ taken (plan_in (length j.bundles.items) p)
   unfolding told_plan
-  phase_taken p e = sym is ∙ ap (told_plan j.bundles.count) e
+  phase_taken p e = sym is ∙ ap (told_plan (length j.bundles.items)) e
 
-  pub phase_going : (p : Planning) → r ≡ Ok p → after_taking (job_in j buffer) (plan_phase given (job_in j buffer) plan) ≡ after_sheet (job_in j buffer) (plan_in j.bundles.count p) (sheet_drawn (job_in j buffer) (plan_in j.bundles.count p))
+  pub phase_going : (p : Planning) → r ≡ Ok p → after_taking (job_in j buffer) (plan_phase given (job_in j buffer) plan) ≡ after_sheet (job_in j buffer) (plan_in (length j.bundles.items) p) (sheet_drawn (job_in j buffer) (plan_in (length j.bundles.items) p))
   unfolding after_taking
   phase_going p e = ap (after_taking (job_in j buffer)) (phase_taken p e)
 
@@ -204,34 +203,34 @@ pub full_clean : (v : Verdict) (q : GeometryVisits) (n all : ℕ) → v ≡ Clea
 unfolding Full
 full_clean v q n all e f = rw e at f
 
-module _ (j : code.Job) (buffer : List Float) (from : Came j buffer) (sizes : Sizes j) (t : BoardTables) (lent : board_lent t ≡ (job_in j buffer).board) (p : Planning) (offsets : List Float) (v : Verdict) (rs : List Route) (ds : List Drawn)
+module _ (j : code.Job) (buffer : List Float) (from : Came j buffer) (t : BoardTables) (lent : board_lent t ≡ (job_in j buffer).board) (p : Planning) (offsets : List Float) (v : Verdict) (rs : List Route) (ds : List Drawn)
     (as_offsets : OffsetsLent t offsets)
     (ends : ends_as v rs ds ≡ sheet_of (board_lent t) j.flags.permits_crossings (turns_from t.bundles.now (map x_of (take (length t.bundles.now) p.rows)) (take (length t.bundles.now) offsets)) (blank (tables.given_routes buffer t.edges.now) j.grants.geometry_visits)) where
   abbrev told_now : Told
-  told_now = after_sheet (job_in j buffer) (plan_in j.bundles.count p) (sheet_drawn (job_in j buffer) (plan_in j.bundles.count p))
+  told_now = after_sheet (job_in j buffer) (plan_in (length j.bundles.items) p) (sheet_drawn (job_in j buffer) (plan_in (length j.bundles.items) p))
 
-  drawn_is : sheet_drawn (job_in j buffer) (plan_in j.bundles.count p) ≡ ends_as v rs ds
+  drawn_is : sheet_drawn (job_in j buffer) (plan_in (length j.bundles.items) p) ≡ ends_as v rs ds
   drawn_is =
       let sheet : Board → ℕ → List Route → Outcome = λ b n g. sheet_of b j.flags.permits_crossings (turns_from b.bundles (map x_of (take n p.rows)) (offsets_of b)) (blank g j.grants.geometry_visits) in
-      ap (λ (g : List Route). sheet (job_in j buffer).board j.bundles.count g) (sym (given_lent j buffer from sizes t lent))
-      ∙ ap (λ (b : Board). sheet b j.bundles.count (tables.given_routes buffer t.edges.now)) (sym lent)
-      ∙ ap (λ (n : ℕ). sheet (board_lent t) n (tables.given_routes buffer t.edges.now)) (sym (bundles_lent j buffer from sizes t lent))
+      ap (λ (g : List Route). sheet (job_in j buffer).board (length j.bundles.items) g) (sym (given_lent j buffer from t lent))
+      ∙ ap (λ (b : Board). sheet b (length j.bundles.items) (tables.given_routes buffer t.edges.now)) (sym lent)
+      ∙ ap (λ (n : ℕ). sheet (board_lent t) n (tables.given_routes buffer t.edges.now)) (sym (bundles_lent j buffer from t lent))
       ∙ ap (λ (l : List Float). sheet_of (board_lent t) j.flags.permits_crossings (turns_from t.bundles.now (map x_of (take (length t.bundles.now) p.rows)) l) (blank (tables.given_routes buffer t.edges.now) j.grants.geometry_visits)) (sym (as_offsets t.edges.now))
       ∙ sym ends
 
   pub sheet_refused : (n : ℕ) (q : GeometryVisits) → v ≡ Refused n q → told_now ≡ refused n
   unfolding ends_as after_check after_sheet
   sheet_refused n q e =
-      let z : sheet_drawn (job_in j buffer) (plan_in j.bundles.count p) ≡ drawing.refused n q.0 = drawn_is ∙ rw e in
-      ap (after_sheet (job_in j buffer) (plan_in j.bundles.count p)) z
+      let z : sheet_drawn (job_in j buffer) (plan_in (length j.bundles.items) p) ≡ drawing.refused n q.0 = drawn_is ∙ rw e in
+      ap (after_sheet (job_in j buffer) (plan_in (length j.bundles.items) p)) z
 
-  pub sheet_going : (q : GeometryVisits) → v ≡ Clean q → sheet_drawn (job_in j buffer) (plan_in j.bundles.count p) ≡ drawing.going (standing rs ds q.0)
+  pub sheet_going : (q : GeometryVisits) → v ≡ Clean q → sheet_drawn (job_in j buffer) (plan_in (length j.bundles.items) p) ≡ drawing.going (standing rs ds q.0)
   unfolding ends_as after_check
   sheet_going q e = drawn_is ∙ rw e
 
-  pub sheet_clean : (q : GeometryVisits) → v ≡ Clean q → told_now ≡ drawn (record { said = job_in j buffer; plan_used = plan_in j.bundles.count p; sheet_made = standing rs ds q.0 })
+  pub sheet_clean : (q : GeometryVisits) → v ≡ Clean q → told_now ≡ drawn (record { said = job_in j buffer; plan_used = plan_in (length j.bundles.items) p; sheet_made = standing rs ds q.0 })
   unfolding after_sheet
-  sheet_clean q e = ap (after_sheet (job_in j buffer) (plan_in j.bundles.count p)) (sheet_going q e)
+  sheet_clean q e = ap (after_sheet (job_in j buffer) (plan_in (length j.bundles.items) p)) (sheet_going q e)
 
 -- how the sheet ended, and the visits left then
 pub ended_clean : (r : Result ⊤ Refusal) (n : ℕ) (x : ⊤) → r ≡ Ok x → told r n ≡ clean n
@@ -241,29 +240,27 @@ pub ended_refused : (r : Result ⊤ Refusal) (n m : ℕ) (e : Refusal) → m ≡
 ended_refused r n m e h is = ap (λ (z : Result ⊤ Refusal). told z n) is ∙ ap (λ (k : ℕ). failed k n) (sym h)
 
 -- what was in the slots does not matter, and the taps are cut to those of the members
-pub lent_as : (j : code.Job) (taps : List Point) (points points' : List Float) (counts : List ℕ) (mask : List Bool) (scratch : List Float) → length points' ≡ length points → Lent j taps points counts mask scratch → Lent j (take j.members.count taps) points' counts mask scratch
-lent_as j taps points points' counts mask scratch e lent = record {
+pub lent_as : (j : code.Job) (n : ℕ) → n ≡ length j.members.items → (taps : List Point) (points points' : List Float) (counts : List ℕ) (mask : List Bool) (scratch : List Float) → length points' ≡ length points → Lent j taps points counts mask scratch → Lent j (take n taps) points' counts mask scratch
+lent_as j n q taps points points' counts mask scratch e lent = record {
   counts_long = lent.counts_long;
-  room = record { places = omega (arith, length-take-le j.members.count taps lent.room.places); slots = omega (arith, lent.room.slots, e); masked = lent.room.masked };
+  room = record { places = omega (arith, q, length-take-le n taps (omega (arith, q, lent.room.places))); slots = omega (arith, lent.room.slots, e); masked = lent.room.masked };
   spare = lent.spare;
 }
 
 -- the sheet after the last turn, all bundles drawn
-module _ (j : code.Job) (buffer : List Float) (from : Came j buffer) (sizes : Sizes j) (t : BoardTables) (same : board_lent t ≡ (job_in j buffer).board) (taps : List Point) (points : List Float) (counts : List ℕ) (mask : List Bool) (scratch : List Float) (lent : Lent j taps points counts mask scratch)
+module _ (j : code.Job) (buffer : List Float) (from : Came j buffer) (t : BoardTables) (same : board_lent t ≡ (job_in j buffer).board) (taps : List Point) (points : List Float) (counts : List ℕ) (mask : List Bool) (scratch : List Float) (lent : Lent j taps points counts mask scratch)
     (v : Verdict) (ds : DrawnBundles) (taps' : List Point) (points' : List Float) (counts' : List ℕ) (taps_kept : length taps' ≡ length taps) (Points-kept : length points' ≡ length points) (counts_kept : length counts' ≡ length counts) where
-  pub on_sheet : (q : GeometryVisits) → v ≡ Clean q → Rows (take ds.count t.bundles.now) (take ds.count ds.rows) → Full v ds.count (length t.bundles.now) → Held counts'
+  pub on_sheet : (q : GeometryVisits) → v ≡ Clean q → Rows (take (length ds.items) t.bundles.now) ds.items → Full v (length ds.items) (length t.bundles.now) → Held counts'
       → OnSheet j (edges_of t.members.now) ds points' counts' taps'
   on_sheet q e each full held =
-      let all = full_clean v q ds.count (length t.bundles.now) e full ∙ bundles_lent j buffer from sizes t same in
-      let bundles = length-take-le j.bundles.count j.bundles.rows (bundles_in j buffer from sizes) in
-      let members = length-take-le j.members.count j.members.rows (members_in j buffer from sizes) in
+      let all = full_clean v q (length ds.items) (length t.bundles.now) e full ∙ bundles_lent j buffer from t same in
       record {
         fits = from.fits;
-        members_on = (routes_in j buffer from sizes).members_on;
-        windows = λ i h. omega (arith, ap (λ (u : Bundle). u.first + u.count) (get_or-take j.bundles.count j.bundles.rows i no_bundle (omega (arith, h, all))), ((tables_sound j buffer from sizes).bundles_on i (omega (arith, h, all, bundles))).members_in, members);
-        edges_are = λ k. edge_got t.members.now k ∙ ap (λ (b : Board). (get_or b.members k no_member).edge) same;
+        members_on = (routes_in j buffer from).members_on;
+        windows = λ i h. ((tables_sound j buffer from).bundles_on i (omega (arith, h, all))).members_in;
+        edges_are = λ k h. edge_got t.members.now k ∙ ap (λ (b : Board). (get_or b.members k no_member).edge) same;
         all_drawn = all;
-        each_row = subst (λ (us : List Bundle). Rows us (take ds.count ds.rows)) (ap (λ (b : Board). take ds.count b.bundles) same ∙ take-take ds.count j.bundles.count j.bundles.rows (omega (arith, all))) each;
+        each_row = subst (λ (us : List Bundle). Rows us ds.items) (ap (λ (b : Board). take (length ds.items) b.bundles) same ∙ ap (λ (n : ℕ). take n j.bundles.items) all ∙ take-length j.bundles.items) each;
         slots = omega (arith, lent.room.slots, Points-kept, counts_kept);
         hold = held;
         counted = omega (arith, lent.counts_long, counts_kept);
@@ -282,7 +279,7 @@ room_for members n taps points counts mask hm hn t p c m = record { places = ome
 
 -- ---- the answer
 
-module _ (j : code.Job) (buffer : List Float) (from : Came j buffer) (sizes : Sizes j) (t : BoardTables) (lent : board_lent t ≡ (job_in j buffer).board) (given : Bool) (plan : List ℕ) (r : Result Planning Refusal) (is : told_plan j.bundles.count r ≡ plan_phase given (job_in j buffer) plan)
+module _ (j : code.Job) (buffer : List Float) (from : Came j buffer) (t : BoardTables) (lent : board_lent t ≡ (job_in j buffer).board) (given : Bool) (plan : List ℕ) (r : Result Planning Refusal) (is : told_plan (length j.bundles.items) r ≡ plan_phase given (job_in j buffer) plan)
     (p : Planning) (on_going : r ≡ Ok p) (offsets : List Float) (v : Verdict) (edges : List ℕ) (ds : DrawnBundles) (points : List Float) (counts : List ℕ) (taps : List Point)
     (as_offsets : OffsetsLent t offsets)
     (ends : ends_as v (routes_of points counts) (drawn_in edges taps ds)
@@ -291,22 +288,22 @@ module _ (j : code.Job) (buffer : List Float) (from : Came j buffer) (sizes : Si
   told_so = after_taking (job_in j buffer) (plan_phase given (job_in j buffer) plan)
 
   pub all_refused : (n : ℕ) (q : GeometryVisits) → v ≡ Refused n q → after_taking (job_in j buffer) (plan_phase given (job_in j buffer) plan) ≡ refused n
-  all_refused n q e = phase_going j buffer given plan r is p on_going ∙ sheet_refused j buffer from sizes t lent p offsets v (routes_of points counts) (drawn_in edges taps ds) as_offsets ends n q e
+  all_refused n q e = phase_going j buffer given plan r is p on_going ∙ sheet_refused j buffer from t lent p offsets v (routes_of points counts) (drawn_in edges taps ds) as_offsets ends n q e
 
   pub all_drawn : (q : GeometryVisits) → v ≡ Clean q → after_taking (job_in j buffer) (plan_phase given (job_in j buffer) plan) ≡ drawn (finished j buffer p edges ds points counts taps q.0)
-  all_drawn q e = phase_going j buffer given plan r is p on_going ∙ sheet_clean j buffer from sizes t lent p offsets v (routes_of points counts) (drawn_in edges taps ds) as_offsets ends q e
+  all_drawn q e = phase_going j buffer given plan r is p on_going ∙ sheet_clean j buffer from t lent p offsets v (routes_of points counts) (drawn_in edges taps ds) as_offsets ends q e
 
   -- the answer of the tables after the last shift
-  pub all_told : (q : GeometryVisits) → OnSheet j edges ds points counts taps → (l : Laid) (after : List Float) (shifted : List Point) (rows : DrawnTaps) → TapsOf (take j.edges.count j.edges.rows) (take j.members.count j.members.rows) shifted rows → page_in edges l after counts shifted ≡ page_of (sheet_in edges (take j.nodes.count j.nodes.rows) (take ds.count ds.rows) points counts taps)
-      → l.drawn.count ≡ ds.count → map heading (take l.drawn.count l.drawn.rows) ≡ map heading (take ds.count ds.rows)
-      → answer.sheet_of (record { tap_visits = p.left.0; geometry_visits = q.0; width = l.width; height = l.height }) (take l.nodes.count l.nodes.rows) (take j.edges.count j.edges.rows) after counts (take l.drawn.count l.drawn.rows) (take rows.count rows.rows) ≡ answer_of (finished j buffer p edges ds points counts taps q.0)
-  all_told q on l after shifted rows of page as_many kept = sheet_same j edges ds points counts taps on sizes buffer p q.0 l after shifted rows of page as_many kept
+  pub all_told : (q : GeometryVisits) → OnSheet j edges ds points counts taps → (l : Laid) (after : List Float) (shifted : List Point) (rows : DrawnTaps) → TapsOf j.edges.items j.members.items shifted rows → page_in edges l after counts shifted ≡ page_of (sheet_in edges j.nodes.items ds.items points counts taps)
+      → map heading l.drawn.items ≡ map heading ds.items
+      → answer.sheet_of (record { tap_visits = p.left.0; geometry_visits = q.0; width = l.width; height = l.height }) l.nodes.items j.edges.items after counts l.drawn.items rows.items ≡ answer_of (finished j buffer p edges ds points counts taps q.0)
+  all_told q on l after shifted rows of page kept = sheet_same j edges ds points counts taps on buffer p q.0 l after shifted rows of page kept
 
   -- 16 was looked at: each bundle of the table can be printed
   pub all_printable : j.flags.on_grid ≡ true → (q : GeometryVisits) → v ≡ Clean q → (a : Frame) (nodes : List PlacedNode) (es : List Edge) (after : List Float) (b : List DrawnBundle) (rows : List DrawnTap)
       → answer.sheet_of a nodes es after counts b rows ≡ answer_of (finished j buffer p edges ds points counts taps q.0) → Printables (length b) b
   all_printable on q e a nodes es after b rows same =
-      let whole = phase_whole given from.bytes plan (job_in j buffer) from.is on (plan_in j.bundles.count p) (phase_taken j buffer given plan r is p on_going) in
-      let going = sheet_going j buffer from sizes t lent p offsets v (routes_of points counts) (drawn_in edges taps ds) as_offsets ends q e in
+      let whole = phase_whole given from.bytes plan (job_in j buffer) from.is on (plan_in (length j.bundles.items) p) (phase_taken j buffer given plan r is p on_going) in
+      let going = sheet_going j buffer from t lent p offsets v (routes_of points counts) (drawn_in edges taps ds) as_offsets ends q e in
       printables (length b) b rows (omega arith)
-      (subst (λ (l : List DrawnBundle). PageFits (map (trunk_of rows) l)) (sym (take-length b)) (subst (λ (z : Sheet). PageFits z.bundles) (sym same) (page_fits from.bytes (job_in j buffer) from.is on (plan_in j.bundles.count p) whole (standing (routes_of points counts) (drawn_in edges taps ds) q.0) going)))
+      (subst (λ (l : List DrawnBundle). PageFits (map (trunk_of rows) l)) (sym (take-length b)) (subst (λ (z : Sheet). PageFits z.bundles) (sym same) (page_fits from.bytes (job_in j buffer) from.is on (plan_in (length j.bundles.items) p) whole (standing (routes_of points counts) (drawn_in edges taps ds) q.0) going)))

@@ -20,7 +20,7 @@ use Rattle.turns.specs.TurnTables.{Follow, Once, Room}
 use Rattle.draw_job.specs.Lengths.{once}
 use Rattle.draw_job.specs.JobTables.{Lent}
 use Rattle.job_tables.proofs.Ready.{good, members_lent, edges_lent}
-use Rattle.job_tables.specs.Came.{job_in, Came, Sizes}
+use Rattle.job_tables.specs.Came.{job_in, Came}
 
 -- windows that start one behind the other
 follow_from : (ports all n : ℕ) (us : List Bundle) → map (λ (u : Bundle). u.first) us ≡ starts n (map (λ (u : Bundle). u.count) us) → All (GoodBundle ports all) us → Follow n all us
@@ -32,17 +32,17 @@ follow_from ports all n (u ∷ us) e h =
     (omega (arith, p), h.0.window, follow_from ports all (u.first + u.count) us (rw p q) h.1)
 
 -- the members follow one another, and no edge stands twice in a role: as the tables are lent
-module _ (j : code.Job) (buffer : List Float) (came : Came j buffer) (sizes : Sizes j) (t : BoardTables) (lent : board_lent t ≡ (job_in j buffer).board) where
+module _ (j : code.Job) (buffer : List Float) (came : Came j buffer) (t : BoardTables) (lent : board_lent t ≡ (job_in j buffer).board) where
   pub follow : Follow 0 (length t.members.now) t.bundles.now
-  follow = subst (λ (b : Board). Follow 0 (length b.members) b.bundles) (sym lent) (follow_from _ _ 0 _ (good j buffer came sizes).member_starts (good j buffer came sizes).bundles)
+  follow = subst (λ (b : Board). Follow 0 (length b.members) b.bundles) (sym lent) (follow_from _ _ 0 _ (good j buffer came).member_starts (good j buffer came).bundles)
 
   pub once_a_role : Once t.members.now t.bundles.now
-  once_a_role = subst (λ (b : Board). Once b.members b.bundles) (sym lent) (once (job_in j buffer) (good j buffer came sizes))
+  once_a_role = subst (λ (b : Board). Once b.members b.bundles) (sym lent) (once (job_in j buffer) (good j buffer came))
 
   -- the slices are as long as the tables, and have room
   module _ (taps : List Point) (points : List Float) (counts : List ℕ) (mask : List Bool) (scratch : List Float) (work : Lent j taps points counts mask scratch) where
     pub exact : length counts ≡ length t.edges.now
-    exact = omega (arith, work.counts_long, edges_lent j buffer came sizes t lent)
+    exact = omega (arith, work.counts_long, edges_lent j buffer came t lent)
 
     pub room : Room (length t.members.now) taps points counts mask
-    room = subst (λ (n : ℕ). Room n taps points counts mask) (sym (members_lent j buffer came sizes t lent)) work.room
+    room = subst (λ (n : ℕ). Room n taps points counts mask) (sym (members_lent j buffer came t lent)) work.room

@@ -13,16 +13,17 @@ ghost use Rattle.promise.specs.Stage.{told_bytes};
 ghost use Rattle.plan_stage.specs.Entries.{after_search, plan_phase, after_taking};
 ghost use Rattle.plan_reader.specs.Reading.{told_plan};
 ghost use Rattle.outputs.specs.Outputs.{lacks, after_all, outputs_told};
-ghost use Rattle.job_tables.specs.Came.{job_in, Came, Sizes};
+ghost use Rattle.job_tables.specs.Came.{job_in, Came};
 ghost use Rattle.draw_job.specs.JobTables.{Writes, Ended, TapsOf, MembersOn, Lent};
 
 use answer::Frame;
-use board::{DrawnTap, DrawnTaps, Edge, Member, NO_TAP};
+use arrayvec::ArrayVec;
+use board::{DrawnTap, DrawnTaps, Edge, Member};
 use components::NoRoom;
 use drawing::GeometryVisits;
 use geometry::Point;
 use job::Job;
-use limits::{MAX_MEMBERS, SEARCH_WORK};
+use limits::SEARCH_WORK;
 use outputs::Wants;
 use plan::Planning;
 use refusal::Refusal;
@@ -71,17 +72,14 @@ pub fn tap_rows(table: &[Edge], members: &[Member], taps: &[Point]) -> DrawnTaps
     requires members_on { MembersOn table.now members.now }
     ensures { TapsOf table.now members.now taps.now result }
 {
-    let mut rows = [NO_TAP; MAX_MEMBERS];
+    let mut rows = ArrayVec::new();
     for (i, m) in members.iter().enumerate() {
-        rows[i] = DrawnTap {
+        rows.push(DrawnTap {
             edge: table[m.edge].id,
             point: taps[i],
-        };
+        });
     }
-    DrawnTaps {
-        rows,
-        count: members.len(),
-    }
+    rows
 }
 
 // Our own plan (13), as one that was read.
@@ -112,14 +110,13 @@ fn drawn_in(
     requires came { Came j.now given.now × (lacks wants.page (length page.old) page_room ≡ false) × (lacks wants.crossings (length crossings.old) crossings_room ≡ false) }
     requires plan_in_bounds { length (told_bytes (after_taking (job_in j.now given.now) (plan_phase wants.plan (job_in j.now given.now) plan.now))) ≤ length answer.old }
     requires search_work_in_bounds { (search_work ≤ length points.old) × (length sorted.old ≡ candidate_room) }
-    requires sizes { Sizes j.now }
     requires lent { Lent j.now work.taps.now points.old work.counts.now work.mask.now work.scratch.now }
     ensures { Ended (record { answer = answer.old; page = page.old; crossings = crossings.old }) (record { answer = answer.new; page = page.new; crossings = crossings.new }) result (outputs_told wants (after_all wants (after_taking (job_in j.now given.now) (plan_phase wants.plan (job_in j.now given.now) plan.now)))) }
 {
     let board = job_tables::board_tables(j);
     let offsets = plan_depths::corridor_depth_offsets(board);
     let p = if wants.plan {
-        plan_reader::read_plan(plan, j.bundles.count, j.grants.tap_visits, j.flags.on_grid)
+        plan_reader::read_plan(plan, j.bundles.len(), j.grants.tap_visits, j.flags.on_grid)
     } else {
         own_plan(planner::plan_interior_collectors(
             board,
@@ -139,7 +136,7 @@ fn drawn_in(
         mask,
         scratch,
     } = work;
-    let taps = &mut taps[..j.members.count];
+    let taps = &mut taps[..j.members.len()];
     let mut turn_work = TurnWork {
         mask: &mut mask[..],
         scratch: &mut scratch[..],
@@ -206,10 +203,10 @@ fn drawn_in(
     ))
 }
 
-// The same, with the notice of a refusal.
+// The same, with the notice of a refusal: the parameters are the same, since it hands on what it is lent.
 pub fn draw_in(
     wants: Wants,
-    j: Job,
+    j: &Job,
     plan: &[u8],
     given: &[f64],
     sorted: &mut [f64],
@@ -219,14 +216,14 @@ pub fn draw_in(
     page: &mut [u8],
     crossings: &mut [u8],
 ) -> usize
-    requires came { Came j given.now × (6 ≤ length answer.old) × (lacks wants.page (length page.old) page_room ≡ false) × (lacks wants.crossings (length crossings.old) crossings_room ≡ false) }
-    requires plan_in_bounds { length (told_bytes (after_taking (job_in j given.now) (plan_phase wants.plan (job_in j given.now) plan.now))) ≤ length answer.old }
+    requires came { Came j.now given.now × (6 ≤ length answer.old) × (lacks wants.page (length page.old) page_room ≡ false) × (lacks wants.crossings (length crossings.old) crossings_room ≡ false) }
+    requires plan_in_bounds { length (told_bytes (after_taking (job_in j.now given.now) (plan_phase wants.plan (job_in j.now given.now) plan.now))) ≤ length answer.old }
     requires search_work_in_bounds { (search_work ≤ length points.old) × (length sorted.old ≡ candidate_room) }
-    requires lent { Lent j work.taps.now points.old work.counts.now work.mask.now work.scratch.now }
-    ensures { Writes (record { answer = answer.old; page = page.old; crossings = crossings.old }) (record { answer = answer.new; page = page.new; crossings = crossings.new }) result (outputs_told wants (after_all wants (after_taking (job_in j given.now) (plan_phase wants.plan (job_in j given.now) plan.now)))) }
+    requires lent { Lent j.now work.taps.now points.old work.counts.now work.mask.now work.scratch.now }
+    ensures { Writes (record { answer = answer.old; page = page.old; crossings = crossings.old }) (record { answer = answer.new; page = page.new; crossings = crossings.new }) result (outputs_told wants (after_all wants (after_taking (job_in j.now given.now) (plan_phase wants.plan (job_in j.now given.now) plan.now)))) }
 {
     let ended = drawn_in(
-        wants, &j, plan, given, sorted, work, points, answer, page, crossings,
+        wants, j, plan, given, sorted, work, points, answer, page, crossings,
     );
     match ended {
         Ok(length) => length,

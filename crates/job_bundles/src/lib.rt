@@ -7,10 +7,10 @@ ghost use Rattle.limits.specs.Limits.{max_bundles, max_members};
 ghost use Rattle.job.specs.Job.{bundle_of, member_of};
 ghost use Rattle.job.specs.Reads.{BundlesTold};
 
-use board::{Bundle, Bundles, Member, Members, NO_BUNDLE, NO_MEMBER};
+use arrayvec::ArrayVec;
+use board::{Bundle, Member};
 use job::{BundlesRead, RawBundle, RawMember};
 use job_keys::TableKeys;
-use limits::{MAX_BUNDLES, MAX_MEMBERS};
 use refusal::Refusal;
 use wire::Unread;
 
@@ -48,7 +48,9 @@ fn member_row(m: RawMember, tables: TableKeys) -> Option<Member>
 // ---- tables
 //
 // The bundles' keys go to a lent slice, which has one place for each bundle, and their members' keys,
-// an edge and its role, to the front of another. An id is looked up in the keys of the tables before.
+// an edge and its role, to the front of another. An id is looked up in the keys of the tables before. The
+// bundles go by index: tried with keys.iter_mut(), the inner loop's invariant cannot name the keys while they
+// are lent, and so cannot keep what was read before it.
 
 pub fn read_bundles<'a>(
     s: &mut Unread<'_>,
@@ -59,35 +61,30 @@ pub fn read_bundles<'a>(
     requires { (length keys.old ≤ max_bundles) × (length member_keys.old ≡ max_members) }
     ensures { BundlesTold s.old.bytes.now s.new.bytes.now (length keys.old) tables.entry.nodes.now tables.entry.ports.now tables.entry.edges.now keys.new member_keys.new result }
 {
-    let mut rows = [NO_BUNDLE; MAX_BUNDLES];
-    let mut member_rows = [NO_MEMBER; MAX_MEMBERS];
-    let count = keys.len();
+    let mut bundles = ArrayVec::new();
+    let mut members = ArrayVec::new();
     let mut known = true;
     let mut members_known = true;
-    let mut total = 0;
-    for i in 0..count {
-        let b = job_records::bundle_head(s, total)?;
+    for i in 0..keys.len() {
+        let b = job_records::bundle_head(s, members.len())?;
         let role_key = u64::from(b.role);
+        // As many as were read: there is nothing to run over.
         for _ in 0..b.count {
             let x = job_records::member(s, b.role)?;
             let row = member_row(x, tables);
             members_known = members_known & row.is_some();
-            member_rows[total] = row.unwrap_or(NO_MEMBER);
-            member_keys[total] = (x.edge, role_key);
-            total += 1;
+            member_keys[members.len()] = (x.edge, role_key);
+            members.push(row.unwrap_or_default());
         }
         let row = bundle_row(b, tables);
         known = known & row.is_some();
-        rows[i] = row.unwrap_or(NO_BUNDLE);
+        bundles.push(row.unwrap_or_default());
         keys[i] = (b.id, 0);
     }
     Ok(BundlesRead {
         known,
-        bundles: Bundles { rows, count },
+        bundles,
         members_known,
-        members: Members {
-            rows: member_rows,
-            count: total,
-        },
+        members,
     })
 }

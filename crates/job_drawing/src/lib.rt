@@ -45,18 +45,18 @@ pub fn read_and_draw(
         Ok(j) => j,
         Err(r) => return answer::write_notice(answer, u8::from(r)),
     };
-    let n = j.edges.count;
+    let n = j.edges.len();
     let drawn = draw_job::work_for(work, n);
     if n <= FEW_ROUTES {
         let mut few = [0.0; FEW_SLOT_NUMBERS];
         return draw_job::draw_in(
-            wants, j, plan, given, sorted, drawn, &mut few, answer, page, crossings,
+            wants, &j, plan, given, sorted, drawn, &mut few, answer, page, crossings,
         );
     }
     let mut points = [0.0; ALL_SLOT_NUMBERS];
     draw_job::draw_in(
         wants,
-        j,
+        &j,
         plan,
         given,
         sorted,

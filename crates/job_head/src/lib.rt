@@ -57,7 +57,7 @@ pub fn counts(s: &mut Unread<'_>) -> Result<Counts, Refusal>
 pub fn header(s: &mut Unread<'_>) -> Result<Header, Refusal>
     ensures { told result s.new.bytes.now ≡ header s.old.bytes.now }
 {
-    let flags = Flags::try_from(s.byte()?)?;
+    let flags = Flags::try_from(u32::from(s.byte()?))?;
     Ok(Header {
         flags,
         options: options(s, flags.on_grid)?,

@@ -30,7 +30,7 @@ use Rattle.answer.specs.Answer.{notice_bytes}
 use Rattle.answer.proofs.Stores.{notice_length}
 use Rattle.plan_bytes.specs.PlanBytes.{plan_bytes, Taken, rejected, taken}
 use Rattle.job_tables.proofs.Ready.{read_accepted, bundles_lent, given_lent}
-use Rattle.job_tables.specs.Came.{Sizes, job_in, Came}
+use Rattle.job_tables.specs.Came.{job_in, Came}
 use Rattle.promise.specs.Stage.{planned}
 use Rattle.plan_stage.specs.Entries.{after_search, plan_after_reading, plan_told, plan_told_bytes, plan_written, planner_of}
 use Rattle.job_planning.specs.PlanWrites.{PlanWrites, PlanEnded}
@@ -53,25 +53,25 @@ pub plan_writes : (before after : List ℕ) (r : ℕ) (p : planning.Plan) (t : T
 unfolding plan_told_bytes
 plan_writes before after r p t e b c = record { bytes = rw e b; count = rw e c }
 
-module _ (j : code.Job) (buffer : List Float) (from : Came j buffer) (sizes : Sizes j) (t : BoardTables) (lent : board_lent t ≡ (job_in j buffer).board) (s : Result Planning NoRoom)
+module _ (j : code.Job) (buffer : List Float) (from : Came j buffer) (t : BoardTables) (lent : board_lent t ≡ (job_in j buffer).board) (s : Result Planning NoRoom)
     (is : step_in (length t.bundles.now) s ≡ plan_of (board_lent t) (tables.given_routes buffer t.edges.now) j.flags.separates_collectors j.grants.tap_visits) where
-  planned_is : planned (job_in j buffer) ≡ step_in j.bundles.count s
+  planned_is : planned (job_in j buffer) ≡ step_in (length j.bundles.items) s
   planned_is =
       ap (λ (b : Board). plan_of b (given_routes (job_in j buffer)) j.flags.separates_collectors j.grants.tap_visits) (sym lent)
-      ∙ ap (λ (g : List Route). plan_of (board_lent t) g j.flags.separates_collectors j.grants.tap_visits) (sym (given_lent j buffer from sizes t lent))
+      ∙ ap (λ (g : List Route). plan_of (board_lent t) g j.flags.separates_collectors j.grants.tap_visits) (sym (given_lent j buffer from t lent))
       ∙ sym is
-      ∙ ap (λ (n : ℕ). step_in n s) (bundles_lent j buffer from sizes t lent)
+      ∙ ap (λ (n : ℕ). step_in n s) (bundles_lent j buffer from t lent)
 
   pub plan_refused : (e : NoRoom) → s ≡ Err e → after_search (planned (job_in j buffer)) ≡ rejected 13
   unfolding after_search
   plan_refused e h =
-      let z : planned (job_in j buffer) ≡ planning.refused e.left.0 = planned_is ∙ ap (step_in j.bundles.count) h in
+      let z : planned (job_in j buffer) ≡ planning.refused e.left.0 = planned_is ∙ ap (step_in (length j.bundles.items)) h in
       ap after_search z
 
-  pub plan_taken : (p : Planning) → s ≡ Ok p → after_search (planned (job_in j buffer)) ≡ taken (plan_in j.bundles.count p)
+  pub plan_taken : (p : Planning) → s ≡ Ok p → after_search (planned (job_in j buffer)) ≡ taken (plan_in (length j.bundles.items) p)
   unfolding after_search
   plan_taken p h =
-      let z : planned (job_in j buffer) ≡ planning.going (plan_in j.bundles.count p) = planned_is ∙ ap (step_in j.bundles.count) h in
+      let z : planned (job_in j buffer) ≡ planning.going (plan_in (length j.bundles.items) p) = planned_is ∙ ap (step_in (length j.bundles.items)) h in
       ap after_search z
 
 pub read_refused : (r : Refusal) (buffer : List Float) (bytes : List ℕ) → JobTold (Err r) buffer (read_job bytes) → plan_told bytes ≡ rejected (refusal_number r)

@@ -43,7 +43,7 @@ fn planned_in(
         sorted,
         work,
     )?;
-    Ok(plan_writer::write_plan(plan, &made.rows[..j.bundles.count], made.left))
+    Ok(plan_writer::write_plan(plan, &made.rows[..j.bundles.len()], made.left))
 }
 
 // The same, with the notice of a refusal.

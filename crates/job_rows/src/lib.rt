@@ -9,9 +9,9 @@ ghost use Rattle.geometry.specs.Points.{points_from};
 ghost use Rattle.job.specs.Job.{point, push, port_of, edge_of};
 ghost use Rattle.job.specs.Reads.{ended_as, NodesTold, PortsTold, EdgesTold};
 
-use board::{Edge, NO_EDGE, NO_NODE, NO_PORT, PlacedNode, Port};
+use arrayvec::ArrayVec;
+use board::{Edge, Nodes, Port};
 use job::{EdgesRead, PortsRead, RawEdge, RawPort};
-use limits::{MAX_EDGES, MAX_NODES, MAX_PORTS};
 use refusal::Refusal;
 use wire::Unread;
 
@@ -53,19 +53,15 @@ fn edge_row(e: RawEdge, nodes: &[(u64, u64)]) -> Option<Edge>
 // the keys of the tables before. Nodes and ports are no one loop over a trait: the nodes look nothing up and
 // have no mark, so that what the loop is for would be the trait's.
 
-pub fn read_nodes(
-    s: &mut Unread<'_>,
-    keys: &mut [(u64, u64)],
-    grid: bool,
-) -> Result<[PlacedNode; MAX_NODES], Refusal>
+pub fn read_nodes(s: &mut Unread<'_>, keys: &mut [(u64, u64)], grid: bool) -> Result<Nodes, Refusal>
     requires { length keys.old ≤ max_nodes }
     ensures { NodesTold grid s.old.bytes.now s.new.bytes.now (length keys.old) keys.new result }
 {
-    let mut rows = [NO_NODE; MAX_NODES];
-    for i in 0..keys.len() {
+    let mut rows = ArrayVec::new();
+    for key in keys.iter_mut() {
         let n = job_records::node(s, grid)?;
-        rows[i] = n;
-        keys[i] = (n.id, 0);
+        *key = (n.id, 0);
+        rows.push(n);
     }
     Ok(rows)
 }
@@ -79,14 +75,14 @@ pub fn read_ports(
     requires { length keys.old ≤ max_ports }
     ensures { PortsTold grid s.old.bytes.now s.new.bytes.now (length keys.old) nodes.now keys.new result }
 {
-    let mut rows = [NO_PORT; MAX_PORTS];
+    let mut rows = ArrayVec::new();
     let mut known = true;
-    for i in 0..keys.len() {
+    for key in keys.iter_mut() {
         let p = job_records::port(s, grid)?;
         let port = port_row(p, nodes);
         known = known & port.is_some();
-        rows[i] = port.unwrap_or(NO_PORT);
-        keys[i] = (p.node, p.id);
+        rows.push(port.unwrap_or_default());
+        *key = (p.node, p.id);
     }
     Ok(PortsRead { known, rows })
 }
@@ -102,6 +98,7 @@ fn read_points(
     requires { (count ≤ max_route_points) × (total + count ≤ max_points) × (length points.old ≡ point_numbers) }
     ensures { ended_as result (points_from points.new 0 (total + count)) s.new.bytes.now ≡ many count (push (point grid)) (points_from points.old 0 total) s.old.bytes.now }
 {
+    // As many as were read before: there is nothing to run over.
     for i in 0..count {
         let p = job_records::point(s, grid)?;
         route_views::put_point(points, total + i, p);
@@ -120,16 +117,16 @@ pub fn read_edges(
     requires { (length keys.old ≤ max_edges) × (length points.old ≡ point_numbers) }
     ensures { EdgesTold grid s.old.bytes.now s.new.bytes.now (length keys.old) nodes.now points.new keys.new result }
 {
-    let mut rows = [NO_EDGE; MAX_EDGES];
+    let mut rows = ArrayVec::new();
     let mut known = true;
     let mut total = 0;
-    for i in 0..keys.len() {
+    for key in keys.iter_mut() {
         let e = job_records::edge_head(s, total)?;
         read_points(s, e.count, total, points, grid)?;
         let edge = edge_row(e, nodes);
         known = known & edge.is_some();
-        rows[i] = edge.unwrap_or(NO_EDGE);
-        keys[i] = (e.id, 0);
+        rows.push(edge.unwrap_or_default());
+        *key = (e.id, 0);
         total += e.count;
     }
     Ok(EdgesRead { known, rows, total })

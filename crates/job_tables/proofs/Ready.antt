@@ -21,7 +21,7 @@ use Rattle.plan.specs.Depths.{no_port}
 use Rattle.plan.specs.BoardTables.{Sound, RoutesIn, given_route, no_bundle, no_member, no_edge}
 use Rattle.plan.specs.BoardTables as tables
 use Rattle.plan.specs.Lent.{board_lent}
-use Rattle.job_tables.specs.Came.{job_in, Came, Sizes}
+use Rattle.job_tables.specs.Came.{job_in, Came}
 
 -- a row of a table with a count
 row_at : {A : Type 0} (P : A → Type 0) (rows : List A) (n : ℕ) (d : A) → n ≤ length rows → All P (take n rows) → (i : ℕ) → i < n → P (get_or rows i d)
@@ -47,70 +47,50 @@ module _ (j : code.Job) (buffer : List Float) (bytes : List ℕ) (t : JobTold (O
   pub came : length buffer ≡ point_numbers → Came j buffer
   came long = record { bytes = bytes; is = read_accepted; fits = t.fits; long = long }
 
-module _ (j : code.Job) (buffer : List Float) (from : Came j buffer) (sizes : Sizes j) where
+module _ (j : code.Job) (buffer : List Float) (from : Came j buffer) where
   pub good : sound.Sound (job_in j buffer)
   good = (accepted_sound from.bytes (job_in j buffer) from.is).0
 
-  pub nodes_in : j.nodes.count ≤ length j.nodes.rows
-  nodes_in = omega (arith, from.fits.nodes, sizes.nodes)
-
-  pub ports_in : j.ports.count ≤ length j.ports.rows
-  ports_in = omega (arith, from.fits.ports, sizes.ports)
-
-  pub edges_in : j.edges.count ≤ length j.edges.rows
-  edges_in = omega (arith, from.fits.edges, sizes.edges)
-
-  pub bundles_in : j.bundles.count ≤ length j.bundles.rows
-  bundles_in = omega (arith, from.fits.bundles, sizes.bundles)
-
-  pub members_in : j.members.count ≤ length j.members.rows
-  members_in = omega (arith, from.fits.members, sizes.members)
-
-  pub tables_sound : Sound (take j.nodes.count j.nodes.rows) (take j.ports.count j.ports.rows) (take j.bundles.count j.bundles.rows) (take j.members.count j.members.rows)
+  pub tables_sound : Sound j.nodes.items j.ports.items j.bundles.items j.members.items
   tables_sound =
-      let nodes = length-take-le j.nodes.count j.nodes.rows nodes_in in
-      let ports = length-take-le j.ports.count j.ports.rows ports_in in
-      let edges = length-take-le j.edges.count j.edges.rows edges_in in
-      let bundles = length-take-le j.bundles.count j.bundles.rows bundles_in in
-      let members = length-take-le j.members.count j.members.rows members_in in
       let fits = from.fits in
       record {
         nodes_few = omega (arith, fits.nodes);
         ports_few = omega (arith, fits.ports);
         bundles_few = omega (arith, fits.bundles);
         members_few = omega (arith, fits.members);
-        ports_on = λ i h. (all_at (GoodPort _ _) (take j.ports.count j.ports.rows) i no_port good.ports h).node;
+        ports_on = λ i h. (all_at (GoodPort _ _) j.ports.items i no_port good.ports h).node;
         bundles_on = λ i h.
-            let g = all_at (GoodBundle _ _) (take j.bundles.count j.bundles.rows) i no_bundle good.bundles h in
+            let g = all_at (GoodBundle _ _) j.bundles.items i no_bundle good.bundles h in
             record { port_in = g.port; members_in = g.window; members_few = g.count };
-        edges_low = λ i h. omega (arith, (all_at (GoodMember _) (take j.members.count j.members.rows) i no_member good.members h).edge, edges, fits.edges);
-        lanes_few = λ i h. (all_at (GoodMember _) (take j.members.count j.members.rows) i no_member good.members h).lane;
+        edges_low = λ i h. omega (arith, (all_at (GoodMember _) j.members.items i no_member good.members h).edge, fits.edges);
+        lanes_few = λ i h. (all_at (GoodMember _) j.members.items i no_member good.members h).lane;
       }
 
-  pub routes_in : RoutesIn buffer (take j.edges.count j.edges.rows) (take j.members.count j.members.rows)
+  pub routes_in : RoutesIn buffer j.edges.items j.members.items
   routes_in = record {
-    edges_few = omega (arith, length-take-le j.edges.count j.edges.rows edges_in, from.fits.edges);
-    members_on = λ i h. (all_at (GoodMember _) (take j.members.count j.members.rows) i no_member good.members h).edge;
-    routes_short = λ i h. (all_at (GoodEdge _ _) (take j.edges.count j.edges.rows) i no_edge good.edges h).count;
-    routes_in = λ i h. omega (arith, (all_at (GoodEdge _ _) (take j.edges.count j.edges.rows) i no_edge good.edges h).window, points_length buffer 0 j.points, from.fits.points, from.long);
+    edges_few = from.fits.edges;
+    members_on = λ i h. (all_at (GoodMember _) j.members.items i no_member good.members h).edge;
+    routes_short = λ i h. (all_at (GoodEdge _ _) j.edges.items i no_edge good.edges h).count;
+    routes_in = λ i h. omega (arith, (all_at (GoodEdge _ _) j.edges.items i no_edge good.edges h).window, points_length buffer 0 j.points, from.fits.points, from.long);
   }
 
   -- the routes in the slice are the job's
-  pub given_same : tables.given_routes buffer (take j.edges.count j.edges.rows) ≡ given_routes (job_in j buffer)
+  pub given_same : tables.given_routes buffer j.edges.items ≡ given_routes (job_in j buffer)
   given_same =
-      same_routes (length (take j.nodes.count j.nodes.rows)) j.points buffer (take j.edges.count j.edges.rows)
-      (subst (λ (n : ℕ). All (GoodEdge (length (take j.nodes.count j.nodes.rows)) n) (take j.edges.count j.edges.rows)) (points_length buffer 0 j.points) good.edges)
+      same_routes (length j.nodes.items) j.points buffer j.edges.items
+      (subst (λ (n : ℕ). All (GoodEdge (length j.nodes.items) n) j.edges.items) (points_length buffer 0 j.points) good.edges)
 
   -- the same of the tables as they are lent
   module _ (t : BoardTables) (lent : board_lent t ≡ (job_in j buffer).board) where
-    pub bundles_lent : length t.bundles.now ≡ j.bundles.count
-    bundles_lent = ap (λ (b : board.Board). length b.bundles) lent ∙ length-take-le j.bundles.count j.bundles.rows bundles_in
+    pub bundles_lent : length t.bundles.now ≡ length j.bundles.items
+    bundles_lent = ap (λ (b : board.Board). length b.bundles) lent
 
-    pub members_lent : length t.members.now ≡ j.members.count
-    members_lent = ap (λ (b : board.Board). length b.members) lent ∙ length-take-le j.members.count j.members.rows members_in
+    pub members_lent : length t.members.now ≡ length j.members.items
+    members_lent = ap (λ (b : board.Board). length b.members) lent
 
-    pub edges_lent : length t.edges.now ≡ j.edges.count
-    edges_lent = ap (λ (b : board.Board). length b.edges) lent ∙ length-take-le j.edges.count j.edges.rows edges_in
+    pub edges_lent : length t.edges.now ≡ length j.edges.items
+    edges_lent = ap (λ (b : board.Board). length b.edges) lent
 
     pub routes_lent : RoutesIn buffer t.edges.now t.members.now
     routes_lent = subst (λ (b : board.Board). RoutesIn buffer b.edges b.members) (sym lent) routes_in

@@ -1,1 +1,2 @@
 pub mod FlatRows
+pub mod Found

@@ -19,7 +19,8 @@ use drawing::GeometryVisits;
 use geometry::{Point, Segment};
 use refusal::Refusal;
 
-// consume_geometry_visit: one visit is paid before each look, if one is left.
+// consume_geometry_visit: one visit is paid before each look, if one is left (search_lists::charge pays one of the
+// other purse, which is another type).
 #[tactic(auto, using(checks::proofs::TestSteps::charge_none, checks::proofs::TestSteps::charge_one))]
 pub fn charge(visits: &mut GeometryVisits) -> Result<(), Refusal>
     ensures paid { (is_ok result, visits.new.0) ≡ charged visits.old.0 }
@@ -35,7 +36,6 @@ pub fn charge(visits: &mut GeometryVisits) -> Result<(), Refusal>
 // ---- the routes that are looked at
 
 // Whether route e is chosen.
-#[tactic(auto, unfolding(checks::specs::CheckRows::chosen_by))]
 pub fn is_chosen(chosen: ChosenRoutes, e: usize) -> bool
     requires { e < length chosen.routes.counts.now }
     ensures { result ≡ chosen_lent chosen.entry e }
@@ -59,12 +59,8 @@ pub fn clashes(rules: Rules, bus: Segment, tap: Option<Point>, run: Segment) -> 
 pub fn tap_on_route(own: MemberTaps, e: usize) -> Option<Point>
     ensures { result ≡ tap_of (taps_lent own.entry) e }
 {
-    for (member, &tap) in own.members.iter().zip(own.taps) {
-        if member.edge == e {
-            return Some(tap);
-        }
-    }
-    None
+    let mut tapped = own.members.iter().zip(own.taps);
+    tapped.find(|t| t.0.edge == e).map(|t| *t.1)
 }
 
 // ---- verify_one_bundle_route_node_interiors

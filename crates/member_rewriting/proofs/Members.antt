@@ -1,13 +1,13 @@
 -- Routes in slots, one rewritten, and the members that are left.
 -- Assumes nothing.
 use Rattle.std.specs.Prelude.{Option, Some, None}
-use Prim.Native.Nat.{ℕ, suc, ◌+◌, ◌*◌, ◌-◌, ◌≤◌, ◌<◌}
+use Prim.Native.Nat.{ℕ, ◌+◌, ◌*◌, ◌-◌, ◌≤◌, ◌<◌}
 use mathlib.Core.Path.{◌≡◌, refl, sym, ap, ◌∙◌}
 use mathlib.Core.List.{List}
 use mathlib.Core.Bool.{Bool, true, false, cond}
 use native.Mathlib.Omega.{arith}
 use lib.Dec.{ltb}
-use lib.ListN.{length, get_or, set}
+use lib.ListN.{length, get_or, set, drop}
 use lib.Seq.{get_or-set_other}
 use lib.Ieee.{Float}
 use borrow.Author.Tests.{lt-ltb, le-ltb}
@@ -20,17 +20,19 @@ use Rattle.route.specs.Slots.{routes_of, Held, Stored, held_set, slot_is}
 use Rattle.route.specs.Contract.{told, left_in, Leaves}
 use Rattle.board.specs.declared.Member.{Member}
 use Rattle.plan.specs.BoardTables.{no_member}
-use Rattle.plan.specs.MemberColumns.{edges_of, lanes_of}
-use Rattle.plan.proofs.MemberColumns.{edge_got, lane_got}
+use Rattle.plan.specs.MemberColumns.{edges_of}
+use Rattle.plan.proofs.MemberColumns.{edge_got}
+use Rattle.plan.proofs.TableReads.{rest_cons, rest_none}
 use Rattle.drawing.specs.Build.{route_at}
 use Rattle.drawing.specs.Rewrite.{rewritten, two_points, corridor_depth, rewrite_one, put_route, then_routes, rewrite_all}
-use Rattle.checks.specs.CheckRows.{no_point, taps_from}
+use Rattle.checks.specs.CheckRows.{no_point}
+use Rattle.checks.specs.LentRows.{taps_of}
 use Rattle.geometry.specs.declared.Role.TheVariants.{Input, Output}
 use Rattle.member_rewriting.specs.declared.Way.{Way}
 use Rattle.member_rewriting.specs.declared.Way.TheVariants.{Trunk, Corridor}
 use borrow.Author.Rules.{rules}
 use Rattle.member_rewriting.specs.Ways.{way_of, is_trunk, depth_of}
-use Rattle.checks.specs.MemberSlices.{members_from, depth_at, rewrite_with, routes_in, CountsKept, Roomy}
+use Rattle.checks.specs.MemberSlices.{depth_at, rewrite_with, routes_in, CountsKept, Roomy}
 
 pub same_kept : (ns : List ℕ) (e : ℕ) → Held ns → CountsKept ns ns e
 same_kept ns e h = record { hold = h; others = λ k d. refl }
@@ -89,25 +91,16 @@ counts_made s t v ns ms e m l h y =
 
 -- ---- the members that are left
 
-module _ (inside : Bool) (role : Role) (pitch offset : Float) (edges lanes : List ℕ) (taps : List Point) (first count : ℕ) where
+module _ (inside : Bool) (role : Role) (pitch offset : Float) (ms : List Member) (taps : List Point) where
   abbrev pub rest_all : ℕ → List Route → Option (List Route)
-  rest_all i rs = rewrite_all inside role pitch offset (taps_from edges taps (first + i) (count - i)) (members_from edges lanes (first + i) (count - i)) rs
+  rest_all i rs = rewrite_all inside role pitch offset (taps_of (drop i ms) (drop i taps)) (drop i ms) rs
 
   abbrev pub one_of : ℕ → List Route → Option (List Route)
-  one_of i rs = put_route (rewrite_with inside role pitch (depth_at offset pitch (get_or lanes (first + i) 0)) (get_or taps (first + i) no_point) (route_at rs (get_or edges (first + i) 0))) (get_or edges (first + i) 0) rs
+  one_of i rs = put_route (rewrite_with inside role pitch (depth_at offset pitch (get_or ms i no_member).tap_lane) (get_or taps i no_point) (route_at rs (get_or ms i no_member).edge)) (get_or ms i no_member).edge rs
 
-  pub all_start : (rs : List Route) → rest_all 0 rs ≡ rewrite_all inside role pitch offset (taps_from edges taps first count) (members_from edges lanes first count) rs
-  all_start rs =
-      let a : first + 0 ≡ first = omega arith in
-      let b : count - 0 ≡ count = omega arith in
-      rw (a, b)
-
-  all_next : (i : ℕ) (rs : List Route) → i < count → rest_all i rs ≡ then_routes (one_of i rs) (λ ss. rest_all (i + 1) ss)
-  unfolding rewrite_all taps_from members_from rewrite_one rewrite_with corridor_depth depth_at
-  all_next i rs h =
-      let a : count - i ≡ suc (count - (i + 1)) = omega arith in
-      let b : first + (i + 1) ≡ suc (first + i) = omega arith in
-      rw (a, b)
+  all_next : (i : ℕ) (rs : List Route) → i < length ms → length ms ≤ length taps → rest_all i rs ≡ then_routes (one_of i rs) (λ ss. rest_all (i + 1) ss)
+  unfolding rewrite_all taps_of rewrite_one rewrite_with corridor_depth depth_at
+  all_next i rs h k = rw (rest_cons ms i no_member h, rest_cons taps i no_point (omega arith))
 
   then_on : (o : Option (List Route)) (k : List Route → Option (List Route)) (p : List Float) (c : List ℕ) → routes_in true p c ≡ o → then_routes o k ≡ k (routes_of p c)
   unfolding routes_in then_routes
@@ -117,15 +110,15 @@ module _ (inside : Bool) (role : Role) (pitch offset : Float) (edges lanes : Lis
   unfolding routes_in then_routes
   then_off o k p c e = rw (sym e)
 
-  pub all_on : (i : ℕ) (rs : List Route) (p : List Float) (c : List ℕ) → i < count → routes_in true p c ≡ one_of i rs → rest_all (i + 1) (routes_of p c) ≡ rest_all i rs
-  all_on i rs p c h e = sym (all_next i rs h ∙ then_on (one_of i rs) (λ ss. rest_all (i + 1) ss) p c e)
+  pub all_on : (i : ℕ) (rs : List Route) (p : List Float) (c : List ℕ) → i < length ms → length ms ≤ length taps → routes_in true p c ≡ one_of i rs → rest_all (i + 1) (routes_of p c) ≡ rest_all i rs
+  all_on i rs p c h k e = sym (all_next i rs h k ∙ then_on (one_of i rs) (λ ss. rest_all (i + 1) ss) p c e)
 
-  pub all_off : (i : ℕ) (rs : List Route) (p : List Float) (c : List ℕ) → i < count → routes_in false p c ≡ one_of i rs → routes_in false p c ≡ rest_all i rs
-  all_off i rs p c h e = sym (all_next i rs h ∙ then_off (one_of i rs) (λ ss. rest_all (i + 1) ss) p c e)
+  pub all_off : (i : ℕ) (rs : List Route) (p : List Float) (c : List ℕ) → i < length ms → length ms ≤ length taps → routes_in false p c ≡ one_of i rs → routes_in false p c ≡ rest_all i rs
+  all_off i rs p c h k e = sym (all_next i rs h k ∙ then_off (one_of i rs) (λ ss. rest_all (i + 1) ss) p c e)
 
-  pub all_end : (i : ℕ) (p : List Float) (c : List ℕ) → count ≤ i → routes_in true p c ≡ rest_all i (routes_of p c)
-  unfolding rewrite_all taps_from members_from routes_in
-  all_end i p c h = let a : count - i ≡ 0 = omega arith in rw a
+  pub all_end : (i : ℕ) (p : List Float) (c : List ℕ) → length ms ≤ i → routes_in true p c ≡ rest_all i (routes_of p c)
+  unfolding rewrite_all taps_of routes_in
+  all_end i p c h = rw (rest_none ms i h)
 
 -- the way of the route at a lane
 pub way_trunk : (inside : Bool) (offset depth : Float) → Trunk ≡ way_of inside offset → Trunk ≡ way_of inside depth
@@ -145,13 +138,12 @@ with_way true Input pitch depth tap r w e = rw e
 with_way true Output pitch depth tap r w e = rw e
 with_way false role pitch depth tap r w e = rw e
 
--- what is made of a member's route, by its row and its way
-pub one_read : (inside : Bool) (role : Role) (pitch offset : Float) (w : Way) (ms : List Member) (taps : List Point) (first i count : ℕ) (rs : List Route) → w ≡ way_of inside (depth_at offset pitch (get_or ms (first + i) no_member).tap_lane) → one_of inside role pitch offset (edges_of ms) (lanes_of ms) taps first count i rs ≡ put_route (rewrite_with (is_trunk w) role pitch (depth_of w) (get_or taps (first + i) no_point) (route_at rs (get_or ms (first + i) no_member).edge)) (get_or ms (first + i) no_member).edge rs
-one_read inside role pitch offset w ms taps first i count rs e =
-    rw (edge_got ms (first + i), lane_got ms (first + i))
-    (ap
-    (λ (o : Option Route). put_route o (get_or ms (first + i) no_member).edge rs)
-    (with_way inside role pitch (depth_at offset pitch (get_or ms (first + i) no_member).tap_lane) (get_or taps (first + i) no_point) (route_at rs (get_or ms (first + i) no_member).edge) w e))
+-- what is made of a member's route, by its way
+pub one_read : (inside : Bool) (role : Role) (pitch offset : Float) (w : Way) (ms : List Member) (taps : List Point) (i : ℕ) (rs : List Route) → w ≡ way_of inside (depth_at offset pitch (get_or ms i no_member).tap_lane) → one_of inside role pitch offset ms taps i rs ≡ put_route (rewrite_with (is_trunk w) role pitch (depth_of w) (get_or taps i no_point) (route_at rs (get_or ms i no_member).edge)) (get_or ms i no_member).edge rs
+one_read inside role pitch offset w ms taps i rs e =
+    ap
+    (λ (o : Option Route). put_route o (get_or ms i no_member).edge rs)
+    (with_way inside role pitch (depth_at offset pitch (get_or ms i no_member).tap_lane) (get_or taps i no_point) (route_at rs (get_or ms i no_member).edge) w e)
 
 pub roomy_next : (edges : List ℕ) (first i count : ℕ) (p q : List Float) (c d : List ℕ) → Roomy edges first i count p c → CountsKept c d (get_or edges (first + i) 0) → length d ≡ length c → length q ≡ length p → i < count → Roomy edges first (i + 1) count q d
 roomy_next edges first i count p q c d r k x y h =
@@ -165,3 +157,17 @@ roomy_next edges first i count p q c d r k x y h =
           rw e z;
       once = λ j l m n o. r.once j l (omega arith) n o;
     }
+
+-- the same of a member's row
+module _ (ms : List Member) (i : ℕ) (p : List Float) (c : List ℕ) (r : Roomy (edges_of ms) 0 i (length ms) p c) (h : i < length ms) where
+  here : get_or (edges_of ms) (0 + i) 0 ≡ (get_or ms i no_member).edge
+  here = let z : 0 + i ≡ i = omega arith in rw (z, edge_got ms i)
+
+  pub row_known : (get_or ms i no_member).edge < length c
+  row_known = let k = r.known i (omega arith) h in rw here at k
+
+  pub row_room : get_or c (get_or ms i no_member).edge 0 ≤ slot_points - 2
+  row_room = let k = r.room i (omega arith) h in rw here at k
+
+  pub row_next : (q : List Float) (d : List ℕ) → CountsKept c d (get_or ms i no_member).edge → length d ≡ length c → length q ≡ length p → Roomy (edges_of ms) 0 (i + 1) (length ms) q d
+  row_next q d k x y = roomy_next (edges_of ms) 0 i (length ms) p q c d r (rw here k) x y h

@@ -1,8 +1,8 @@
 // rewrite_member_routes: the routes of a bundle's members led to their taps.
 //
 // Ported from cachanova/schemweave, commit c4a1a2c60a, crates/schemweave/src/boundary_bundles.rs
-// (Apache-2.0, see NOTICE). The present routes are in slots (crate route). Member k of the table of
-// members has its tap at place k of taps.
+// (Apache-2.0, see NOTICE). The present routes are in slots (crate route). A bundle's members and their
+// taps are lent as slices of just these.
 
 #![tactic(auto)]
 
@@ -13,15 +13,15 @@ ghost use Rattle.refusal.specs.declared.Refusal.TheVariants.{TapUnreachable};
 ghost use Rattle.route.specs.Slots.{routes_of, Held};
 ghost use Rattle.route.specs.Contract.{Leaves};
 ghost use Rattle.plan.specs.Depths.{number};
-ghost use Rattle.plan.specs.MemberColumns.{edges_of, lanes_of};
+ghost use Rattle.plan.specs.BoardTables.{no_member};
+ghost use Rattle.plan.specs.MemberColumns.{edges_of};
 ghost use Rattle.drawing.specs.Build.{route_at};
 ghost use Rattle.drawing.specs.Rewrite.{rewritten, put_route, rewrite_all};
-ghost use Rattle.checks.specs.CheckRows.{taps_from};
-ghost use Rattle.checks.specs.LentRows.{rows_lent};
+ghost use Rattle.checks.specs.LentRows.{taps_of};
 ghost use Rattle.checks.specs.MemberSlices.{depth_at, rewrite_with, routes_in, CountsKept, Roomy};
 ghost use Rattle.member_rewriting.specs.Ways.{way_of, is_trunk, depth_of};
 
-use checks::BundleRows;
+use board::Member;
 use geometry::{Point, Role, RouteView};
 use limits::SLOT_POINTS;
 use refusal::Refusal;
@@ -30,23 +30,9 @@ use refusal::Refusal;
 
 // A lane is a number of the job's table, and its bound a fact of the table's rows: each function asks it.
 
-fn lane_number(lane: u32) -> f64
-    requires { lane ≤ max_lane }
-    ensures { result ≡ number (suc lane) }
-{
-    (lane + 1) as f64
-}
-
-#[tactic(auto, unfolding(checks::specs::MemberSlices::depth_at))]
-fn corridor_depth(offset: f64, pitch: f64, lane: u32) -> f64
-    requires { lane ≤ max_lane }
-    ensures { result ≡ depth_at offset pitch lane }
-{
-    offset + lane_number(lane) * pitch
-}
-
 // How a route is led to its tap: through its bundle's trunk, or by a corridor. Of a bundle's routes the
-// number is where their corridors begin, of one route how deep its own is.
+// number is where their corridors begin, of one route how deep its own is. No Option of a number: it would not
+// say which way that is.
 #[derive(Clone, Copy)]
 pub enum Way {
     Trunk,
@@ -68,7 +54,7 @@ fn way_at(way: Way, pitch: f64, lane: u32) -> Way
 {
     match way {
         Way::Trunk => Way::Trunk,
-        Way::Corridor(offset) => Way::Corridor(corridor_depth(offset, pitch, lane)),
+        Way::Corridor(offset) => Way::Corridor(plan_numbers::corridor_depth(offset, pitch, lane)),
     }
 }
 
@@ -134,30 +120,28 @@ fn rewrite_member(
 }
 
 // Every member's route rewritten. Where one cannot be (10), what the slots hold is not said.
-#[tactic(auto, using(plan::proofs::MemberColumns::edge_got))]
 pub fn rewrite_member_routes(
     lead: Lead,
-    members: BundleRows,
+    members: &[Member],
     taps: &[Point],
     points: &mut [f64],
     counts: &mut [usize],
     scratch: &mut [f64],
 ) -> Result<(), Refusal>
-    requires roomy { Roomy (edges_of members.rows.now) members.first 0 members.count points.old counts.old }
-    requires small { (k : ℕ) → get_or (lanes_of members.rows.now) k 0 ≤ max_lane }
-    requires tapped { members.first + members.count ≤ length taps.now }
+    requires roomy { Roomy (edges_of members.now) 0 0 (length members.now) points.old counts.old }
+    requires small { (k : ℕ) → k < length members.now → (get_or members.now k no_member).tap_lane ≤ max_lane }
+    requires tapped { length members.now ≤ length taps.now }
     requires scratch { slot_numbers ≤ length scratch.old }
-    ensures told { (inside : Bool) (offset : Float) → lead.way ≡ way_of inside offset → routes_in (is_ok result) points.new counts.new ≡ rewrite_all inside lead.role lead.pitch offset (taps_from (edges_of members.entry.rows.now) taps.now members.entry.first members.entry.count) (rows_lent members.entry) (routes_of points.old counts.old) }
+    ensures told { (inside : Bool) (offset : Float) → lead.way ≡ way_of inside offset → routes_in (is_ok result) points.new counts.new ≡ rewrite_all inside lead.role lead.pitch offset (taps_of members.now taps.now) members.now (routes_of points.old counts.old) }
     ensures refusal { IfErr result (λ r. r ≡ TapUnreachable) }
     ensures hold { Held counts.new }
 {
-    for i in 0..members.count {
-        let k = members.first + i;
-        let m = members.rows[k];
+    // The taps are read by place and not zipped: what is asked of the members that are left goes by places.
+    for (i, m) in members.iter().enumerate() {
         let way = way_at(lead.way, lead.pitch, m.tap_lane);
         rewrite_member(
             Lead { way, ..lead },
-            taps[k],
+            taps[i],
             m.edge,
             &mut points[..],
             &mut counts[..],

@@ -1,1 +1,2 @@
 pub mod LineStores
+pub mod Padded

@@ -13,7 +13,7 @@ use limits::PAGE_ROOM;
 use page_lines::Entry;
 
 fn show(w: usize, id: u64, interior: bool, x: u64, low: u64, high: u64)
-    requires { (0 < w) × (w ≤ 20) }
+    requires { w ≤ 20 }
 {
     let mut line = [0u8; 86];
     let entry = Entry {

@@ -23,7 +23,7 @@ pub fn parts_of(x: f64) -> u64
 
 // A bundle's line, its id in w columns; answers the place after it.
 fn put_entry(out: &mut [u8], at: usize, w: usize, b: DrawnBundle) -> usize
-    requires { (0 < w) × Printable b × (at + (66 + w) ≤ length out.old) }
+    requires { Printable b × (at + (66 + w) ≤ length out.old) }
     ensures bytes { out.new ≡ sets out.old at (bundle_line w b) }
     ensures place { result ≡ at + (66 + w) }
 {

@@ -9,7 +9,7 @@ ghost use Rattle.plan_reader.specs.Reading.{told_entry, told_plan, judged, Entri
 
 use grid::Grid;
 use limits::MAX_BUNDLES;
-use plan::{Bound, Planned, Planning};
+use plan::{Bound, NO_X, Planned, Planning};
 use refusal::Refusal;
 use search::TapVisits;
 use wire::Unread;
@@ -54,7 +54,7 @@ fn read_entries(
     requires { n ≤ max_bundles }
     ensures { EntriesTold grid s.old.bytes.now s.new.bytes.now n result }
 {
-    let mut rows = [Planned { x: Bound::None }; MAX_BUNDLES];
+    let mut rows = [NO_X; MAX_BUNDLES];
     let mut passes = true;
     let front = &mut rows[..n];
     for row in front.iter_mut() {

@@ -11,12 +11,12 @@ use components::Places;
 use geometry::Role;
 use limits::MAX_BUNDLES;
 use plan::layout::Layout;
-use plan::{Bound, Planned, Planning, Reached};
+use plan::{Bound, NO_X, Planned, Planning, Reached};
 use search::{MemberRoutes, TapVisits};
 
 // sheet_replay has the same: of the crates below both, those that know a plan read no records.
 pub(crate) fn plan_at(record: &[u8], from: usize) -> Planning {
-    let mut rows = [Planned { x: Bound::None }; MAX_BUNDLES];
+    let mut rows = [NO_X; MAX_BUNDLES];
     let mut at = from;
     for row in &mut rows {
         *row = Planned {

@@ -1,38 +1,38 @@
 // Fields of a result.
 
+use arrayvec::ArrayVec;
 use plan::Bound;
 use search::{Bounds, TapVisits};
 
 // The bytes of the longest result, and more.
 pub(crate) const OUT_ROOM: usize = 65536;
 
-// A result, as far as it is written: an array and a size, since no heap is asked for, so no Vec.
+// A result, as far as it is written; no heap is asked for, so no Vec. A field that has no room is left out.
 #[derive(Drop)]
 pub(crate) struct Written {
-    pub(crate) bytes: [u8; OUT_ROOM],
-    pub(crate) size: usize,
+    pub(crate) bytes: ArrayVec<u8, OUT_ROOM>,
 }
 
-// One function for each writer of records: a single one would take the writer and its size too.
 impl Written {
-    pub(crate) fn put_mark(&mut self, x: u64) {
-        records::put_u8(&mut self.bytes, self.size, x);
-        self.size = records::plus(self.size, 1);
+    fn put(&mut self, bytes: &[u8]) {
+        let _ = self.bytes.try_extend_from_slice(bytes);
+    }
+
+    // put_mark to put_number stay apart: the bytes of numbers of different types.
+    pub(crate) fn put_mark(&mut self, x: u8) {
+        self.put(&[x]);
     }
 
     pub(crate) fn put_count(&mut self, n: usize) {
-        records::put_u16(&mut self.bytes, self.size, n as u64);
-        self.size = records::plus(self.size, 2);
+        self.put(&((n % 65536) as u16).to_be_bytes());
     }
 
     pub(crate) fn put_visits(&mut self, v: TapVisits) {
-        records::put_u32(&mut self.bytes, self.size, v.0 as u64);
-        self.size = records::plus(self.size, 4);
+        self.put(&v.0.to_be_bytes());
     }
 
     pub(crate) fn put_number(&mut self, x: f64) {
-        records::put_f64(&mut self.bytes, self.size, x);
-        self.size = records::plus(self.size, 8);
+        self.put(&wire::bits_of(x).to_be_bytes());
     }
 
     // A tag, 0 or 1, and after 1 the number.

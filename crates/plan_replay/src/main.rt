@@ -8,11 +8,12 @@ ghost use Rattle.std.specs.Prelude.{◌≡◌, ◌≤◌, length};
 ghost use Rattle.limits.specs.Limits.{max_members};
 ghost use Rattle.plan.specs.Lent.{OffsetsLent};
 ghost use Rattle.plan.specs.Prepared.{Short};
-ghost use Rattle.job_tables.specs.Came.{Came, Sizes};
+ghost use Rattle.job_tables.specs.Came.{Came};
 
+use arrayvec::ArrayVec;
 use asked::{plan_at, put_asked};
 use corridors::{put_corridors, put_offsets};
-use fields::{OUT_ROOM, Written};
+use fields::Written;
 use job::Job;
 use limits::{CANDIDATE_ROOM, JOB_ROOM, MAX_MEMBERS, POINT_NUMBERS, SEARCH_WORK};
 use operations::{Operation, Record, Request, start_of};
@@ -136,7 +137,6 @@ fn call_read<'x>(
     out: &mut Written,
 )
     requires came { Came j.now points.now }
-    requires sizes { Sizes j.now }
 {
     let q = Request {
         record,
@@ -165,7 +165,7 @@ fn answer(
     work: &mut SearchWork,
     out: &mut Written,
 ) {
-    out.size = 0;
+    out.bytes.clear();
     let operation = Operation::from(records::u8_at(bytes, 0) as u8);
     let from = start_of(operation);
     if bytes.len() < from {
@@ -182,7 +182,7 @@ fn answer(
             };
             call_read(&j, record, points, work, out);
         }
-        Err(r) => out.put_mark(u64::from(u8::from(r))),
+        Err(r) => out.put_mark(u8::from(r)),
     }
 }
 
@@ -197,7 +197,7 @@ fn replay_one(
         return false;
     };
     answer(&space[..n], points, work, out);
-    records::write(&out.bytes, out.size)
+    records::write(out.bytes.as_slice(), out.bytes.len())
 }
 
 fn main() {
@@ -210,8 +210,7 @@ fn main() {
         scratch: &mut scratch,
     };
     let mut out = Written {
-        bytes: [0; OUT_ROOM],
-        size: 0,
+        bytes: ArrayVec::new(),
     };
     records::each(|| replay_one(&mut space, &mut points, &mut work, &mut out));
 }

@@ -36,6 +36,6 @@ pub(crate) fn put_plan(q: Request, offsets: Offsets, work: &mut SearchWork, out:
             out.put_mark(0);
             put_planned(&p.rows[..q.tables.bundles.len()], p.left, out);
         }
-        Err(e) => out.put_mark(u8::from(Refusal::from(e)) as u64),
+        Err(e) => out.put_mark(u8::from(Refusal::from(e))),
     }
 }

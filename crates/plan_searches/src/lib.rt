@@ -14,7 +14,7 @@ ghost use Rattle.plan.specs.Lent.{BundleTells, ReachTells, LayoutTells};
 ghost use Rattle.plan.specs.Plan.{seek_in, seek, narrowed, first_pass, Ranged, again};
 ghost use Rattle.search.specs.Search.{search_of};
 
-use board::{Bundle, NO_BUNDLE};
+use board::Bundle;
 use limits::MAX_BUNDLES;
 use plan::layout::{Layout, Setting};
 use plan::search_work::SearchWork;
@@ -117,10 +117,7 @@ pub fn first_pass(layout: Layout, granted: TapVisits, work: &mut SearchWork) -> 
     ensures told { (b : Board) (given : List Route) → LayoutTells b given layout.entry → passed (length layout.entry.reaches.now) result ≡ first_pass search_of b given b.bundles granted.0 }
     ensures same { SameRows (take (length layout.entry.reaches.now) result.rows) layout.entry.reaches.now }
 {
-    let mut rows = [Range {
-        bundle: NO_BUNDLE,
-        bounds: None,
-    }; MAX_BUNDLES];
+    let mut rows = [Range::default(); MAX_BUNDLES];
     let mut left = granted;
     for (i, r) in layout.reaches.iter().enumerate() {
         let s = interior_collector_range(layout.setting, *r, left, work);

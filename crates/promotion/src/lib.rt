@@ -40,7 +40,6 @@ fn add_adjacent<'a>(
         ..sought
     };
     let listed = collector_xs::common_horizontal_collector_xs(second, left, &mut xs[n..], scratch);
-    // No `map_err`: its closure would need a contract of its own.
     let Ok((m, rest)) = listed else {
         return Err(SearchSpent::Second(n));
     };

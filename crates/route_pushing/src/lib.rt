@@ -82,8 +82,8 @@ pub fn push_points(route: RouteView, out: &mut [f64], count: usize) -> usize
     ensures { Pushed out.old count (route_lent route.entry) out.new result }
 {
     let mut n = count;
-    for i in 0..route.count {
-        n = push_point(&mut out[..], n, route_views::view_point(route, i));
+    for &[x, y] in route_views::pairs(route) {
+        n = push_point(&mut out[..], n, Point { x, y });
     }
     n
 }

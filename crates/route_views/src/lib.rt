@@ -6,7 +6,7 @@
 
 #![tactic(auto)]
 
-ghost use Rattle.std.specs.Prelude.{◌≡◌, ◌+◌, ◌*◌, ◌-◌, ◌<◌, ◌≤◌, IfSome, is_some, leb, length};
+ghost use Rattle.std.specs.Prelude.{◌≡◌, ℕ, ◌+◌, ◌*◌, ◌-◌, ◌<◌, ◌≤◌, [], IfSome, is_some, leb, length, get_or};
 ghost use Rattle.geometry.specs.Points.{point_at, run_at, put_point};
 
 use geometry::{Point, RouteView, Segment};
@@ -59,6 +59,15 @@ pub fn view_point<'a>(v: RouteView<'a>, i: usize) -> Point
     ensures { result ≡ point_at v.entry.points.now (v.entry.start + i) }
 {
     point_at(v.points, v.start + i)
+}
+
+// The points of the route, each as its x and its y.
+pub fn pairs<'a>(v: RouteView<'a>) -> &'a [[f64; 2]]
+    ensures count { length result.now ≡ v.entry.count }
+    ensures points { (i : ℕ) → i < v.entry.count → point_at (get_or result.now i []) 0 ≡ point_at v.entry.points.now (v.entry.start + i) }
+{
+    let numbers = &v.points[2 * v.start..2 * (v.start + v.count)];
+    numbers.as_chunks::<2>().0
 }
 
 // Run i of the route: from its point i to the next. That the run is there is asked: a place is a number, and

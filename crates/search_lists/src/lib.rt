@@ -15,7 +15,8 @@ ghost use Rattle.search.specs.Kept.{members_from, Keeps};
 use geometry::Role;
 use search::{Listed, Sought, TapVisits, TapVisitsSpent};
 
-// One visit is paid before each look, if one is left.
+// One visit is paid before each look, if one is left. looks::charge pays one of the other purse: the purses are
+// two types, so that neither pays for the other.
 fn charge(left: &mut TapVisits) -> Result<(), TapVisitsSpent>
     ensures { MatchResult result (λ _. left.old.0 ≡ left.new.0 + 1) (λ _. left.old.0 ≡ 0) }
 {
@@ -84,6 +85,7 @@ pub fn try_candidates(kept: &[f64], counts: &[usize], granted: TapVisits, xs: &m
                 continue 'candidates;
             }
             let end = at + (count - 1);
+            // By place: the pairs kept of a member lie in scratch as numbers.
             for j in at..end {
                 let Ok(()) = charge(&mut left) else {
                     break 'candidates;

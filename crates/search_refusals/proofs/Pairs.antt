@@ -1,60 +1,50 @@
--- The numbers of a route read in pairs: pair i is its point i.
+-- The numbers of a route read in pairs, and the routes' starts with their counts.
 -- Assumes nothing.
-use Rattle.std.specs.Prelude.{◌≡◌, ℕ, zero, suc, ◌+◌, ◌-◌, ◌*◌, ◌/◌, ◌≤◌, ◌<◌, true, false, ◌&&◌, List, [], length, take, drop, get_or, Float}
-use Rattle.std.proofs.Common.{sym, ◌∙◌, ap, arith, get_or-take, length-drop, length-take-le}
-use Rattle.std.proofs.lemmas.List.{get_or-drop}
-use Rattle.std.specs.Simd.{first_chunks}
+use Rattle.std.specs.Prelude.{◌≡◌, refl, ℕ, zero, suc, ◌+◌, ◌*◌, ◌<◌, Bool, ◌&&◌, leb, List, [], ◌∷◌, length, drop, get_or, Float}
+use Rattle.std.proofs.Common.{sym, ◌∙◌, ap, arith}
+use Rattle.std.specs.List.{list_all, zip, range_with_len}
 use Rattle.std.specs.Float.{nan}
 use Rattle.binary64.specs.Accepted.{is_coordinate}
 use Rattle.geometry.specs.declared.Point.{Point}
 use Rattle.geometry.specs.Points.{point_at, points_from}
-use Rattle.search_calls.specs.Entry.{points_fit}
-use Rattle.search_calls.proofs.RefusalSteps.{points_next}
+use Rattle.search_calls.specs.Entry.{places_fit, points_fit, routes_fit}
+use Rattle.search.specs.Stretches.{routes}
+use Rattle.search_calls.proofs.RefusalSteps.{routes_next, routes_end}
 
--- number j of pair i
-number_in : (k i j : ℕ) (l : List Float) → i < k → j < 2 → get_or (get_or (first_chunks 2 k l) i []) j nan ≡ get_or l (2 * i + j) nan
-number_in zero i j l h h' = absurd (omega arith)
-number_in (suc k) zero j l h h' = let e : j ≡ 2 * 0 + j = omega arith in get_or-take 2 l j nan h' ∙ ap (λ (m : ℕ). get_or l m nan) e
-number_in (suc k) (suc i) j l h h' =
-    let e : 2 + (2 * i + j) ≡ 2 * suc i + j = omega arith in
-    number_in k i j (drop 2 l) (omega arith) h' ∙ get_or-drop 2 l (2 * i + j) nan ∙ ap (λ (m : ℕ). get_or l m nan) e
+-- two numbers that are accepted as coordinates
+abbrev pub is_pair : List Float → Bool
+is_pair q = is_coordinate (get_or q 0 nan) && is_coordinate (get_or q 1 nan)
 
-module _ (s : List Float) (start m k i : ℕ) (h : i < k) (room : 2 * k ≤ m) where
-  abbrev pair : List Float
-  pair = get_or (first_chunks 2 k (take m (drop (2 * start) s))) i []
+-- the points of s from point i on, as pairs
+pub pairs_fit : (pairs : List (List Float)) (s : List Float) (i n : ℕ) → length pairs ≡ n → ((j : ℕ) → j < n → point_at (get_or pairs j []) 0 ≡ point_at s (i + j)) → list_all is_pair pairs ≡ points_fit (points_from s i n)
+unfolding points_fit points_from point_at
+pairs_fit [] s i zero e h = refl
+pairs_fit [] s i (suc n) e h = absurd (omega arith)
+pairs_fit (q ∷ qs) s i zero e h = absurd (omega arith)
+pairs_fit (q ∷ qs) s i (suc n) e h =
+    let z : i + 0 ≡ i = omega arith in
+    let p : point_at q 0 ≡ point_at s i = h 0 (omega arith) ∙ ap (point_at s) z in
+    let x : get_or q 0 nan ≡ get_or s (2 * i) nan = ap (λ (r : Point). r.x) p in
+    let y : get_or q 1 nan ≡ get_or s (2 * i + 1) nan = ap (λ (r : Point). r.y) p in
+    let rest = pairs_fit qs s (suc i) n (omega arith) (λ j l. let f : i + suc j ≡ suc i + j = omega arith in h (suc j) (omega arith) ∙ ap (point_at s) f) in
+    rw (x, y, rest)
 
-  number : (j t : ℕ) → j < 2 → t ≡ 2 * (start + i) + j → get_or pair j nan ≡ get_or s t nan
-  number j t h' e =
-      let f : 2 * start + (2 * i + j) ≡ t = omega arith in
-      number_in k i j (take m (drop (2 * start) s)) h h' ∙ get_or-take m (drop (2 * start) s) (2 * i + j) nan (omega arith)
-      ∙ get_or-drop (2 * start) s (2 * i + j) nan ∙ ap (λ (n : ℕ). get_or s n nan) f
+pub all_places : (points : List Float) (starts counts : List ℕ) → length starts ≡ length counts → list_all (λ (p : ℕ × ℕ). leb (2 * (p.0 + p.1)) (length points)) (zip starts counts) ≡ places_fit points starts counts
+unfolding places_fit
+all_places points [] [] e = refl
+all_places points [] (c ∷ cs) e = absurd (omega arith)
+all_places points (s ∷ ss) [] e = absurd (omega arith)
+all_places points (s ∷ ss) (c ∷ cs) e = ap (λ (b : Bool). leb (2 * (s + c)) (length points) && b) (all_places points ss cs (omega arith))
 
-  pair_at : point_at pair 0 ≡ point_at s (start + i)
-  unfolding point_at
-  pair_at =
-      ap (λ (x : Float). record { x = x; y = get_or pair 1 nan }) (number 0 (2 * (start + i)) (omega arith) (omega arith))
-      ∙ ap (λ (y : Float). record { x = get_or s (2 * (start + i)) nan; y = y }) (number 1 (2 * (start + i) + 1) (omega arith) (omega arith))
+-- ---- route after route
 
-module _ (s : List Float) (start count i : ℕ) (inside : 2 * (start + count) ≤ length s) (pairs : List (List Float)) (p : Point) where
-  abbrev numbers : List Float
-  numbers = take (2 * (start + count) - 2 * start) (drop (2 * start) s)
+module _ (points : List Float) (starts counts : List ℕ) (paired : length starts ≡ length counts) where
+  abbrev pub route_fits : ℕ → Bool
+  route_fits m = points_fit (points_from points (get_or starts m 0) (get_or counts m 0))
 
-  pub pair_is : pairs ≡ first_chunks 2 (length numbers / 2) numbers → length pairs ≡ length numbers / 2 → i < length pairs → p ≡ point_at (get_or pairs i []) 0
-      → (p ≡ point_at s (start + i)) × (i < count)
-  pair_is e f h is =
-      let long : length numbers ≡ 2 * (start + count) - 2 * start = length-take-le (2 * (start + count) - 2 * start) (drop (2 * start) s) (omega (arith, length-drop (2 * start) s)) in
-      let few : length numbers / 2 ≡ count = omega (arith, long) in (
-        is ∙ ap (λ (l : List (List Float)). point_at (get_or l i []) 0) e
-            ∙ pair_at s start (2 * (start + count) - 2 * start) (length numbers / 2) i (omega arith) (omega (arith, few)),
-        omega (arith, few),
-      )
+  routes_from : (k m : ℕ) → m + k ≡ length starts → list_all route_fits (range_with_len m k) ≡ routes_fit (routes points (drop m starts) (drop m counts))
+  routes_from zero m e = sym (routes_end points starts counts paired m (omega arith))
+  routes_from (suc k) m e = ap (λ (b : Bool). route_fits m && b) (routes_from k (m + 1) (omega arith)) ∙ sym (routes_next points starts counts paired m (omega arith))
 
-module _ (s : List Float) (start count i : ℕ) (p : Point) (is : (p ≡ point_at s (start + i)) × (i < count)) where
-  pub points_on : true ≡ (is_coordinate p.x && is_coordinate p.y) → points_fit (points_from s (start + i) (count - i)) ≡ points_fit (points_from s (start + (i + 1)) (count - (i + 1)))
-  points_on t =
-      let e : start + i + 1 ≡ start + (i + 1) = omega arith in
-      let f : count - i - 1 ≡ count - (i + 1) = omega arith in
-      points_next s (start + i) (count - i) (omega (arith, is.1)) ∙ rw (sym is.0, sym t, e, f)
-
-  pub points_off : false ≡ (is_coordinate p.x && is_coordinate p.y) → points_fit (points_from s (start + i) (count - i)) ≡ false
-  points_off t = points_next s (start + i) (count - i) (omega (arith, is.1)) ∙ rw (sym is.0, sym t)
+  pub all_routes : list_all route_fits (range_with_len 0 (length starts)) ≡ routes_fit (routes points starts counts)
+  all_routes = routes_from (length starts) 0 (omega arith)

@@ -19,23 +19,14 @@ use search_calls::{Call, LentRoutes};
 
 // ---- what the public entries refuse
 
-// Loops and no `all`: tried for routes_fit, it did not prove, since what `all` says of a range of places
-// would need laws of its own beside the steps.
-
 // Every member's points are within the points lent.
 #[tactic(auto, using(search_calls::proofs::RefusalSteps::places_differ))]
 pub fn places_fit<'a>(lent: LentRoutes<'a>) -> bool
     ensures { result ≡ lent_places_fit lent.entry }
 {
-    if lent.starts.len() != lent.counts.len() {
-        return false;
-    }
-    for (start, count) in lent.starts.iter().zip(lent.counts) {
-        if route_views::view_within(lent.points, *start, *count).is_none() {
-            return false;
-        }
-    }
-    true
+    let mut places = lent.starts.iter().zip(lent.counts);
+    lent.starts.len() == lent.counts.len()
+        && places.all(|(&start, &n)| route_views::view_within(lent.points, start, n).is_some())
 }
 
 // No route has too many points, and all together have not.
@@ -59,29 +50,18 @@ pub fn is_point(p: Point) -> bool
     binary64::is_coordinate(p.x) & binary64::is_coordinate(p.y)
 }
 
-#[tactic(auto, using(search_calls::proofs::RefusalSteps::points_end))]
 pub fn points_fit<'a>(route: RouteView<'a>) -> bool
     ensures { result ≡ points_fit (route_lent route.entry) }
 {
-    let numbers = &route.points[2 * route.start..2 * (route.start + route.count)];
-    for pair in numbers.as_chunks::<2>().0 {
-        if !is_point(route_views::point_at(pair, 0)) {
-            return false;
-        }
-    }
-    true
+    route_views::pairs(route)
+        .iter()
+        .all(|&[x, y]| is_point(Point { x, y }))
 }
 
-#[tactic(auto, using(search_calls::proofs::RefusalSteps::routes_next, search_calls::proofs::RefusalSteps::routes_end))]
 pub fn routes_fit<'a>(routes: MemberRoutes<'a>) -> bool
     ensures { result ≡ routes_fit (routes_lent routes.entry) }
 {
-    for m in 0..routes.starts.len() {
-        if !points_fit(search_runs::member_route(routes, m)) {
-            return false;
-        }
-    }
-    true
+    (0..routes.starts.len()).all(|m| points_fit(search_runs::member_route(routes, m)))
 }
 
 pub fn is_bounds(b: Bounds) -> bool
@@ -118,11 +98,8 @@ pub fn accepted<'a>(
     {
         return Err(Refusal::LimitExceeded);
     }
-    // No `TryFrom`: the impl would stand in geometry, below the definition that says what it gives.
-    let role = match call.role {
-        0 => Role::Input,
-        1 => Role::Output,
-        _ => return Err(Refusal::ValueNotListed),
+    let Ok(role) = Role::try_from(call.role) else {
+        return Err(Refusal::ValueNotListed);
     };
     let routes = MemberRoutes {
         points: lent.points,

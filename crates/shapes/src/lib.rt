@@ -126,7 +126,8 @@ fn is_on_upright(run: Segment, x: f64) -> bool
     (run.start.x == x) & (run.end.x == x)
 }
 
-// prefer_end is the Rust's own parameter.
+// prefer_end is the Rust's own parameter. The point of a level run is made in both functions, as in the Rust's
+// two: an `if` of their own beside it.
 pub fn segment_vertical_line_intersection(run: Segment, x: f64, prefer_end: bool) -> Option<Point>
     ensures { result ≡ on_line prefer_end x run.start run.end }
 {

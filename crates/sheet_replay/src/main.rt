@@ -8,7 +8,7 @@ ghost use Rattle.std.specs.Prelude.{◌≡◌, ◌*◌, ◌≤◌, length};
 ghost use Rattle.limits.specs.Limits.{max_nodes, max_edges, max_bundles, max_members, slot_numbers};
 ghost use Rattle.route.specs.Slots.{Held};
 ghost use Rattle.answer.specs.SheetTables.{Windows};
-ghost use Rattle.job_tables.specs.Came.{Came, Sizes};
+ghost use Rattle.job_tables.specs.Came.{Came};
 ghost use Rattle.draw_job.specs.JobTables.{MembersOn, Lent};
 
 use answer::Frame;
@@ -22,7 +22,7 @@ use limits::{
     POINT_NUMBERS, SLOT_NUMBERS,
 };
 use plan::tables::BoardTables;
-use plan::{Bound, Planned, Planning};
+use plan::{Bound, NO_X, Planned, Planning};
 use route::PresentRoutes;
 use search::TapVisits;
 use turns::TurnWork;
@@ -37,7 +37,7 @@ const OUT_ROOM: usize = 131072;
 //
 // plan_replay has the same: of the crates below both, those that know a plan read no records.
 fn plan_at(record: &[u8], from: usize, left: TapVisits) -> Planning {
-    let mut rows = [Planned { x: Bound::None }; MAX_BUNDLES];
+    let mut rows = [NO_X; MAX_BUNDLES];
     let mut at = from;
     for row in &mut rows {
         *row = Planned {
@@ -157,7 +157,6 @@ fn draw_in(
     out: &mut [u8; OUT_ROOM],
 ) -> usize
     requires came { Came j.now given.now }
-    requires sizes { Sizes j.now }
     requires lent { Lent j.now work.taps.now points.old work.counts.now work.mask.now work.scratch.now }
 {
     let board = job_tables::board_tables(j);
@@ -168,7 +167,7 @@ fn draw_in(
         mask,
         scratch,
     } = work;
-    let taps = &mut taps[..j.members.count];
+    let taps = &mut taps[..j.members.len()];
     let mut turn_work = TurnWork {
         mask: &mut mask[..],
         scratch: &mut scratch[..],
@@ -187,7 +186,7 @@ fn draw_in(
         &mut visits,
     );
     match d.ended {
-        Err(r) => put_verdict(out, u8::from(r) as u64, d.drawn.count, visits),
+        Err(r) => put_verdict(out, u8::from(r) as u64, d.drawn.len(), visits),
         Ok(()) => put_pages(
             board,
             d.drawn.as_slice(),
@@ -211,7 +210,6 @@ fn draw(
     out: &mut [u8; OUT_ROOM],
 ) -> usize
     requires came { Came j.now given.now }
-    requires sizes { Sizes j.now }
 {
     let mut taps = [Point { x: 0.0, y: 0.0 }; MAX_MEMBERS];
     let mut points = [0.0; ALL_SLOT_NUMBERS];
@@ -220,7 +218,7 @@ fn draw(
     let mut scratch = [0.0; SLOT_NUMBERS];
     let work = SheetWork {
         taps: &mut taps[..],
-        counts: &mut counts[..j.edges.count],
+        counts: &mut counts[..j.edges.len()],
         mask: &mut mask[..],
         scratch: &mut scratch[..],
     };

@@ -23,8 +23,9 @@ ghost use Rattle.checks.specs.MemberSlices.{members_from, Row};
 ghost use Rattle.member_rewriting.specs.Ways.{way_of};
 ghost use Rattle.turns.specs.TurnTables.{turn_of, standing, ends_as, drawn_in, row_drawn, Faced, Ready, Longer, Lists, Room, Short, Rows, Full, GivenIn, Follow, Once};
 
-use board::{Bundle, DrawnBundle, DrawnBundles, Edge, Member, NO_DRAWN};
-use checks::{BoardSlices, BundleRows, MemberTaps, Rules};
+use arrayvec::ArrayVec;
+use board::{Bundle, DrawnBundle, DrawnBundles, Edge, Member};
+use checks::{BoardSlices, MemberTaps, Rules};
 use drawing::GeometryVisits;
 use geometry::{Point, RouteView};
 use limits::MAX_BUNDLES;
@@ -44,7 +45,7 @@ pub struct TurnWork<'a> {
 
 // The bundles drawn, and how the last turn ended. No Result of both: after a refusal too it is told which
 // bundles were drawn before it (sheet_replay writes how many).
-#[derive(Clone, Copy)]
+#[derive(Drop)]
 pub struct Drawing {
     pub ended: Result<(), Refusal>,
     pub drawn: DrawnBundles,
@@ -110,12 +111,14 @@ fn draw_bundle(
         role: u.role,
         pitch: board::pitch_of_bundle(rules.options, u),
     };
-    let own = BundleRows {
-        rows: members,
-        first: u.first,
-        count: u.count,
-    };
-    member_rewriting::rewrite_member_routes(lead, own, taps, points, counts, work.scratch)?;
+    member_rewriting::rewrite_member_routes(
+        lead,
+        &members[u.first..u.first + u.count],
+        &taps[u.first..u.first + u.count],
+        points,
+        counts,
+        work.scratch,
+    )?;
     let tapped = MemberTaps { members, taps };
     let present = PresentRoutes { points, counts };
     bundle_checks::verify_bundle(rules, board, d, priors, tapped, present, work.mask, visits)?;
@@ -142,15 +145,6 @@ fn store_edges(table: &[Edge], given: &[f64], points: &mut [f64], counts: &mut [
 
 // ---- bundle after bundle
 
-fn none_drawn() -> DrawnBundles
-    ensures { result.count ≡ 0 }
-{
-    DrawnBundles {
-        rows: [NO_DRAWN; MAX_BUNDLES],
-        count: 0,
-    }
-}
-
 // The turns to be made: the board, the plan of each bundle and the offset of its corridor.
 #[derive(Clone, Copy)]
 struct Turns<'a> {
@@ -175,8 +169,8 @@ fn draw_bundles(
     requires lists { Lists turns.board.bundles.now (edges_of turns.board.members.now) (lanes_of turns.board.members.now) (length counts.old) }
     requires room { Room (length turns.board.members.now) taps.old points.old counts.old work.old.mask.now × Short counts.old }
     ensures told { ends_as (told result.ended visits.new.0) (routes_of points.new counts.new) (drawn_in (edges_of turns.entry.board.members.now) taps.new result.drawn) ≡ sheet_of (board_lent turns.entry.board) turns.entry.permits_crossings (turns_from turns.entry.board.bundles.now (map x_of (take (length turns.entry.board.bundles.now) turns.entry.plan.now)) (take (length turns.entry.board.bundles.now) turns.entry.offsets.now)) (blank (routes_of points.old counts.old) visits.old.0) }
-    ensures rows { Rows (take result.drawn.count turns.entry.board.bundles.now) (take result.drawn.count result.drawn.rows) }
-    ensures full { Full (told result.ended visits.new.0) result.drawn.count (length turns.entry.board.bundles.now) }
+    ensures rows { Rows (take (length result.drawn.items) turns.entry.board.bundles.now) result.drawn.items }
+    ensures full { Full (told result.ended visits.new.0) (length result.drawn.items) (length turns.entry.board.bundles.now) }
     ensures hold { Held counts.new }
 {
     let board = turns.board;
@@ -188,7 +182,7 @@ fn draw_bundles(
         nodes: board.nodes,
         edges: board.edges,
     };
-    let mut drawn = none_drawn();
+    let mut drawn = ArrayVec::new();
     for (i, bundle) in board.bundles.iter().enumerate() {
         let port = board.ports[bundle.port];
         let t = BundleTurn {
@@ -246,8 +240,8 @@ pub fn draw_sheet(
     requires exact { length counts.old ≡ length board.edges.now }
     requires room { Room (length board.members.now) taps.old points.old counts.old work.old.mask.now }
     ensures told { ends_as (told result.ended visits.new.0) (routes_of points.new counts.new) (drawn_in (edges_of board.entry.members.now) taps.new result.drawn) ≡ sheet_of (board_lent board.entry) permits_crossings (turns_from board.entry.bundles.now (map x_of (take (length board.entry.bundles.now) plan)) (take (length board.entry.bundles.now) offsets.rows)) (blank (given_routes given.now board.entry.edges.now) visits.old.0) }
-    ensures rows { Rows (take result.drawn.count board.entry.bundles.now) (take result.drawn.count result.drawn.rows) }
-    ensures full { Full (told result.ended visits.new.0) result.drawn.count (length board.entry.bundles.now) }
+    ensures rows { Rows (take (length result.drawn.items) board.entry.bundles.now) result.drawn.items }
+    ensures full { Full (told result.ended visits.new.0) (length result.drawn.items) (length board.entry.bundles.now) }
     ensures hold { Held counts.new }
 {
     store_edges(board.edges, given, points, counts);

@@ -1,27 +1,12 @@
 -- `draw_job::draw_in` meets its contract: a refusal is told by its notice. Assumes nothing.
-use borrow.Author.Rules.{rules}
-use Rattle.plan.proofs.TableReads as rows
-use Rattle.job_tables.specs.Came.{Sizes}
 use Rattle.draw_job.proofs.Phases as laws
 use Rattle.draw_job.proofs.draw_in.Goals as goal
-use Rattle.draw_job.proofs.draw_in.Goals.{Start}
-
--- an array of a job that is handed over by value has the length of its type
-sizes : (s : Start) → Sizes s.args.j
-sizes s = record {
-  nodes = let g = s.well_formed.1.0.1.1.1.1.1.0 in search (rules, rows.length_mapped, g);
-  ports = let g = s.well_formed.1.0.1.1.1.1.1.1.0 in search (rules, rows.length_mapped, g);
-  edges = let g = s.well_formed.1.0.1.1.1.1.1.1.1.0 in search (rules, rows.length_mapped, g);
-  bundles = let g = s.well_formed.1.0.1.1.1.1.1.1.1.1.0 in search (rules, rows.length_mapped, g);
-  members = let g = s.well_formed.1.0.1.1.1.1.1.1.1.1.1.0 in search (rules, rows.length_mapped, g);
-}
 
 pub drawn_in-ended-requires : goal.drawn_in-ended-requires
 drawn_in-ended-requires c = record {
   came = (c.requires.came.0, c.requires.came.2, c.requires.came.3);
   plan_in_bounds = c.requires.plan_in_bounds;
   search_work_in_bounds = c.requires.search_work_in_bounds;
-  sizes = sizes (goal.at.drawn_in-ended-requires c).Start;
   lent = c.requires.lent;
 }
 

@@ -21,7 +21,7 @@ returns-in-Err c =
 
 pub work_for-drawn-requires : goal.work_for-drawn-requires
 work_for-drawn-requires c =
-    omega (arith, c.in-Ok.ensures.fits.edges, c.requires.edges_len.1)
+    omega (arith, c.len-n.ensures.value, c.in-Ok.ensures.fits.edges, c.requires.edges_len.1)
 
 pub draw_in-requires : goal.draw_in-requires
 draw_in-requires c =
@@ -34,8 +34,8 @@ draw_in-requires c =
       plan_in_bounds = laws.phase_room c.in-Ok.j _ a.job.now c.in-Ok.ensures a.wants.plan a.plan.now (length a.answer.now) c.requires.given_len.1;
       search_work_in_bounds = (omega arith, c.requires.sorted_len);
       lent = record {
-        counts_long = w.routes;
-        room = laws.room_for _ _ _ _ _ _ fits.members fits.edges (w.taps ∙ p.0) (omega arith) w.routes (omega (arith, w.turn.0, p.2));
+        counts_long = w.routes ∙ c.len-n.ensures.value;
+        room = laws.room_for _ _ _ _ _ _ fits.members fits.edges (w.taps ∙ p.0) (omega (arith, c.len-n.ensures.value)) (w.routes ∙ c.len-n.ensures.value) (omega (arith, w.turn.0, p.2));
         spare = omega (arith, w.turn.1, p.3);
       };
     }
@@ -59,8 +59,8 @@ draw_in-requires-2 c =
       plan_in_bounds = laws.phase_room c.in-Ok.j _ a.job.now c.in-Ok.ensures a.wants.plan a.plan.now (length a.answer.now) c.requires.given_len.1;
       search_work_in_bounds = (omega arith, c.requires.sorted_len);
       lent = record {
-        counts_long = w.routes;
-        room = laws.room_for _ _ _ _ _ _ fits.members fits.edges (w.taps ∙ p.0) (omega (arith, fits.edges)) w.routes (omega (arith, w.turn.0, p.2));
+        counts_long = w.routes ∙ c.len-n.ensures.value;
+        room = laws.room_for _ _ _ _ _ _ fits.members fits.edges (w.taps ∙ p.0) (omega (arith, fits.edges)) (w.routes ∙ c.len-n.ensures.value) (omega (arith, w.turn.0, p.2));
         spare = omega (arith, w.turn.1, p.3);
       };
     }

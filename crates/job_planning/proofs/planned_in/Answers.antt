@@ -3,16 +3,12 @@ use native.Mathlib.Omega.{arith}
 use Rattle.std.proofs.Common.{refl, sym, ap, ◌∙◌}
 use Rattle.std.proofs.lemmas.Result.{err_from_is_err_and}
 use Rattle.plan_bytes.specs.PlanBytes.{rejected}
-use Rattle.job_tables.specs.Came.{Sizes, Came}
+use Rattle.job_tables.specs.Came.{Came}
 use Rattle.job_tables.proofs.Ready.{came, routes_lent}
 use Rattle.refusal.specs.Refusal.{refusal_number}
 use Rattle.job_planning.proofs.PlanPhases as laws
-use borrow.Author.Rules.{rules}
 use Rattle.job_planning.proofs.planned_in.Goals as goal
 use Rattle.job_planning.proofs.planned_in.Goals.{In_ok-j}
-
-sizes : (c : In_ok-j) → Sizes c.in_ok-j.j
-sizes c = search rules
 
 pub returns-in_err-j : goal.returns-in_err-j
 returns-in_err-j c =
@@ -28,7 +24,7 @@ plan_interior_collectors-requires c =
     let t = c.board_tables-t in
     let given = c.read_job.new.points in
     record {
-      routes_in = routes_lent c.in_ok-j.j given (came_in o) (sizes o) t.result (t.ensures given);
+      routes_in = routes_lent c.in_ok-j.j given (came_in o) t.result (t.ensures given);
       search_room = (omega (arith, c.requires.sorted_len.0), omega (arith, c.requires.sorted_len.0, c.requires.sorted_len.1));
       offsets_of = c.corridor_depth_offsets-offsets.ensures;
     }
@@ -41,7 +37,7 @@ returns-in_err-made c =
     let p = err_from_is_err_and c.from_residual-in_err-made.result c.from_residual-in_err-made.ensures.1 in
     rw p.1 (
       laws.read_planned c.in_ok-j.j given c.args.job.now c.in_ok-j.ensures
-          ∙ laws.plan_refused c.in_ok-j.j given (came_in o) (sizes o) c.board_tables-t.result (c.board_tables-t.ensures given) s.result s.ensures _ c.in_err-made.was
+          ∙ laws.plan_refused c.in_ok-j.j given (came_in o) c.board_tables-t.result (c.board_tables-t.ensures given) s.result s.ensures _ c.in_err-made.was
           ∙ ap rejected (sym (ap refusal_number p.2)),
       refl,
     )
@@ -53,5 +49,5 @@ returns c =
     let w = c.write_plan.ensures in
     let given = c.read_job.new.points in
     laws.plan_writes _ _ _ _ _
-    (laws.read_planned c.in_ok-j.j given c.args.job.now c.in_ok-j.ensures ∙ laws.plan_taken c.in_ok-j.j given (came_in o) (sizes o) c.board_tables-t.result (c.board_tables-t.ensures given) s.result s.ensures _ c.in_ok-made.was)
-    w.bytes w.place
+    (laws.read_planned c.in_ok-j.j given c.args.job.now c.in_ok-j.ensures ∙ laws.plan_taken c.in_ok-j.j given (came_in o) c.board_tables-t.result (c.board_tables-t.ensures given) s.result s.ensures _ c.in_ok-made.was)
+    (rw c.len.ensures.value at w.bytes) (rw c.len.ensures.value at w.place)

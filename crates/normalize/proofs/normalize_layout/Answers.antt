@@ -1,47 +1,47 @@
-use mathlib.Core.Path.{◌≡◌, ◌∙◌}
+-- `normalize::normalize_layout` meets its contract. Assumes nothing.
+use mathlib.Core.Path.{refl, ◌∙◌}
 use lib.Ieee.{of_bits}
-use lib.ListN.{length, take}
-use Rattle.normalize.specs.PageTables.{sheet_in, TapsIn}
-use Rattle.normalize.proofs.Outer.{least_corner, size_is, size_of}
-use Rattle.normalize.proofs.Shift.{rows_shifted, windows_kept}
-use Rattle.normalize.proofs.Paged.{laid_is, page_shifted, page_still, sheet_shifted}
+use Rattle.drawing.specs.Normal.{shifted_node}
+use Rattle.normalize.specs.PageTables.{sheet_in, shifted_row}
+use Rattle.normalize.proofs.Outer.{least_corner, size_of}
+use Rattle.normalize.proofs.Shift.{mapped_items}
+use Rattle.normalize.proofs.Paged.{laid_is, Turned, turned_by, turned_still, page_turned, taps_turned}
 use Rattle.normalize.proofs.normalize_layout.Goals as goal
+use Rattle.normalize.proofs.normalize_layout.Goals.{Joined-o, then-o, else-o}
+
+turned : (c : Joined-o) → Turned c.outermost_of_sheet-o.result c.args.nodes.now c.if-o.n.items c.args.drawn.now c.if-o.d.items c.args.points.now c.if-o.points c.args.counts.now c.args.taps.now c.if-o.taps
+unfolding of_bits
+turned c =
+    let a = c.args in
+    let o = c.outermost_of_sheet-o.result in
+    elim c.if-o.branch [
+      | then-o w ↦ rw (w.points-is, w.taps-is, w.n-is, w.d-is)
+          (turned_by o a.nodes.now _ a.drawn.now _ a.points.now _ a.counts.now a.taps.now _ w.if-o.true
+          (mapped_items (shifted_node o) a.nodes.now _ _ _ c.table_of-n.ensures w.as_mut_slice.ensures.value w.shift_rows-then-o.ensures)
+          (mapped_items (shifted_row o) a.drawn.now _ _ _ c.table_of-d.ensures w.as_mut_slice-then-o.ensures.value w.shift_rows-then-o-2.ensures)
+          w.shift_routes.ensures w.shift_rows.ensures c.requires.taps)
+      | else-o w ↦ rw (w.points-is, w.taps-is, w.n-is, w.d-is)
+          (turned_still o a.nodes.now _ a.drawn.now _ a.points.now a.points.now a.counts.now a.taps.now a.taps.now w.if-o.false c.table_of-n.ensures c.table_of-d.ensures refl refl)
+    ]
 
 pub outermost_of_sheet-size-requires : goal.outermost_of_sheet-size-requires
 outermost_of_sheet-size-requires c =
     let a = c.args in
-    let d = c.shifted_table-d in
-    let p = c.shift_rows in
-    let long : length p.new.rows ≡ length a.taps.now = p.auto.rows in
-    rw (c.as_slice-ds.ensures, long) (windows_kept (length a.taps.now) a.drawn.now (take d.result.count d.result.rows) (rows_shifted _ a.drawn.now _ d.ensures.rows) c.requires.taps)
-
-pub returns-then-o-clause-page : goal.returns-then-o-clause-page
-unfolding of_bits
-returns-then-o-clause-page c edges =
-    let a = c.args in
-    let z = c.outermost_of_sheet-size in
-    let d = c.shifted_table-d in
-    let n = c.shifted_table-n in
-    let p = c.shift_rows in
-    let r = c.shift_routes in
-    let o = c.outermost_of_sheet-o in
-    let ms = take n.result.count n.result.rows in
-    let es = take d.result.count d.result.rows in
-    let long : length p.new.rows ≡ length a.taps.now = p.auto.rows in
-    let inside : TapsIn es p.new.rows = rw long (windows_kept (length a.taps.now) a.drawn.now es (rows_shifted _ a.drawn.now _ d.ensures.rows) c.requires.taps) in
-    laid_is (sheet_in edges ms es r.new.points a.counts.now p.new.rows) z.result (size_of edges ms es r.new.points a.counts.now p.new.rows inside c.as_slice-ns.result.now c.as_slice-ds.result.now z.result c.as_slice-ns.ensures c.as_slice-ds.ensures z.ensures)
-    ∙ page_shifted (sheet_in edges a.nodes.now a.drawn.now a.points.now a.counts.now a.taps.now) o.result (o.ensures ∙ least_corner edges a.nodes.now a.drawn.now a.points.now a.counts.now a.taps.now c.requires.taps) _ c.if-o.true
-    (sheet_shifted o.result edges a.nodes.now ms a.drawn.now es a.points.now r.new.points a.counts.now a.taps.now p.new.rows n.ensures.rows d.ensures.rows r.ensures p.ensures c.requires.taps)
-
-pub returns-then-o-clause-rows : goal.returns-then-o-clause-rows
-returns-then-o-clause-rows c = rows_shifted _ c.args.drawn.now _ c.shifted_table-d.ensures.rows
+    let o = c.outermost_of_sheet-o.result in
+    let t = turned (goal.at.outermost_of_sheet-size-requires c).Joined-o in
+    rw c.as_slice-ds.ensures.value (taps_turned o a.nodes.now _ a.drawn.now _ a.points.now _ a.counts.now a.taps.now _ t c.requires.taps)
 
 pub returns-clause-page : goal.returns-clause-page
 unfolding of_bits
 returns-clause-page c edges =
     let a = c.args in
-    let z = c.outermost_of_sheet-size-2 in
     let o = c.outermost_of_sheet-o in
-    rw (c.table_of.ensures.rows, c.table_of-2.ensures.rows)
-    (laid_is (sheet_in edges a.nodes.now a.drawn.now a.points.now a.counts.now a.taps.now) z.result (z.ensures ∙ size_is edges a.nodes.now a.drawn.now a.points.now a.counts.now a.taps.now c.requires.taps)
-    ∙ page_still (sheet_in edges a.nodes.now a.drawn.now a.points.now a.counts.now a.taps.now) o.result (o.ensures ∙ least_corner edges a.nodes.now a.drawn.now a.points.now a.counts.now a.taps.now c.requires.taps) c.if-o.false)
+    let z = c.outermost_of_sheet-size in
+    let i = c.if-o in
+    let t = turned (goal.at.returns-clause-page c).Joined-o in
+    let inside = taps_turned o.result a.nodes.now _ a.drawn.now _ a.points.now _ a.counts.now a.taps.now _ t c.requires.taps in
+    laid_is (sheet_in edges i.n.items i.d.items i.points a.counts.now i.taps) z.result (size_of edges i.n.items i.d.items i.points a.counts.now i.taps inside c.as_slice-ns.result.now c.as_slice-ds.result.now z.result c.as_slice-ns.ensures.value c.as_slice-ds.ensures.value z.ensures)
+    ∙ page_turned o.result a.nodes.now _ a.drawn.now _ a.points.now _ a.counts.now a.taps.now _ t edges (o.ensures ∙ least_corner edges a.nodes.now a.drawn.now a.points.now a.counts.now a.taps.now c.requires.taps)
+
+pub returns-clause-rows : goal.returns-clause-rows
+returns-clause-rows c = (turned (goal.at.returns-clause-rows c).Joined-o).rows

@@ -1,4 +1,4 @@
-use Rattle.std.proofs.Common.{◌<◌, length, sym, ap, ◌∙◌, arith, lit<}
+use Rattle.std.proofs.Common.{◌<◌, length, sym, ap, ◌∙◌, arith}
 use lib.Seq.{sets}
 use Rattle.limits.specs.Limits.{id_columns}
 use Rattle.answer.proofs.Stores.{records_done}
@@ -11,7 +11,7 @@ put_entry-at-requires c =
     let a = c.args in
     let l = c.loop-b in
     let before : l.b-index < length a.drawn.now = omega arith in
-    (lit< tt, c.requires.1 l.b-index _ before, omega (arith, line_room id_columns a.drawn.now l.b-index before, table_room a.drawn.now c.requires.0))
+    (c.requires.1 l.b-index _ before, omega (arith, line_room id_columns a.drawn.now l.b-index before, table_room a.drawn.now c.requires.0))
 
 pub loop-b-preserved : goal.loop-b-preserved
 loop-b-preserved c =

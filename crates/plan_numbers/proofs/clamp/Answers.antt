@@ -2,4 +2,4 @@
 use Rattle.plan_numbers.proofs.clamp.Goals as goal
 
 pub returns : goal.returns
-returns c = rw (← c.max.ensures, ← c.min.ensures)
+returns c = rw (c.min.ensures, c.max.ensures)

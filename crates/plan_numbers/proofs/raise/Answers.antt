@@ -5,4 +5,4 @@ pub returns-in-None : goal.returns-in-None
 returns-in-None c = rw c.in-None.is
 
 pub returns-in-At : goal.returns-in-At
-returns-in-At c = rw (c.in-At.is, ← c.max.ensures)
+returns-in-At c = rw (c.in-At.is, c.max.ensures)

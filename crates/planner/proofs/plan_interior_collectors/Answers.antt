@@ -21,7 +21,7 @@ returns c =
     let r = c.reach_bundles-reaches in
     let windowed = laws.windowed t a.points.now _ _ c.member_windows.ensures c.requires.routes_in in
     let given = given_routes a.points.now t.edges.now in
-    let same = sym c.as_slice.ensures in
+    let same = sym c.as_slice.ensures.value in
     let e = subst (λ (l : List Reached). EdgesIn (board_lent t) (edges_of t.members.now) l) same (laws.edges_in t r.result r.ensures.same) in
     let told =
     subst

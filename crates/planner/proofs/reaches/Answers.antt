@@ -1,10 +1,9 @@
 -- `planner::reaches` meets its contract. Assumes nothing.
-use mathlib.Core.Path.{◌≡◌, sym, ◌∙◌, ap, subst}
+use mathlib.Core.Path.{◌≡◌, refl, sym, ◌∙◌, ap, subst}
 use mathlib.Core.List.{List}
 use Prim.Native.Nat.{ℕ, ◌≤◌, ◌<◌}
 use native.Mathlib.Omega.{arith}
 use lib.ListN.{length, get_or}
-use lib.Seq.{get_or-take}
 use lib.Ieee.{nan}
 use Rattle.geometry.specs.Points.{Route}
 use Rattle.board.specs.declared.Options.{Options}
@@ -28,13 +27,13 @@ loop-i-preserved c =
     let f = c.reach_all-d in
     let u : Bundle = get_or a.t.bundles.now l.i no_bundle in
     let v : Reached = record { bundle = u; endpoint = get_or a.ends.rows l.i nan; reached = f.result } in
-    let low : l.i < length l.rows = omega (arith, h, a.t.sound.bundles_few, l.invariant.rows_length) in record {
-      rows_length = search rules;
-      bundle_is = search rules;
-      told = rows.filled
+    record {
+      rows_length = omega (arith, c.push.ensures.len, l.invariant.rows_length);
+      bundle_is = rows.pushed (λ j x. x.bundle ≡ get_or a.t.bundles.now j no_bundle) l.rows.items c.push.new.self.items l.i v no_reached l.invariant.rows_length c.push.ensures.items refl l.invariant.bundle_is;
+      told = rows.pushed
           (λ j x. (b : Board) (given : List Route) (lanes : List ℕ) → Ended b a.t.options a.t.bundles.now a.ends.rows → Rowed b (edges_of a.t.members.now) lanes → RoutesTell b given a.routes
           → CorridorsTell b a.corridors → Tells b given a.routes.points.now a.routes.starts.now a.routes.counts.now (rail_depth a.t.options) (sheet_pitch a.t.options) x)
-          l.rows l.i v no_reached low
+          l.rows.items c.push.new.self.items l.i v no_reached l.invariant.rows_length c.push.ensures.items
           (λ b given lanes e w q o. record {
             rail_is = ap rail_depth e.options_are;
             pitch_is = ap sheet_pitch e.options_are;
@@ -51,13 +50,13 @@ returns-clause-told c =
     let l = c.loop-i in
     let k = length a.t.bundles.now in
     let e : l.i ≡ k = omega (arith, c.loop-i-test.false) in
-    let fit : k ≤ length l.rows = omega (arith, a.t.sound.bundles_few, l.invariant.rows_length) in
+    let fit : length l.rows.items ≡ k = omega (arith, e, l.invariant.rows_length) in
     λ b given lanes n w q o.
     record {
-      bundles_are = n.bundles_are ∙ laws.same_rows a.t.bundles.now l.rows fit (λ j h. l.invariant.bundle_is j (omega (arith, h, e)));
+      bundles_are = n.bundles_are ∙ laws.same_rows a.t.bundles.now l.rows.items fit (λ j h. l.invariant.bundle_is j (omega (arith, h, e)));
       each = λ j h.
-          let g : j < k = omega (arith, h, rows.length_part l.rows k fit) in
-          subst (Tells b given a.routes.points.now a.routes.starts.now a.routes.counts.now (rail_depth a.t.options) (sheet_pitch a.t.options)) (sym (get_or-take k l.rows j no_reached g)) (l.invariant.told j (omega (arith, g, e)) b given lanes n w q o);
+          let g : j < k = omega (arith, h, fit) in
+          l.invariant.told j (omega (arith, g, e)) b given lanes n w q o;
     }
 
 pub reach_all-d-requires-clause-below : goal.reach_all-d-requires-clause-below

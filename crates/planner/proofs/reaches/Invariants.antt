@@ -13,8 +13,8 @@ use Rattle.planner.proofs.reaches.Given as goal
 
 abbrev pub invariant-loop-i : goal.invariant-loop-i
 invariant-loop-i l = record {
-  rows_length : length l.rows ≡ max_bundles;
-  bundle_is : (j : ℕ) → j < l.i → (get_or l.rows j no_reached).bundle ≡ get_or l.t.bundles.now j no_bundle;
+  rows_length : length l.rows.items ≡ l.i;
+  bundle_is : (j : ℕ) → j < l.i → (get_or l.rows.items j no_reached).bundle ≡ get_or l.t.bundles.now j no_bundle;
   told : (j : ℕ) → j < l.i → (b : Board) (given : List Route) (lanes : List ℕ) → Ended b l.t.options l.t.bundles.now l.ends.rows → Rowed b (edges_of l.t.members.now) lanes → RoutesTell b given l.routes → CorridorsTell b l.corridors
-      → Tells b given l.routes.points.now l.routes.starts.now l.routes.counts.now (rail_depth l.t.options) (sheet_pitch l.t.options) (get_or l.rows j no_reached);
+      → Tells b given l.routes.points.now l.routes.starts.now l.routes.counts.now (rail_depth l.t.options) (sheet_pitch l.t.options) (get_or l.rows.items j no_reached);
 }

@@ -1,17 +1,12 @@
-use Rattle.std.proofs.Common.{sym, ◌∙◌}
-use Rattle.search_refusals.proofs.Pairs.{pair_is, points_on, points_off}
+-- `search_refusals::points_fit` meets its contract. Assumes nothing.
+use Rattle.std.proofs.Common.{◌∙◌, rules, tests}
+use Rattle.std.proofs.lemmas.Iterator.{YieldsList-from_slice}
+use Rattle.std.proofs.lemmas.Iterator.Search.{all_from_yields_List}
+use Rattle.search_refusals.proofs.Pairs.{is_pair, pairs_fit}
 use Rattle.search_refusals.proofs.points_fit.Goals as goal
 
-pub returns-then-not-is_point : goal.returns-then-not-is_point
-returns-then-not-is_point c =
+pub returns : goal.returns
+returns c =
     let r = c.args.route in
-    let a = c.as_chunks.ensures in
-    let is = pair_is r.points.now r.start r.count _ r.inside _ _ a.front a.front_len c.loop-pair-test.true c.point_at.ensures in
-    sym (c.loop-pair.invariant ∙ points_off r.points.now r.start r.count _ _ is c.if-not-is_point.ensures)
-
-pub loop-pair-preserved : goal.loop-pair-preserved
-loop-pair-preserved c =
-    let r = c.args.route in
-    let a = c.as_chunks.ensures in
-    let is = pair_is r.points.now r.start r.count _ r.inside _ _ a.front a.front_len c.loop-pair-test.true c.point_at.ensures in
-    c.loop-pair.invariant ∙ points_on r.points.now r.start r.count _ _ is c.if-not-is_point.ensures
+    let v = c.pairs.ensures in
+    all_from_yields_List is_pair _ _ _ c.all.ensures.ran (YieldsList-from_slice _ cc) (λ x b q k. search (rules, tests)) ∙ pairs_fit _ r.points.now r.start r.count v.count v.points

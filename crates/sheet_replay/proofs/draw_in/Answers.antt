@@ -2,6 +2,7 @@
 use mathlib.Core.Path.{refl, sym, subst}
 use Prim.Native.Nat.{◌≤◌}
 use native.Mathlib.Omega.{arith}
+use lib.ListN.{length}
 use Rattle.limits.specs.Limits.{max_bundles}
 use Rattle.board.specs.Board.{Board}
 use Rattle.plan.specs.MemberColumns.{edges_of}
@@ -15,21 +16,20 @@ use Rattle.sheet_replay.proofs.draw_in.Goals as goal
 use Rattle.sheet_replay.proofs.draw_in.Goals.{In-Ok}
 
 pub board_tables-board-requires : goal.board_tables-board-requires
-board_tables-board-requires c = record { came = (c.args.given.now, c.requires.came); sizes = c.requires.sizes }
+board_tables-board-requires c = record { came = (c.args.given.now, c.requires.came) }
 
 pub draw_sheet-d-requires : goal.draw_sheet-d-requires
 draw_sheet-d-requires c =
     let a = c.args in
-    let lent = laws.lent_as a.j.now _ _ _ _ _ _ refl c.requires.lent in
+    let lent = laws.lent_as a.j.now _ c.len.ensures.value _ _ _ _ _ _ refl c.requires.lent in
     let from = c.requires.came in
-    let sized = c.requires.sizes in
     let t = c.board_tables-board.result in
     let same = c.board_tables-board.ensures a.given.now in
     record {
-      tables = tables.routes_lent a.j.now a.given.now from sized t same;
-      once = (ready.follow a.j.now a.given.now from sized t same, ready.once_a_role a.j.now a.given.now from sized t same);
-      exact = ready.exact a.j.now a.given.now from sized t same _ _ _ _ _ lent;
-      room = ready.room a.j.now a.given.now from sized t same _ _ _ _ _ lent;
+      tables = tables.routes_lent a.j.now a.given.now from t same;
+      once = (ready.follow a.j.now a.given.now from t same, ready.once_a_role a.j.now a.given.now from t same);
+      exact = ready.exact a.j.now a.given.now from t same _ _ _ _ _ lent;
+      room = ready.room a.j.now a.given.now from t same _ _ _ _ _ lent;
     }
 
 -- all that the turns leave
@@ -37,14 +37,11 @@ on_sheet : (c : In-Ok) → OnSheet c.args.j.now (edges_of c.board_tables-board.r
 on_sheet c =
     let a = c.args in
     let d = c.draw_sheet-d in
-    let lent = laws.lent_as a.j.now _ _ _ _ _ _ refl c.requires.lent in
-    laws.on_sheet a.j.now a.given.now c.requires.came c.requires.sizes c.board_tables-board.result (c.board_tables-board.ensures a.given.now) _ _ _ _ _ lent (told d.result.ended d.new.visits.0) d.result.drawn d.new.taps d.new.points d.new.counts d.auto.taps d.auto.points d.auto.counts _ (laws.ended_clean d.result.ended d.new.visits.0 _ c.in-Ok.is) d.ensures.rows d.ensures.full d.ensures.hold
+    let lent = laws.lent_as a.j.now _ c.len.ensures.value _ _ _ _ _ _ refl c.requires.lent in
+    laws.on_sheet a.j.now a.given.now c.requires.came c.board_tables-board.result (c.board_tables-board.ensures a.given.now) _ _ _ _ _ lent (told d.result.ended d.new.visits.0) d.result.drawn d.new.taps d.new.points d.new.counts d.auto.taps d.auto.points d.auto.counts _ (laws.ended_clean d.result.ended d.new.visits.0 _ c.in-Ok.is) d.ensures.rows d.ensures.full d.ensures.hold
 
-few_drawn : (c : In-Ok) → c.draw_sheet-d.result.drawn.count ≤ max_bundles
+few_drawn : (c : In-Ok) → length c.draw_sheet-d.result.drawn.items ≤ max_bundles
 few_drawn c = let on = on_sheet c in omega (arith, on.all_drawn, on.fits.bundles)
-
-pub as_slice-requires : goal.as_slice-requires
-as_slice-requires c = (omega arith, few_drawn (goal.at.as_slice-requires c).In-Ok)
 
 pub put_pages-requires : goal.put_pages-requires
 put_pages-requires c =
@@ -52,16 +49,14 @@ put_pages-requires c =
     let d = c.draw_sheet-d in
     let t = c.board_tables-board.result in
     let same = c.board_tables-board.ensures a.given.now in
-    let sized = c.requires.sizes in
     let e = (goal.at.put_pages-requires c).In-Ok in
     let on = on_sheet e in
-    let edges = tables.edges_lent a.j.now a.given.now c.requires.came sized t same in
-    let members = tables.members_lent a.j.now a.given.now c.requires.came sized t same in
-    let drawn = answers.drawn_long a.j.now (edges_of t.members.now) d.result.drawn d.new.points d.new.counts d.new.taps on sized in
-    rw c.as_slice.ensures
+    let edges = tables.edges_lent a.j.now a.given.now c.requires.came t same in
+    let members = tables.members_lent a.j.now a.given.now c.requires.came t same in
+    rw c.as_slice.ensures.value
     (record {
-      few = (omega (arith, edges, on.fits.edges), omega (arith, drawn, few_drawn e));
+      few = (omega (arith, edges, on.fits.edges), few_drawn e);
       counted = (omega (arith, on.counted, edges), on.hold, on.slots);
-      windows = (rw members (answers.windows a.j.now (edges_of t.members.now) d.result.drawn d.new.points d.new.counts d.new.taps on sized), omega (arith, members, on.places));
+      windows = (rw members (answers.windows a.j.now (edges_of t.members.now) d.result.drawn d.new.points d.new.counts d.new.taps on), omega (arith, members, on.places));
       members_on = subst (λ (b : Board). MembersOn b.edges b.members) (sym same) on.members_on;
     })

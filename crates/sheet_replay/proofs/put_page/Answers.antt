@@ -1,5 +1,5 @@
 -- `sheet_replay::put_page` is safe and ends. Assumes nothing.
-use Rattle.std.proofs.Common.{◌≡◌, ◌≤◌, length, length-take-le, ap, ◌∙◌, arith, rules}
+use Rattle.std.proofs.Common.{◌≡◌, ◌≤◌, length, ap, ◌∙◌, arith, rules}
 use Rattle.limits.specs.Limits.{any_answer_room}
 use Rattle.answer.specs.Answer.{answer_bytes}
 use Rattle.answer.specs.SheetTables.{sheet_of}
@@ -15,7 +15,7 @@ page_long s = search (rules, length_mapped)
 taps_long : (c : After-as_slice) → length c.as_slice.result.now ≡ length c.args.s.members.now
 taps_long c =
     let t = c.tap_rows-t in
-    ap length c.as_slice.ensures ∙ length-take-le t.result.count t.result.rows (omega (arith, t.ensures.count_is, t.ensures.rows_long, c.requires.nodes_le_max_nodes.3)) ∙ t.ensures.count_is
+    ap length c.as_slice.ensures.value ∙ t.ensures.count_is
 
 -- how many bytes are written
 few : (c : After-as_slice) → length (answer_bytes (sheet_of c.args.f c.args.s.nodes.now c.args.s.edges.now c.args.s.present.points.now c.args.s.present.counts.now c.args.s.drawn.now c.as_slice.result.now)) ≤ any_answer_room

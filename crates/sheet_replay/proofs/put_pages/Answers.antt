@@ -1,5 +1,5 @@
 -- `sheet_replay::put_pages` is safe and ends. Assumes nothing.
-use Rattle.std.proofs.Common.{arith, length, take}
+use Rattle.std.proofs.Common.{arith, length}
 use Rattle.normalize.proofs.Shift.{windows_kept}
 use Rattle.sheet_replay.proofs.put_pages.Goals as goal
 
@@ -12,4 +12,4 @@ pub put_page-requires-clause-windows : goal.put_page-requires-clause-windows
 put_page-requires-clause-windows c =
     let n = c.normalize_layout-l in
     let w = c.requires.windows in
-    (rw c.as_slice-2.ensures (windows_kept (length c.args.board.members.now) c.args.drawn.now (take n.result.drawn.count n.result.drawn.rows) n.ensures.rows w.0), omega (arith, n.auto.taps, w.1))
+    (rw c.as_slice-2.ensures.value (windows_kept (length c.args.board.members.now) c.args.drawn.now n.result.drawn.items n.ensures.rows w.0), omega (arith, n.auto.taps, w.1))

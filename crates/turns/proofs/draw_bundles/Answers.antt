@@ -1,4 +1,4 @@
-use Rattle.std.proofs.Common.{arith, sym, ap, ◌∙◌, subst, ◌≡◌, ℕ, ◌<◌, ◌+◌, List, [], ◌∷◌, get_or, length, take, drop, map}
+use Rattle.std.proofs.Common.{arith, refl, sym, ap, ◌∙◌, subst, ◌≡◌, ℕ, ◌<◌, ◌+◌, List, [], ◌∷◌, get_or, length, take, drop, map}
 use Rattle.std.specs.Float.{nan}
 use Rattle.route.specs.Slots.{routes_of}
 use Rattle.board.specs.declared.Bundle.{Bundle}
@@ -42,13 +42,13 @@ module _ (s : Start) (i : ℕ) (h : i < length s.args.turns.board.bundles.now) w
 pub loop-i-init : goal.loop-i-init
 loop-i-init c =
     let a = c.args in
-    let d = c.none_drawn-drawn.result in
-    let z = c.none_drawn-drawn.ensures in
-    let e : take d.count d.rows ≡ [] = ap (λ (n : ℕ). take n d.rows) z in
+    let d = c.new-drawn.result in
+    let e = c.new-drawn.ensures in
+    let z = ap (λ (ds : List DrawnBundle). length ds) e in
     record {
       drawn_to = z;
       rest = subst (λ (ds : List DrawnBundle). Rest a.turns.board.bundles.now ds (edges_of a.turns.board.members.now) (lanes_of a.turns.board.members.now) a.counts.now) (sym e) (rest_start a.turns.board.bundles.now (edges_of a.turns.board.members.now) (lanes_of a.turns.board.members.now) a.counts.now _ c.requires.lists c.requires.room.1);
-      rows = rows_none a.turns.board.bundles.now d.rows d.count z;
+      rows = rw e (rows_none a.turns.board.bundles.now [] 0 refl);
       told = ap (λ (ds : List DrawnBundle). sheet_of (board_lent a.turns.board) a.turns.permits_crossings (turns_at a.turns.board.bundles.now a.turns.plan.now a.turns.offsets.now 0) (standing (routes_of a.points.now a.counts.now) (map (drawn_of (edges_of a.turns.board.members.now) a.taps.now) ds) a.visits.now.0)) e;
       masked = c.requires.room.0.masked;
     }
@@ -69,7 +69,7 @@ draw_bundle-requires c =
     let lp = l.auto.points in
     let lc = l.auto.counts in (
       omega (arith, most, lc),
-      rest_ready (this s l.i h) (later s l.i h) (take l.drawn.count l.drawn.rows) (edges_of a.turns.board.members.now) (lanes_of a.turns.board.members.now) l.counts (split s l.i h (take l.drawn.count l.drawn.rows) (edges_of a.turns.board.members.now) (lanes_of a.turns.board.members.now) l.counts l.invariant.rest) c.as_slice.result.now _ _ _ a.turns.board.bundles.now _ c.as_slice.ensures lc c.requires.lists (omega (arith, lt, places, long)) (omega (arith, lp, lc, slots)) (omega (arith, lc, masked)),
+      rest_ready (this s l.i h) (later s l.i h) l.drawn.items (edges_of a.turns.board.members.now) (lanes_of a.turns.board.members.now) l.counts (split s l.i h l.drawn.items (edges_of a.turns.board.members.now) (lanes_of a.turns.board.members.now) l.counts l.invariant.rest) c.as_slice.result.now _ _ _ a.turns.board.bundles.now _ c.as_slice.ensures.value lc c.requires.lists (omega (arith, lt, places, long)) (omega (arith, lp, lc, slots)) (omega (arith, lc, masked)),
     )
 
 pub returns-in-Err-clause-told : goal.returns-in-Err-clause-told
@@ -79,11 +79,11 @@ returns-in-Err-clause-told c =
     let l = c.loop-i in
     let h = c.loop-i-test.true in
     let at = (goal.at.returns-in-Err-clause-told c).Start in
-    let ds = take l.drawn.count l.drawn.rows in
+    let ds = l.drawn.items in
     let now = standing (routes_of l.points l.counts) (map (drawn_of (edges_of a.turns.board.members.now) l.taps) ds) l.visits.0 in
     let r = split at l.i h ds (edges_of a.turns.board.members.now) (lanes_of a.turns.board.members.now) l.counts l.invariant.rest in
     sheet_off b a.turns.permits_crossings (turn_here at l.i h) (turns_later at l.i h) now c.draw_bundle.new.visits _ _ _ _ _
-    (rw c.as_slice.ensures at c.in-Err.ensures.told b (faces (this at l.i h) (later at l.i h) ds (edges_of a.turns.board.members.now) (lanes_of a.turns.board.members.now) l.counts r a.turns.board _ (members_are a.turns.board.members.now) (stands a.turns.board l.i _ h c.endpoint_of.ensures)))
+    (rw c.as_slice.ensures.value at c.in-Err.ensures.told b (faces (this at l.i h) (later at l.i h) ds (edges_of a.turns.board.members.now) (lanes_of a.turns.board.members.now) l.counts r a.turns.board _ (members_are a.turns.board.members.now) (stands a.turns.board l.i _ h c.endpoint_of.ensures)))
     ∙ ap (λ (ts : List Turn). sheet_of b a.turns.permits_crossings ts now) (sym (turns_are at l.i h))
     ∙ l.invariant.told
 
@@ -91,7 +91,7 @@ pub returns-in-Err-clause-full : goal.returns-in-Err-clause-full
 returns-in-Err-clause-full c =
     let count = c.loop-i.invariant.drawn_to in
     let h = c.loop-i-test.true in
-    full_off _ _ c.loop-i.drawn.count (length c.args.turns.board.bundles.now) (omega (arith, count, h))
+    full_off _ _ (length c.loop-i.drawn.items) (length c.args.turns.board.bundles.now) (omega (arith, count, h))
 
 pub loop-i-preserved : goal.loop-i-preserved
 loop-i-preserved c =
@@ -101,21 +101,21 @@ loop-i-preserved c =
     let at = (goal.at.loop-i-preserved c).Start in
     let f = c.draw_bundle in
     let d = c.in-Ok.row in
-    let ds = take l.drawn.count l.drawn.rows in
+    let ds = l.drawn.items in
     let now = standing (routes_of l.points l.counts) (map (drawn_of (edges_of a.turns.board.members.now) l.taps) ds) l.visits.0 in
     let r = split at l.i h ds (edges_of a.turns.board.members.now) (lanes_of a.turns.board.members.now) l.counts l.invariant.rest in
     let count = l.invariant.drawn_to in
     let few = a.turns.board.sound.bundles_few in
     let w = c.push.new.self in
     let b = board_lent a.turns.board in
-    let more = c.push.ensures.rows in
+    let more = c.push.ensures.items in
     record {
-      drawn_to = c.push.ensures.count ∙ ap (λ (k : ℕ). k + 1) count;
+      drawn_to = c.push.ensures.len ∙ ap (λ (k : ℕ). k + 1) count;
       rest = rest_next (this at l.i h) (later at l.i h) ds (edges_of a.turns.board.members.now) (lanes_of a.turns.board.members.now) l.counts r d _ _ more c.in-Ok.ensures.row c.in-Ok.ensures.hold (longer_clean _ l.counts _ _ c.in-Ok.ensures.longer);
-      rows = rows_next l.drawn w d more a.turns.board.bundles.now no_bundle (omega (arith, count, h, few)) c.push.ensures.count (subst (λ (i : ℕ). Row (get_or a.turns.board.bundles.now i no_bundle) d) (sym count) c.in-Ok.ensures.row) l.invariant.rows;
+      rows = rows_next l.drawn w d more a.turns.board.bundles.now no_bundle (omega (arith, count, h, few)) c.push.ensures.len (subst (λ (i : ℕ). Row (get_or a.turns.board.bundles.now i no_bundle) d) (sym count) c.in-Ok.ensures.row) l.invariant.rows;
       told =
           sheet_on b a.turns.permits_crossings (turn_here at l.i h) (turns_later at l.i h) now f.new.visits _ _ _ (drawn_more l.drawn w d more (edges_of a.turns.board.members.now) _)
-          (rw c.as_slice.ensures at c.in-Ok.ensures.told b (faces (this at l.i h) (later at l.i h) ds (edges_of a.turns.board.members.now) (lanes_of a.turns.board.members.now) l.counts r a.turns.board _ (members_are a.turns.board.members.now) (stands a.turns.board l.i _ h c.endpoint_of.ensures)))
+          (rw c.as_slice.ensures.value at c.in-Ok.ensures.told b (faces (this at l.i h) (later at l.i h) ds (edges_of a.turns.board.members.now) (lanes_of a.turns.board.members.now) l.counts r a.turns.board _ (members_are a.turns.board.members.now) (stands a.turns.board l.i _ h c.endpoint_of.ensures)))
           ∙ ap (λ (ts : List Turn). sheet_of b a.turns.permits_crossings ts now) (sym (turns_are at l.i h))
           ∙ l.invariant.told;
       masked = omega (arith, l.invariant.masked, c.in-Ok.ensures.mask);
@@ -133,4 +133,4 @@ returns-clause-told c =
 pub returns-clause-full : goal.returns-clause-full
 returns-clause-full c =
     let count = c.loop-i.invariant.drawn_to in
-    full_on c.loop-i.visits c.loop-i.drawn.count (length c.args.turns.board.bundles.now) (omega (arith, count))
+    full_on c.loop-i.visits (length c.loop-i.drawn.items) (length c.args.turns.board.bundles.now) (omega (arith, count))

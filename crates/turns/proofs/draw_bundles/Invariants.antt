@@ -10,10 +10,10 @@ use Rattle.turns.proofs.draw_bundles.Given as goal
 
 abbrev pub invariant-loop-i : goal.invariant-loop-i
 invariant-loop-i l = record {
-  drawn_to : l.drawn.count ≡ l.i;
-  rest : Rest (drop l.i l.turns.board.bundles.now) (take l.drawn.count l.drawn.rows) (edges_of l.turns.board.members.now) (lanes_of l.turns.board.members.now) l.counts;
-  rows : Rows (take l.drawn.count l.turns.board.bundles.now) (take l.drawn.count l.drawn.rows);
-  told : sheet_of (board_lent l.turns.board) l.turns.permits_crossings (turns_at l.turns.board.bundles.now l.turns.plan.now l.turns.offsets.now l.i) (standing (routes_of l.points l.counts) (map (drawn_of (edges_of l.turns.board.members.now) l.taps) (take l.drawn.count l.drawn.rows)) l.visits.0)
+  drawn_to : length l.drawn.items ≡ l.i;
+  rest : Rest (drop l.i l.turns.board.bundles.now) l.drawn.items (edges_of l.turns.board.members.now) (lanes_of l.turns.board.members.now) l.counts;
+  rows : Rows (take (length l.drawn.items) l.turns.board.bundles.now) l.drawn.items;
+  told : sheet_of (board_lent l.turns.board) l.turns.permits_crossings (turns_at l.turns.board.bundles.now l.turns.plan.now l.turns.offsets.now l.i) (standing (routes_of l.points l.counts) (map (drawn_of (edges_of l.turns.board.members.now) l.taps) l.drawn.items) l.visits.0)
       ≡ sheet_of (board_lent l.turns.board) l.turns.permits_crossings (turns_at l.turns.board.bundles.now l.turns.plan.now l.turns.offsets.now 0) (standing (routes_of l.initial.points l.initial.counts) [] l.initial.visits.0);
   masked : length l.initial.counts ≤ length l.work.mask.now;
 }

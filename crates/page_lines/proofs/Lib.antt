@@ -1,0 +1,3 @@
+mod Columns
+pub mod DigitStores
+pub mod Digits
