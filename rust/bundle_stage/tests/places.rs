@@ -65,7 +65,7 @@ fn bytes() {
     );
     assert_eq!(
         said_of_bytes(|job| job[5] = 8),
-        one(6, "byte 5: the flags is 8, and 0 to 7 are listed")
+        one(6, "byte 5: the flags are 8, and 0 to 7 are listed")
     );
 }
 

@@ -98,7 +98,7 @@ impl Walk<'_> {
     }
 
     fn head(&mut self) -> Step<[usize; 4]> {
-        let flags = self.listed(named("the flags"), 7)?;
+        let flags = self.listed((named("the flags"), "are"), 7)?;
         self.on_grid = flags & 4 != 0;
         for name in Options::NAMES {
             self.number(of("", Item::Setting { name }), OPTION)?;
@@ -149,7 +149,7 @@ impl Walk<'_> {
         let node = self.id(named(format!("the node of {} port", nth(place))))?;
         let id = self.id(named(format!("the id of {} port", nth(place))))?;
         let port = Item::Port { place, node, id };
-        self.listed(of("the side of ", port), 3)?;
+        self.listed((of("the side of ", port), "is"), 3)?;
         self.number(of("the offset of ", port), COORDINATE)
     }
 
@@ -176,7 +176,7 @@ impl Walk<'_> {
         let bundle = Item::Bundle { place, id };
         self.id(of("the node of ", bundle))?;
         self.id(of("the port of ", bundle))?;
-        self.listed(of("the role of ", bundle), 1)?;
+        self.listed((of("the role of ", bundle), "is"), 1)?;
         // Any number.
         self.bytes::<4>(of("the width of ", bundle))?;
         let field = of("the count of members of ", bundle);
@@ -229,7 +229,8 @@ impl Walk<'_> {
         self.fail(Refusal::LimitExceeded, said)
     }
 
-    fn listed(&mut self, field: Field, most: u8) -> Step<u8> {
+    /// Of a field with the verb that goes with its name.
+    fn listed(&mut self, (field, is): (Field, &str), most: u8) -> Step<u8> {
         let [value] = self.bytes(field.clone())?;
         if value <= most {
             return Ok(value);
@@ -238,7 +239,7 @@ impl Walk<'_> {
         let said = said_of(
             &at,
             field,
-            &format!(" is {value}, and 0 to {most} are listed"),
+            &format!(" {is} {value}, and 0 to {most} are listed"),
         );
         self.fail(Refusal::ValueNotListed, said)
     }
