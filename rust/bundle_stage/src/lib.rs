@@ -77,6 +77,7 @@ mod grid;
 mod id;
 mod joints;
 pub mod limits;
+mod listed;
 mod locate;
 mod lookup;
 mod outputs;
@@ -96,7 +97,7 @@ pub use board::{
 pub use grid::OffGrid;
 pub use id::Id;
 pub use joints::{FalseJoint, Meeting};
-pub use locate::{Forecast, locate, locate_planned};
+pub use locate::{Forecast, locate, locate_planned, locate_with};
 pub use outputs::{
     Buffers, CROSSING_SIZE, CROSSINGS_SIZE, Crossing, Drawn, PAGE_LINE_SIZE, PAGE_SIZE, Wanted,
     Written,

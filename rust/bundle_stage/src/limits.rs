@@ -16,6 +16,8 @@ pub const BUNDLES: usize = 32;
 pub const BUNDLE_MEMBERS: usize = 64;
 /// The most members of all bundles.
 pub const MEMBERS: usize = 256;
+/// The most crossings of a list.
+pub const CROSSINGS: usize = 1_024;
 /// The highest lane.
 pub const LANE: u16 = 255;
 /// The largest magnitude of a coordinate or an offset, and the largest size: 2^30.

@@ -144,6 +144,21 @@ fn the_list_of_crossings() {
     let more = winding(17);
     assert!(more.draw().is_ok());
     assert_eq!(more.draw_with(&wanted), Err(Refusal::TooManyCrossings));
+    let job = more.to_bytes().expect("small");
+    let refused = locate_with(&job, &wanted).expect("too many");
+    assert_eq!(refused.refusal, Refusal::TooManyCrossings);
+    // 16 wires with 63 runs over the spine, and one with 17.
+    assert_eq!(
+        refused.to_string(),
+        "no sheet: there are 1025 crossings; the most of a bundle, 1025, are of bundle 1, and the most of an \
+         edge, 63, of edge 3"
+    );
+    let plan = bundle_stage::plan(&job);
+    assert_eq!(locate_with(&job, &wanted.with_plan(&plan)), Some(refused));
+    assert_eq!(locate(&job), None);
+    let sheet = most.draw().expect("drawn");
+    let list = most.crossings(&sheet, None);
+    assert_eq!(list.map(|list| list.len()), Some(limits::CROSSINGS));
     let both = wanted.with_page();
     assert_eq!(most.draw_with(&both), Err(Refusal::PageOffGrid));
     assert_eq!(more.draw_with(&both), Err(Refusal::TooManyCrossings));
@@ -192,6 +207,24 @@ fn the_bundle_page() {
     assert_eq!((nothing.page, nothing.sheet), (None, drawn.sheet));
     board.flags.on_grid = false;
     assert_eq!(board.draw_with(&wanted), Err(Refusal::PageOffGrid));
+    let said = |board: &Board| {
+        let job = board.to_bytes().expect("small");
+        locate_with(&job, &wanted).expect("off the grid").places[0].to_string()
+    };
+    assert_eq!(
+        said(&board),
+        "grid is no; all numbers of the board are on the drafting grid"
+    );
+    let mut off = board.clone();
+    off.nodes[1].x += 0.01;
+    assert!(
+        said(&off).starts_with("grid is no; one number is off the drafting grid, the x of node 2")
+    );
+    off.nodes[1].width += 0.01;
+    assert!(
+        said(&off)
+            .starts_with("grid is no; 2 numbers are off the drafting grid, first the x of node 2")
+    );
     assert!(board.draw_with(&Wanted::default()).is_ok());
     let last = board.edges.len() - 1;
     board.edges[last].points.truncate(1);

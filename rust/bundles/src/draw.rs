@@ -4,7 +4,7 @@ use std::collections::{HashMap, HashSet};
 use std::fs;
 use std::path::{Path, PathBuf};
 
-use bundle_stage::{Answer, locate, locate_planned};
+use bundle_stage::{Answer, Refusal, Wanted, locate_with};
 use bundles::explain::{counted, places, spent_words};
 use bundles::loose::{self, Loose};
 
@@ -138,15 +138,23 @@ pub fn located(answer: &Answer, loaded: &Loaded, plan: Option<&[u8]>) -> String 
     let Answer::Refused(refusal) = answer else {
         return String::new();
     };
-    let refused = match plan {
-        Some(plan) => locate_planned(&loaded.job, plan),
-        None => locate(&loaded.job),
-    };
+    let mut wanted = asked(*refusal);
+    wanted.plan = plan;
+    let refused = locate_with(&loaded.job, &wanted);
     // The answer may be that of another job, or the refusal that of another output.
     let refused = refused.filter(|refused| refused.refusal == *refusal);
     refused.map_or(String::new(), |refused| {
         places(&refused, &loaded.names, &loaded.lines)
     })
+}
+
+/// What was wanted beside the answer where a job is refused so.
+pub fn asked(refusal: Refusal) -> Wanted<'static> {
+    match refusal {
+        Refusal::PageOffGrid => Wanted::default().with_page(),
+        Refusal::TooManyCrossings => Wanted::default().with_crossings(),
+        _ => Wanted::default(),
+    }
 }
 
 /// Where the answers to several jobs go.

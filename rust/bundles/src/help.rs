@@ -216,7 +216,8 @@ board's order. That each crossing stands there once, that nothing else does, and
 share no other point but the route's own tap, is proved of the sheet before its last shift. Crossings of two
 bundles are not in the list, nor are those of two routes.
 
-A sheet with more than 1,024 is refused with 19. With a PLAN the list is that of the sheet drawn from it.",
+A sheet with more than 1,024 is refused with 19, and it is told how many there are, and of which bundle and
+of which edge the most are. With a PLAN the list is that of the sheet drawn from it.",
     },
     Command {
         name: "page",
@@ -232,8 +233,8 @@ with a space between them; a line has 76 bytes, its newline among them.
 
 With a PLAN the page is that of the sheet drawn from it.
 
-A board that is not said to be on the grid has no page: it is refused with 16, if with nothing else. Where
-the board is refused, standard output stays empty, and the refusal is told on standard error, with names
+A board that is not said to be on the grid has no page: it is refused with 16, if with nothing else, and it is
+told on which line that is said, and how many of its numbers are off the grid. Where the board is refused, standard output stays empty, and the refusal is told on standard error, with names
 where there are some: the page itself has no place for them.",
     },
     Command {

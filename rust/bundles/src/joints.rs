@@ -1,11 +1,11 @@
 //! In words: whether joints of a sheet in an answer are false, and what is known of its last shift.
 
+use bundle_stage::limits::CROSSINGS;
 use bundle_stage::{
     Board, Crossing, FalseJoint, LastShift, Meeting, Point, Segment, Sheet, Shift, Wanted,
 };
 
 use crate::explain::counted;
-use crate::listed::{MOST, listed};
 use crate::text::number;
 
 /// What was found on a sheet.
@@ -46,7 +46,7 @@ impl Joints {
         let shift = sheet.last_shift(board);
         match sheet.false_joints(board) {
             Some(joints) => Joints::False(joints, shift),
-            None => Joints::Permitted(listed(board, sheet, plan), shift),
+            None => Joints::Permitted(board.crossings(sheet, plan), shift),
         }
     }
 
@@ -106,7 +106,7 @@ impl Joints {
             Joints::Permitted(Some(list), _) => format!(
                 "{} with routes, else only taps, as is proved{} before the last shift",
                 counted(list.len(), "crossing"),
-                if list.len() > MOST {
+                if list.len() > CROSSINGS {
                     " of parts of the board, each with at most 1,024,"
                 } else {
                     ""
@@ -143,7 +143,7 @@ impl Joints {
                 format!(
                     "{} with routes, by the stage's list{}",
                     counted(list.len(), "crossing"),
-                    if list.len() > MOST {
+                    if list.len() > CROSSINGS {
                         "s of parts of the board"
                     } else {
                         ""

@@ -7,7 +7,6 @@ pub mod html;
 pub mod joints;
 mod keys;
 pub mod lines;
-mod listed;
 pub mod loose;
 pub mod names;
 mod places;

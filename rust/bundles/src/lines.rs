@@ -40,7 +40,8 @@ impl Lines {
         }
     }
 
-    /// The lines of a place in words, as `line 3: ` or `lines 3, 8: `; nothing where there are none.
+    /// The lines of a place in words, as `line 3: ` or `lines 3, 8: `, or that the text does not have the line
+    /// of a setting; nothing where there is no text.
     pub fn words(&self, place: &Place) -> String {
         let mut lines = place
             .items()
@@ -50,10 +51,21 @@ impl Lines {
         lines.dedup();
         let listed = lines.iter().map(usize::to_string).collect::<Vec<_>>();
         match lines.len() {
-            0 => String::new(),
+            0 => self.unsaid(place).map_or(String::new(), |name| {
+                format!("the text has no line `{name}`: ")
+            }),
             1 => format!("line {}: ", listed[0]),
             _ => format!("lines {}: ", listed.join(", ")),
         }
+    }
+
+    /// A setting of a place that the text does not say. Every text says some.
+    fn unsaid(&self, place: &Place) -> Option<&'static str> {
+        let is_text = !self.settings.is_empty();
+        place.items().find_map(|item| match item {
+            Item::Setting { name } if is_text => Some(name),
+            _ => None,
+        })
     }
 
     /// The numbers that are off the drafting grid where the board is said to be on it.

@@ -1,8 +1,8 @@
 //! Whether an answer is that of a job: what is said of another one would be wrong.
 
-use bundle_stage::{Answer, Buffers, DrawnBundle, Id, Refusal, Sheet, Wanted};
+use bundle_stage::{Answer, Buffers, DrawnBundle, Id, Refusal, Sheet};
 
-use crate::draw::drawn_from;
+use crate::draw::{asked, drawn_from};
 use crate::files::{Loaded, called};
 
 /// Asks the stage again, with the plan if one is given, and compares.
@@ -58,9 +58,8 @@ fn differs(answer: &Answer, own: &Answer) -> String {
 fn is_of_another_output(loaded: &Loaded, answer: &Answer, plan: Option<&[u8]>) -> bool {
     let mut wanted = match answer {
         Answer::Refused(Refusal::BufferTooShort) => return true,
-        Answer::Refused(Refusal::PageOffGrid) => Wanted::default().with_page(),
-        Answer::Refused(Refusal::TooManyCrossings) => Wanted::default().with_crossings(),
-        _ => return false,
+        Answer::Refused(refusal) => asked(*refusal),
+        Answer::Drawn(_) => return false,
     };
     wanted.plan = plan;
     let mut buffers = Box::new(Buffers::default());

@@ -90,6 +90,7 @@ pub fn read_all(text: &[u8]) -> Result<Text, Wrong> {
         let said = [
             said_of(&OPTIONS, &settings.options),
             said_of(&GRANTS, &settings.grants),
+            said_of(&FLAGS, &settings.flags),
         ];
         all.lines.note(line, &all.board, said.concat());
     }

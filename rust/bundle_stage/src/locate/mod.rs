@@ -8,8 +8,10 @@ mod ids;
 mod meeting;
 mod planned;
 mod turn;
+mod unwritten;
 
 use crate::board::Board;
+use crate::outputs::{Buffers, Wanted};
 use crate::place::{Place, Refused, place};
 use crate::plan::Plan;
 use crate::refusal::Refusal;
@@ -29,13 +31,7 @@ pub(crate) use turn::refused_turn;
 /// assert_eq!(refused.to_string(), "no sheet: byte 4: the version is 7");
 /// ```
 pub fn locate(job: &[u8]) -> Option<Refused> {
-    match Answer::from_bytes(&crate::answer(job)) {
-        Ok(Answer::Refused(refusal)) => Some(Refused {
-            refusal,
-            places: places(job, None, refusal),
-        }),
-        _ => None,
-    }
+    locate_with(job, &Wanted::default())
 }
 
 /// The refusal of a job's bytes that are drawn from a plan's bytes, with what it is about, or nothing where
@@ -51,10 +47,27 @@ pub fn locate(job: &[u8]) -> Option<Refused> {
 /// # Ok::<(), bundle_stage::TooMany>(())
 /// ```
 pub fn locate_planned(job: &[u8], plan: &[u8]) -> Option<Refused> {
-    match Answer::from_bytes(&crate::answer_from(job, plan)) {
+    locate_with(job, &Wanted::default().with_plan(plan))
+}
+
+/// The same of a job's bytes with what is given and wanted beside them: a page or a list may be refused that
+/// has no place for the board, or not enough.
+///
+/// ```
+/// use bundle_stage::{Board, Wanted, locate, locate_with};
+///
+/// let job = Board::default().to_bytes()?;
+/// assert_eq!(locate(&job), None);
+/// let refused = locate_with(&job, &Wanted::default().with_page()).expect("not on the grid");
+/// assert_eq!(refused.to_string(), "no sheet: grid is no; all numbers of the board are on the drafting grid");
+/// # Ok::<(), bundle_stage::TooMany>(())
+/// ```
+pub fn locate_with(job: &[u8], wanted: &Wanted<'_>) -> Option<Refused> {
+    let mut buffers = Box::new(Buffers::default());
+    match Answer::from_bytes(buffers.write(job, wanted).answer) {
         Ok(Answer::Refused(refusal)) => Some(Refused {
             refusal,
-            places: places(job, Some(plan), refusal),
+            places: places(job, wanted.plan, refusal),
         }),
         _ => None,
     }
@@ -153,6 +166,8 @@ fn places(job: &[u8], plan: Option<&[u8]>, refusal: Refusal) -> Vec<Place> {
             let plan = plan.and_then(|plan| Plan::from_bytes(plan).ok());
             vec![grants::place(&board, plan.as_ref())]
         }
+        Refusal::PageOffGrid => vec![unwritten::page(&board)],
+        Refusal::TooManyCrossings => unwritten::crossings(&board, plan).into_iter().collect(),
         _ => by_fields.map(|found| found.place).into_iter().collect(),
     }
 }

@@ -25,6 +25,18 @@ fn a_bundle_page() {
         said.contains("refused with 16, caused by the calling program: "),
         "{said}"
     );
+    let line = 1 + off
+        .lines()
+        .position(|line| line.starts_with("grid "))
+        .expect("a line");
+    let why = "grid is no; all numbers of the board are on the drafting grid\n";
+    assert!(said.ends_with(&format!("\n  line {line}: {why}")), "{said}");
+    let unsaid = board.replace("grid                yes", "");
+    let said = text(bundles(&["page"], unsaid.as_bytes()).stderr);
+    assert!(
+        said.ends_with(&format!("\n  the text has no line `grid`: {why}")),
+        "{said}"
+    );
     let wrong = off.replace("members 61@0", "members 61@999");
     let refused = bundles(&["page"], wrong.as_bytes());
     assert!(refused.stdout.is_empty());

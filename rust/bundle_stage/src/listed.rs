@@ -8,22 +8,37 @@
 
 use std::collections::HashSet;
 
-use bundle_stage::{Board, Crossing, Id, Point, Refusal, Sheet, Wanted};
+use crate::board::{Board, Point};
+use crate::id::Id;
+use crate::outputs::{Crossing, Wanted};
+use crate::refusal::Refusal;
+use crate::sheet::Sheet;
 
-/// The most that the stage lists.
-pub const MOST: usize = 1_024;
-
-/// The crossings of a board's sheet, equal ones one behind the other; none where not even a part has a list.
-pub fn listed(board: &Board, sheet: &Sheet, plan: Option<&[u8]>) -> Option<Vec<Crossing>> {
-    let mut wanted = Wanted::default().with_crossings();
-    wanted.plan = plan;
-    match board.draw_with(&wanted) {
-        Ok(drawn) => drawn.crossings,
-        Err(Refusal::TooManyCrossings) => match plan {
-            Some(plan) => in_parts(board, sheet, plan),
-            None => in_parts(board, sheet, &board.plan().ok()?.to_bytes().ok()?),
-        },
-        Err(_) => None,
+impl Board {
+    /// The crossings of the board's sheet, drawn from the bytes of a plan if they are given: also where they
+    /// are more than the stage lists, [`limits::CROSSINGS`](crate::limits::CROSSINGS). Then the board is drawn
+    /// in parts, and the list is that of the first part, then that of the next, and so on. None where not
+    /// even a part has a list, or where the board is refused.
+    ///
+    /// `sheet` is what the board is drawn as: a part is to stand where it stands on that.
+    ///
+    /// ```
+    /// # use bundle_stage::*;
+    /// let board = Board::default();
+    /// assert_eq!(board.crossings(&board.draw()?, None), Some(Vec::new()));
+    /// # Ok::<(), Refusal>(())
+    /// ```
+    pub fn crossings(&self, sheet: &Sheet, plan: Option<&[u8]>) -> Option<Vec<Crossing>> {
+        let mut wanted = Wanted::default().with_crossings();
+        wanted.plan = plan;
+        match self.draw_with(&wanted) {
+            Ok(drawn) => drawn.crossings,
+            Err(Refusal::TooManyCrossings) => match plan {
+                Some(plan) => in_parts(self, sheet, plan),
+                None => in_parts(self, sheet, &self.plan().ok()?.to_bytes().ok()?),
+            },
+            Err(_) => None,
+        }
     }
 }
 
