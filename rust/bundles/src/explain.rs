@@ -175,9 +175,15 @@ fn port(at: Endpoint) -> String {
     format!("{}:{}", at.node, at.port)
 }
 
-/// A line for each bundle: its id, its name and its way; then the names of the ports that have one.
+/// What names say of a sheet: a line for each bundle, with its id, its name and its way; then the names of
+/// the nodes, ports and edges that have one. Nothing where there is neither.
+pub fn named(board: &Board, sheet: &Sheet, names: &Names) -> String {
+    ways(board, names, &on_sheet(board, sheet)) + &records(board, names)
+}
+
+/// A line for each bundle: its id, its name and its way.
 fn ways(board: &Board, names: &Names, loose: &[Loose]) -> String {
-    let mut text = String::from("\n");
+    let mut text = String::new();
     for bundle in &board.bundles {
         let name = names.bundle(bundle.id).map(isolated);
         let name = name.map(|name| format!(" {name}"));
@@ -188,6 +194,12 @@ fn ways(board: &Board, names: &Names, loose: &[Loose]) -> String {
             name.unwrap_or_default()
         ));
     }
+    text
+}
+
+/// The names of nodes, each with those of its ports, and of edges.
+fn records(board: &Board, names: &Names) -> String {
+    let mut text = String::new();
     for node in &board.nodes {
         if let Some(name) = names.node(node.id).map(isolated) {
             text.push_str(&format!("node {}: {name}\n", node.id));
@@ -197,6 +209,11 @@ fn ways(board: &Board, names: &Names, loose: &[Loose]) -> String {
             if let Some(name) = names.port(port.node, port.id).map(isolated) {
                 text.push_str(&format!("  {}:{}: {name}\n", port.node, port.id));
             }
+        }
+    }
+    for edge in &board.edges {
+        if let Some(name) = names.edge(edge.id).map(isolated) {
+            text.push_str(&format!("edge {}: {name}\n", edge.id));
         }
     }
     text
@@ -231,8 +248,10 @@ fn drawn(sheet: &Sheet, board: Option<&Board>, plan: Option<&[u8]>, names: &Name
         rows.extend(sheet.bundles.iter().map(|bundle| row(bundle, board)));
         text.push('\n');
         text.push_str(&table(&rows));
-        let ways = board.map(|board| ways(board, names, &on_sheet(board, sheet)));
-        text.push_str(&ways.unwrap_or_default());
+    }
+    let named = board.map_or(String::new(), |board| named(board, sheet, names));
+    if !named.is_empty() {
+        text.push_str(&format!("\n{named}"));
     }
     text.push('\n');
     text.push_str(&paid(sheet, board, plan));

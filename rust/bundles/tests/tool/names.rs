@@ -55,6 +55,27 @@ fn from_right_to_left() {
     }
 }
 
+/// Names of nodes, ports and edges are told also where there is no bundle.
+#[test]
+fn of_a_sheet_without_bundles() {
+    let board = clock_board();
+    let lines = board.lines().filter(|line| !line.starts_with("bundle "));
+    let lines = lines.collect::<Vec<_>>().join("\n");
+    let named = lines.replace("edge 71 from", "edge 71 \"trigger\" from");
+    assert_ne!(named, lines);
+    let folder = folder("no-bundles");
+    let board = folder.write("board.txt", named);
+    let answer = out(0, &["draw", &board], b"");
+    let words = text(out(0, &["explain", "-", &board], &answer));
+    for due in [
+        "20 edges, 0 bundles\n\nnode 1: reference inputs\n",
+        "\nnode 5: timestamp unit\n  5:1: holdover\n",
+        "\nedge 71: trigger\n\ntap visits: ",
+    ] {
+        assert!(words.contains(due), "{due}: {words}");
+    }
+}
+
 /// A table, and a refusal with its place.
 #[test]
 fn tables_and_refusals() {
