@@ -90,7 +90,8 @@ code is 2 where one could not be read, else 1 where any was refused.",
         long: "\
 The table has a line for each bundle: its id, its role, whether it stands inside the sheet
 (interior) or at the rail, the x of its collector, from which y to which it goes, and how many taps
-it has. Below it are the visits left. An answer does not have the role: it is read off the spine,
+it has. With the answer's JOB, whose text may have names, there follows for each bundle its name and from which
+ports to which it leads, and the names of nodes, ports and edges. Below it are the visits left. An answer does not have the role: it is read off the spine,
 which leads to the right for an input and to the left for an output. With the answer's JOB the role
 is the job's, the visits granted and paid are said too, and what is known of the joints.
 
@@ -221,7 +222,7 @@ of which edge the most are. With a PLAN the list is that of the sheet drawn from
     },
     Command {
         name: "page",
-        words: "[BOARD] [--plan PLAN] [--names FILE]",
+        words: "[BOARD] [--plan PLAN] [--names FILE] [--with-names]",
         short: "a board's text or job, to the page of its bundles on standard output",
         long: "\
 The page is a listing to clip to the unit, for boards on the drafting grid (`grid yes` in the text):
@@ -233,9 +234,13 @@ with a space between them; a line has 76 bytes, its newline among them.
 
 With a PLAN the page is that of the sheet drawn from it.
 
+With `--with-names` a blank line and the names stand behind the page: a line for each bundle, with its id, its
+name and from which ports to which it leads, as `B4 time code: 2:1, 5:11, 5:12 → 7:1`; then the names of
+nodes, ports and edges, as `bundles explain` tells them. The lines of the page itself stay as they are.
+
 A board that is not said to be on the grid has no page: it is refused with 16, if with nothing else, and it is
 told on which line that is said, and how many of its numbers are off the grid. Where the board is refused, standard output stays empty, and the refusal is told on standard error, with names
-where there are some: the page itself has no place for them.",
+where there are some.",
     },
     Command {
         name: "picture",

@@ -1,7 +1,7 @@
 //! The tool's commands for what is printed beside an answer.
 
 use bundle_stage::{Answer, Buffers, Crossing, Wanted, Written};
-use bundles::explain::explain_crossings;
+use bundles::explain::{explain_crossings, named};
 
 use crate::Done;
 use crate::draw::{done, tell};
@@ -26,14 +26,32 @@ pub fn crossings(name: &str, settings: Settings<'_>) -> Result<Done, String> {
     )
 }
 
-/// The bundle page of a board, from its text or its job. A refusal is told, and there is no page.
+/// The bundle page of a board, from its text or its job, and behind it the names, if they are asked for. A
+/// refusal is told, and there is no page.
 pub fn page(name: &str, settings: Settings<'_>) -> Result<Done, String> {
     written(
         name,
         settings,
         |of| of.with_page(),
-        |written, _| Ok(written.page.unwrap_or_default().to_vec()),
+        |written, loaded| {
+            let mut page = written.page.unwrap_or_default().to_vec();
+            if settings.with_names && written.page.is_some() {
+                page.extend(names_behind(written, loaded)?);
+            }
+            Ok(page)
+        },
     )
+}
+
+/// What stands behind a page, one blank line between the two: the names, and what each bundle leads to.
+fn names_behind(written: &Written<'_>, loaded: &Loaded) -> Result<Vec<u8>, String> {
+    match Answer::from_bytes(written.answer).map_err(of(&loaded.name))? {
+        Answer::Drawn(sheet) => {
+            let names = named(&loaded.board()?, &sheet, &loaded.names);
+            Ok(format!("\n{names}").into_bytes())
+        }
+        Answer::Refused(_) => Ok(Vec::new()),
+    }
 }
 
 /// What is wanted, as bytes of what was written, on standard output; and the answer told.

@@ -2,12 +2,13 @@
 
 use crate::help;
 
-/// What stands behind a command's `--title`, `--names` and `--plan`.
+/// What stands behind a command's `--title`, `--names` and `--plan`, and whether it has `--with-names`.
 #[derive(Clone, Copy, Default)]
 pub struct Settings<'a> {
     pub title: Option<&'a str>,
     pub names: Option<&'a str>,
     pub plan: Option<&'a str>,
+    pub with_names: bool,
 }
 
 /// The help that is asked for by a flag, wherever it stands: of the first word that is a command, or of
@@ -46,6 +47,10 @@ pub fn settings<'a>(words: &[&'a str]) -> Result<(Vec<&'a str>, Settings<'a>), S
             "--title" => &mut settings.title,
             "--names" => &mut settings.names,
             "--plan" => &mut settings.plan,
+            "--with-names" => {
+                settings.with_names = true;
+                continue;
+            }
             // Refused below.
             _ => continue,
         };

@@ -139,7 +139,20 @@ fn from_nothing() {
         repository.read("target/proof/crates.txt"),
         "stage_c staticlib: low\nlow:\n"
     );
-    for end in ["html", "svg", "page.txt", "explained.txt", "job", "answer"] {
+    let page = repository.read("target/run/clock-board.page.txt");
+    let named = repository.read("target/run/clock-board.named-page.txt");
+    let behind = named.strip_prefix(&page).expect("the page, and more");
+    assert!(behind.starts_with("\nB1 "), "{behind}");
+    let ends = [
+        "html",
+        "svg",
+        "page.txt",
+        "named-page.txt",
+        "explained.txt",
+        "job",
+        "answer",
+    ];
+    for end in ends {
         let result = format!("target/run/clock-board.{end}");
         assert!(repository.at(&result).is_file(), "{end}");
         assert!(said.contains(&result), "{said}");

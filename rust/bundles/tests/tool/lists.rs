@@ -2,7 +2,7 @@
 
 use std::fs;
 
-use super::{NO_JOB, bundles, clock_board, example, folder, out, text};
+use super::{NO_JOB, bundles, clock_board, example, failed, folder, out, text};
 
 /// Document 02, F-4: the page of a board on the grid, from its text and from its job.
 #[test]
@@ -45,6 +45,30 @@ fn a_bundle_page() {
         said.contains("refused with 5, ") && said.contains("is 999, and at most 255"),
         "{said}"
     );
+}
+
+/// Names stand behind the page, where they are asked for: its own lines stay.
+#[test]
+fn a_bundle_page_with_names() {
+    let page = text(fs::read(example("clock-board.page.txt")).expect("an example"));
+    let words = ["page", "--with-names", &example("clock-board.txt")];
+    let named = text(out(0, &words, b""));
+    let behind = named.strip_prefix(&page).expect("the page first");
+    assert!(behind.starts_with("\nB1 references: 1:1 → 4:1, 4:2, 4:3, 4:4\n"));
+    assert!(behind.contains("\nB4 time code: 2:1, 5:11, 5:12 → 7:1\n"));
+    assert!(behind.contains("\nnode 5: timestamp unit\n  5:1: holdover\n"));
+    assert!(behind.ends_with("\nnode 8: alarm output\n"), "{behind}");
+    // A job has none, but for those of a file; of a board that is refused there is nothing.
+    let job = example("clock-board.job");
+    let ids = text(out(0, &["page", &job, "--with-names"], b""));
+    assert!(ids.ends_with("\nB6: 5:13, 5:14 → 8:1\n"), "{ids}");
+    let names = folder("page-names").write("names", "edge 71 \"trigger\"\n");
+    let words = ["page", &job, "--with-names", "--names", &names];
+    assert!(text(out(0, &words, b"")).ends_with("8:1\nedge 71: trigger\n"));
+    assert!(out(1, &["page", "--with-names"], NO_JOB).is_empty());
+    // Of this command alone.
+    let said = failed(&["crossings", &job, "--with-names"]);
+    assert!(said.contains("no flag `--with-names`"), "{said}");
 }
 
 /// Document 02, F-7: the list of crossings, with names where there are some.
