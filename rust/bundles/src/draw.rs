@@ -9,7 +9,7 @@ use bundles::explain::{counted, places, spent_words};
 use bundles::loose::{self, Loose};
 
 use crate::Done;
-use crate::files::{Loaded, called, load, of, out};
+use crate::files::{Given, Loaded, called, load, of, out};
 use crate::plans::plan_of;
 use crate::usage::Settings;
 
@@ -138,6 +138,9 @@ pub fn located(answer: &Answer, loaded: &Loaded, plan: Option<&[u8]>) -> String 
     let Answer::Refused(refusal) = answer else {
         return String::new();
     };
+    if let Some(words) = loaded.instead.map(Given::words) {
+        return format!("  this is {words}\n");
+    }
     let mut wanted = asked(*refusal);
     wanted.plan = plan;
     let refused = locate_with(&loaded.job, &wanted);

@@ -4,7 +4,7 @@ use std::fmt::Display;
 use std::fs::File;
 use std::io::{self, Read, Write};
 
-use bundle_stage::{Answer, Board};
+use bundle_stage::{Answer, Board, Plan};
 use bundles::lines::Lines;
 use bundles::names::Names;
 use bundles::text;
@@ -21,12 +21,22 @@ pub struct Loaded {
     pub job: Vec<u8>,
     pub names: Names,
     pub lines: Lines,
+    /// What is given in the place of a job.
+    pub instead: Option<Given>,
 }
 
 impl Loaded {
     pub fn board(&self) -> Result<Board, String> {
-        Board::from_bytes(&self.job)
-            .map_err(|malformed| format!("{}: no whole job: {malformed}", called(&self.name)))
+        Board::from_bytes(&self.job).map_err(|malformed| {
+            self.no_job()
+                .unwrap_or(format!("{}: no whole job: {malformed}", called(&self.name)))
+        })
+    }
+
+    /// Words that say of what is no job what it is.
+    pub fn no_job(&self) -> Option<String> {
+        let words = self.instead?.words();
+        Some(format!("{}: no job, but {words}", called(&self.name)))
     }
 }
 
@@ -46,7 +56,10 @@ pub fn load_up_to(most: usize, name: &str, names: Option<&str>) -> Result<Loaded
             (loaded.names, loaded.lines) = (text.names, text.lines);
         }
         Err(wrong) if name.ends_with(".txt") => return Err(of(name)(wrong)),
-        Err(_) => job.truncate(most),
+        Err(_) => {
+            loaded.instead = Given::of(&job).filter(|given| given.is_no_input());
+            job.truncate(most);
+        }
     }
     if let Some(file) = names {
         let text = read(file)?;
@@ -68,24 +81,72 @@ pub fn answer(name: &str) -> Result<Answer, String> {
     let bytes = read(name)?;
     Answer::from_bytes(&bytes).map_err(|malformed| {
         let file = called(name);
-        match other(&bytes) {
-            Some(what) => format!(
-                "{file}: no answer, but {what}: `bundles draw` makes an answer of it, and `bundles picture` \
-                 a picture"
+        match Given::of(&bytes) {
+            Some(Given::Plan) => format!("{file}: no answer, but {}", Given::Plan.words()),
+            Some(given) => format!(
+                "{file}: no answer, but {}: `bundles draw` makes an answer of it, and `bundles picture` \
+                 a picture",
+                given.name()
             ),
             None => format!("{file}: no answer: {malformed}"),
         }
     })
 }
 
-/// What is given in the place of an answer or a plan.
-pub fn other(bytes: &[u8]) -> Option<&'static str> {
-    // An answer and a plan begin with a length that has a zero byte.
-    let is_text = !bytes.contains(&0) && str::from_utf8(bytes).is_ok();
-    if is_text && !bytes.is_empty() {
-        Some("a text")
-    } else {
-        Board::from_bytes(bytes).ok().map(|_| "a job")
+/// What bytes are, that may be given in the place of others.
+#[derive(Clone, Copy, Debug, Eq, PartialEq)]
+pub enum Given {
+    Text,
+    Job,
+    Answer,
+    /// The answer to a job that is refused, or what stands for its plan.
+    Notice,
+    Plan,
+}
+
+impl Given {
+    pub fn of(bytes: &[u8]) -> Option<Given> {
+        // All but a text begin with a length that has a zero byte.
+        let is_text = !bytes.contains(&0) && str::from_utf8(bytes).is_ok();
+        if is_text && !bytes.is_empty() {
+            return Some(Given::Text);
+        }
+        if Board::from_bytes(bytes).is_ok() {
+            return Some(Given::Job);
+        }
+        match Answer::from_bytes(bytes) {
+            Ok(Answer::Drawn(_)) => Some(Given::Answer),
+            Ok(Answer::Refused(_)) => Some(Given::Notice),
+            Err(_) => Plan::from_bytes(bytes).ok().map(|_| Given::Plan),
+        }
+    }
+
+    /// Nothing is drawn of it.
+    fn is_no_input(self) -> bool {
+        !matches!(self, Given::Text | Given::Job)
+    }
+
+    pub fn name(self) -> &'static str {
+        match self {
+            Given::Text => "a text",
+            Given::Job => "a job",
+            Given::Answer => "an answer",
+            Given::Notice => "the notice of a refusal",
+            Given::Plan => "a plan",
+        }
+    }
+
+    /// Its name, and which command is for it.
+    pub fn words(self) -> String {
+        let what = self.name();
+        match self {
+            Given::Text | Given::Job => what.to_string(),
+            Given::Answer | Given::Notice => format!("{what}: `bundles explain` tells it in words"),
+            Given::Plan => format!(
+                "{what}: `bundles explain --plan` tells it in words, and `bundles draw --plan` draws a job \
+                 from it"
+            ),
+        }
     }
 }
 

@@ -6,7 +6,7 @@ use bundles::loose;
 
 use crate::Done;
 use crate::draw::{done, ends, located, tell};
-use crate::files::{called, load, of, other, out, read};
+use crate::files::{Given, called, load, of, out, read};
 use crate::usage::Settings;
 
 /// The plan of a job. A notice that stands for it is told.
@@ -44,19 +44,17 @@ pub fn plan_of(settings: Settings<'_>, job: &str) -> Result<Option<Vec<u8>>, Str
 /// plan itself the stage says.
 fn plan_bytes(name: &str) -> Result<Vec<u8>, String> {
     let bytes = read(name)?;
-    let what = match Plan::from_bytes(&bytes) {
-        Ok(_) => None,
-        Err(_) => other(&bytes),
+    let given = Given::of(&bytes).filter(|_| Plan::from_bytes(&bytes).is_err());
+    let of = match given {
+        Some(Given::Text | Given::Job) => "it",
+        Some(Given::Answer) => "its job",
+        // A notice may stand for a plan.
+        _ => return Ok(bytes),
     };
-    match what {
-        None => Ok(bytes),
-        Some(what) => {
-            let file = called(name);
-            Err(format!(
-                "{file}: no plan, but {what}: `bundles plan` makes a plan of it"
-            ))
-        }
-    }
+    let (file, what) = (called(name), given.map_or("", Given::name));
+    Err(format!(
+        "{file}: no plan, but {what}: `bundles plan` makes a plan of {of}"
+    ))
 }
 
 /// A plan in words, and what comes of it on the job.

@@ -59,7 +59,8 @@ fn held(
     let plan = plan_of(settings, job)?;
     let answer = answer(name)?;
     let loaded = load(job, settings.names)?;
-    own::check(&loaded, (name, &answer), plan.as_deref())?;
+    own::check(&loaded, (name, &answer), plan.as_deref())
+        .map_err(|words| loaded.no_job().unwrap_or(words))?;
     Ok((loaded, answer, plan))
 }
 

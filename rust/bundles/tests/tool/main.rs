@@ -206,12 +206,23 @@ fn what_fails() {
         (&["help", "print"], "no command `print`"),
         (&["draw", "not-there.job"], "not-there.job: "),
         (&["pack", &job], "the bytes are no text"),
-        (&["unpack", &other], "no whole job: byte "),
+        (
+            &["unpack", &other],
+            "board.answer: no job, but an answer: `bundles explain` tells",
+        ),
         (
             &["explain", &job],
             "no answer, but a job: `bundles draw` makes",
         ),
         (&["explain", &other, &job], "is not the answer to"),
+        (
+            &["svg", &other, &other],
+            "board.answer: no job, but an answer: ",
+        ),
+        (
+            &["draw", "--plan", &other, &job],
+            "no plan, but an answer: `bundles plan` makes a plan of its job",
+        ),
         (&["svg", &job, &other], "is not the answer to"),
         (&["svg", "-", "-"], "cannot both"),
         (&["svg", "-", "-", "--title", "a"], "cannot both"),

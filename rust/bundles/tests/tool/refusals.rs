@@ -19,6 +19,37 @@ fn a_refusal() {
     assert!(page.contains("refused with 1"), "{page}");
 }
 
+/// An answer or a plan in the place of a job: the stage's notice is written, and it is said what it is.
+#[test]
+fn no_job_but_something_else() {
+    let folder = folder("no-job");
+    let plan = out(0, &["plan", &example("clock-board.job")], b"");
+    let plan = folder.write("plan", plan);
+    let notice = folder.write("notice", NOTICE);
+    for (file, what) in [
+        (
+            &example("clock-board.answer"),
+            "an answer: `bundles explain` tells",
+        ),
+        (&notice, "the notice of a refusal: `bundles explain` tells"),
+        (&plan, "a plan: `bundles explain --plan` tells"),
+    ] {
+        for command in ["draw", "plan", "picture", "html", "page", "crossings"] {
+            let refused = bundles(&[command, file], b"");
+            assert_eq!(refused.status.code(), Some(1), "{command} {file}");
+            let said = text(refused.stderr);
+            assert!(said.contains("refused with "), "{said}");
+            assert!(said.contains(&format!("\n  this is {what}")), "{said}");
+            assert!(!said.contains("byte "), "{said}");
+        }
+    }
+    let said = failed(&["explain", &plan]);
+    assert!(
+        said.contains("no answer, but a plan: `bundles explain --plan`"),
+        "{said}"
+    );
+}
+
 /// Names stand in refusals of every command that draws, or are refused themselves.
 #[test]
 fn names_beside_a_job() {
