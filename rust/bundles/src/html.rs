@@ -37,10 +37,17 @@ pub fn html_from(planned: &Planned<'_>, sheet: &Sheet) -> Result<String, Unclear
     Ok(page(&picture, &ways, planned.title))
 }
 
-/// The page of a finished sheet of which no picture would be clear: the words that say so.
-pub fn html_unclear(unclear: &Unclear, title: &str) -> String {
+/// The page of a finished sheet of which no picture would be clear: the words that say so. What it has can be
+/// searched all the same, and its ways are told.
+pub fn html_unclear(
+    unclear: &Unclear,
+    (board, sheet): (&Board, &Sheet),
+    names: &Names,
+    title: &str,
+) -> String {
     let words = escaped(&unclear.to_string());
-    page(&format!("<p class=\"warning\">{words}</p>"), &[], title)
+    let words = format!("<p class=\"warning\">{words}</p>");
+    page(&words, &ways(board, Some(sheet), names), title)
 }
 
 /// The page of a board that was refused: its nodes, ports and routes as they were given, and its bundles by

@@ -132,7 +132,7 @@ pub fn followed(name: &str, settings: Settings<'_>) -> Result<Done, String> {
                 None => html(&board, sheet, names, title),
             };
             if let Err(unclear) = &page {
-                out(html_unclear(unclear, title).as_bytes())?;
+                out(html_unclear(unclear, (&board, sheet), names, title).as_bytes())?;
             }
             page.map_err(of(&loaded.name))?
         }

@@ -11,9 +11,9 @@ let shown = null;
 // ---- what is lifted
 
 function show(way) {
-  if (!svg) return;
   shown = way;
-  lift(way);
+  // Where no picture would be clear there are only words.
+  if (svg) lift(way);
   told.replaceChildren();
   if (!way) return;
   line(way.name, "name");

@@ -20,7 +20,7 @@ mod twice;
 use std::fs;
 
 use bundle_stage::Board;
-use bundles::html::html;
+use bundles::html::{html, html_unclear};
 use bundles::names::Names;
 use bundles::svg::svg;
 use bundles::text;
@@ -64,6 +64,38 @@ fn largest() -> Board {
 fn the_clock_board() {
     let (board, names) = example("clock-board");
     drive("clock-board", &drawn(&board, &names, "clock-board"), 12);
+}
+
+/// A board of which no picture would be clear: search, address and keys tell its ways, and nothing else.
+#[test]
+fn words_alone() {
+    let text = "port_stub 0\nroute_lane_gap 3\nedge_node_clearance 5\n\
+        minimum_parallel_wire_spacing 2\nmember_endpoint_reserve 2\n\
+        node 1 \"unit\" at 0,0 size 10,10\nnode 2 at 100,0 size 10,10\nnode 3 at 50,5 size 10,10\n\
+        port 1:1 east 5\nport 2:1 west 5\nport 3:1 north 5\n\
+        edge 1 \"sync\" from 1:1 to 2:1 via 10,5 100,5\n";
+    let text = text::read_all(text.as_bytes()).expect("a board");
+    let (board, sheet) = (&text.board, text.board.draw().expect("a sheet"));
+    let unclear = html(board, &sheet, &text.names, "words").expect_err("unclear");
+    let page = html_unclear(&unclear, (board, &sheet), &text.names, "words");
+    let Some(mut page) = Page::open("words-alone", &page) else {
+        return;
+    };
+    assert_eq!(page.keys.len(), 3 + 3 + 1);
+    let edge = page.browser.value("ways[6].name + ways[6].words.join('')");
+    page.browser.value("find.focus() + ''");
+    page.browser.ask("Input.insertText", "\"text\":\"sync\"");
+    page.browser.key("Enter");
+    assert_eq!(page.browser.value("told.textContent"), edge);
+    assert_eq!(page.browser.value("location.hash"), "#edge-1");
+    for key in ["Escape", "+", "0", "ArrowDown"] {
+        page.browser.key(key);
+    }
+    page.browser
+        .value("document.getElementById('none').click() + ''");
+    assert_eq!(page.browser.value("told.textContent"), "");
+    page.browser.value("(location.hash = '#node-1') + ''");
+    while !page.browser.value("told.textContent").contains("unit") {}
 }
 
 /// The two bundles that share routes, alone.

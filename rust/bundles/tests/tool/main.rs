@@ -184,6 +184,11 @@ fn no_clear_picture() {
         page.0
             .contains("<p class=\"warning\">no picture, as it would mislead")
     );
+    assert!(
+        page.0.contains("{key:\"route-1\",name:\"edge 1"),
+        "{}",
+        page.0
+    );
     assert!(page.0.ends_with("</html>\n"));
 }
 
