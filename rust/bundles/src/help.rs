@@ -239,8 +239,8 @@ name and from which ports to which it leads, as `B4 time code: 2:1, 5:11, 5:12 â
 nodes, ports and edges, as `bundles explain` tells them. The lines of the page itself stay as they are.
 
 A board that is not said to be on the grid has no page: it is refused with 16, if with nothing else, and it is
-told on which line that is said, and how many of its numbers are off the grid. Where the board is refused, standard output stays empty, and the refusal is told on standard error, with names
-where there are some.",
+told on which line that is said, and how many of its numbers are off the grid. Where the board is refused,
+standard output stays empty, and the refusal is told on standard error, with names where there are some.",
     },
     Command {
         name: "picture",

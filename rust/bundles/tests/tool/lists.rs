@@ -111,3 +111,30 @@ x    y    bundle  edge
     assert!(refused.stdout.is_empty());
     assert!(text(refused.stderr).contains("refused with 1, "));
 }
+
+/// Where the stage has no list it is told how many crossings there are, and where the most are.
+#[test]
+fn too_many_crossings() {
+    let mut board = String::from(
+        "port_stub 20\nroute_lane_gap 10\nedge_node_clearance 0\nminimum_parallel_wire_spacing 0\n\
+         member_endpoint_reserve 20\npermit_crossings yes\nnode 1 at 0,0 size 40,100\n\
+         port 1:1 east 50\nbundle 7 \"spine\" at 1:1 input width 1\n",
+    );
+    // 17 wires that go up and down over the spine, the first of them 62 times and the others 63.
+    for edge in 0..17 {
+        let x = 42.0 + f64::from(edge) / 4.0;
+        let points = (0..if edge == 0 { 63 } else { 64 }).map(|turn| match turn % 2 {
+            0 => format!(" {x},-10"),
+            _ => format!(" {x},110"),
+        });
+        let points = points.collect::<String>();
+        board.push_str(&format!("edge {edge} from 1:1 to 1:1 via{points}\n"));
+    }
+    let refused = bundles(&["crossings"], board.as_bytes());
+    assert_eq!(refused.status.code(), Some(1));
+    assert!(refused.stdout.is_empty());
+    let said = text(refused.stderr);
+    let due = "\n  lines 9, 11: there are 1070 crossings; the most of a bundle, 1070, are of bundle 7 (spine), \
+               and the most of an edge, 63, of edge 1\n";
+    assert!(said.contains(due), "{said}");
+}
