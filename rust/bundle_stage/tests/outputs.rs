@@ -90,6 +90,17 @@ fn crossed(places: impl IntoIterator<Item = f64>) -> Board {
     board
 }
 
+/// Wires that go up and down over the spine: 16 of 63 runs, and one of so many.
+fn winding(last: usize) -> Board {
+    let mut board = crossed((0..17).map(|place| 70.5 + f64::from(place)));
+    for (place, edge) in board.edges[2..].iter_mut().enumerate() {
+        let runs = if place < 16 { 63 } else { last };
+        let (up, down) = (edge.points[0], edge.points[1]);
+        edge.points = [up, down].into_iter().cycle().take(runs + 1).collect();
+    }
+    board
+}
+
 /// Document 02, F-7: the list by y, then x, then edge; none where crossings are forbidden; 19 above 1,024,
 /// before 16.
 #[test]
@@ -128,22 +139,22 @@ fn the_list_of_crossings() {
     let mut forbidden = board.clone();
     forbidden.flags.permit_crossings = false;
     assert_eq!(forbidden.draw_with(&wanted), Err(Refusal::ForbiddenContact));
-    // Wires that go up and down over the spine: 16 of 63 runs, and one of the rest.
-    let winding = |last: usize| {
-        let mut board = crossed((0..17).map(|place| 70.5 + f64::from(place)));
-        for (place, edge) in board.edges[2..].iter_mut().enumerate() {
-            let runs = if place < 16 { 63 } else { last };
-            let (up, down) = (edge.points[0], edge.points[1]);
-            edge.points = [up, down].into_iter().cycle().take(runs + 1).collect();
-        }
-        board
-    };
     let most = winding(16);
     let drawn = most.draw_with(&wanted).expect("drawn");
     assert_eq!(drawn.crossings.expect("a list").len(), 1_024);
     let more = winding(17);
     assert!(more.draw().is_ok());
     assert_eq!(more.draw_with(&wanted), Err(Refusal::TooManyCrossings));
+    let both = wanted.with_page();
+    assert_eq!(most.draw_with(&both), Err(Refusal::PageOffGrid));
+    assert_eq!(more.draw_with(&both), Err(Refusal::TooManyCrossings));
+}
+
+/// How many there are, and where the most are.
+#[test]
+fn too_many_crossings() {
+    let wanted = Wanted::default().with_crossings();
+    let (most, more) = (winding(16), winding(17));
     let job = more.to_bytes().expect("small");
     let refused = locate_with(&job, &wanted).expect("too many");
     assert_eq!(refused.refusal, Refusal::TooManyCrossings);
@@ -159,9 +170,32 @@ fn the_list_of_crossings() {
     let sheet = most.draw().expect("drawn");
     let list = most.crossings(&sheet, None);
     assert_eq!(list.map(|list| list.len()), Some(limits::CROSSINGS));
-    let both = wanted.with_page();
-    assert_eq!(most.draw_with(&both), Err(Refusal::PageOffGrid));
-    assert_eq!(more.draw_with(&both), Err(Refusal::TooManyCrossings));
+}
+
+/// Where a page is wanted of a board that is not said to be on the grid: which numbers are off it.
+#[test]
+fn no_bundle_page() {
+    let wanted = Wanted::default().with_page();
+    let board = board();
+    let said = |board: &Board| {
+        let job = board.to_bytes().expect("small");
+        locate_with(&job, &wanted).expect("off the grid").places[0].to_string()
+    };
+    assert_eq!(
+        said(&board),
+        "grid is no; all numbers of the board are on the drafting grid"
+    );
+    let mut off = board.clone();
+    off.nodes[1].x += 0.01;
+    assert_eq!(
+        said(&off),
+        "grid is no; one number is off the drafting grid, the x of node 2"
+    );
+    off.nodes[1].width += 0.01;
+    assert_eq!(
+        said(&off),
+        "grid is no; 2 numbers are off the drafting grid, first the x of node 2"
+    );
 }
 
 #[test]
@@ -207,24 +241,6 @@ fn the_bundle_page() {
     assert_eq!((nothing.page, nothing.sheet), (None, drawn.sheet));
     board.flags.on_grid = false;
     assert_eq!(board.draw_with(&wanted), Err(Refusal::PageOffGrid));
-    let said = |board: &Board| {
-        let job = board.to_bytes().expect("small");
-        locate_with(&job, &wanted).expect("off the grid").places[0].to_string()
-    };
-    assert_eq!(
-        said(&board),
-        "grid is no; all numbers of the board are on the drafting grid"
-    );
-    let mut off = board.clone();
-    off.nodes[1].x += 0.01;
-    assert!(
-        said(&off).starts_with("grid is no; one number is off the drafting grid, the x of node 2")
-    );
-    off.nodes[1].width += 0.01;
-    assert!(
-        said(&off)
-            .starts_with("grid is no; 2 numbers are off the drafting grid, first the x of node 2")
-    );
     assert!(board.draw_with(&Wanted::default()).is_ok());
     let last = board.edges.len() - 1;
     board.edges[last].points.truncate(1);
