@@ -57,7 +57,7 @@ use drawn::strokes;
 use facts::Facts;
 use field::field;
 use head::Head;
-use labels::{Labels, labels};
+use labels::{Labels, Unnamed, labels};
 use legend::Legend;
 use loose::Crosses;
 use page::{MARGIN, PAPERS, Page};
@@ -196,8 +196,8 @@ fn picture(scene: Scene, head: &Head, ink: &str, said: Option<String>) -> Result
 /// A page that is clear.
 struct Drawn {
     svg: String,
-    /// The places of the nodes whose names have no room on the sheet.
-    unnamed: Vec<usize>,
+    /// What has a name for which there is no room on the sheet.
+    unnamed: Vec<Unnamed>,
     /// How many ends that are not at their ports have no room for their crosses.
     uncrossed: usize,
 }
@@ -255,7 +255,7 @@ fn drawn(pages: &Pages<'_>, one: Try, most: usize, ink: &str) -> Option<Result<D
     }
     Some(Ok(Drawn {
         svg,
-        unnamed: labels.nodes,
+        unnamed: labels.unnamed,
         uncrossed,
     }))
 }
@@ -294,7 +294,9 @@ fn page_of(
     if let Some(tried) = &scene.tried {
         svg.push_str(&tried.draw(scene, page.width - MARGIN / 2.0));
     }
-    let note = note(scene, (&labels, crosses.left_out), page);
+    let unnamed = legend.unlisted(&labels.unnamed);
+    let without = [("ids", &labels.left_out), ("names", &unnamed)];
+    let note = note(scene, (&without, crosses.left_out), page);
     svg.push_str(&legend.draw(corner(MARGIN, page.bottom), inner, &note));
     (svg + "</svg>\n", labels)
 }
@@ -319,7 +321,11 @@ const NOT_TO_SCALE: &str =
     "Not to scale: the sheet is stretched where lines are near to each other.";
 
 /// The last line of the page.
-fn note(scene: &Scene, (labels, crosses): (&Labels, usize), page: &Page) -> String {
+fn note(
+    scene: &Scene,
+    (without, crosses): (&[(&str, &Vec<String>)], usize),
+    page: &Page,
+) -> String {
     let [across, down] = page.scale.map(|scale| number_of(1.0 / scale));
     let mut note = if !page.is_to_scale() {
         NOT_TO_SCALE.to_string()
@@ -328,7 +334,7 @@ fn note(scene: &Scene, (labels, crosses): (&Labels, usize), page: &Page) -> Stri
     } else {
         format!("1 mm is {across} of the sheet across, {down} down.")
     };
-    for (what, of) in [("ids", &labels.left_out), ("names", &labels.unnamed)] {
+    for (what, of) in without {
         if !of.is_empty() {
             note.push_str(&format!(" No room for the {what} of {}.", of.join(", ")));
         }

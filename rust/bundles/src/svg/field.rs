@@ -218,18 +218,18 @@ pub fn placed(field: &mut Field, wishes: &[Wish], sizes: &[f64]) -> (Vec<Label>,
 }
 
 /// Replaces labels by longer ones of the same things, where there is room; `longer` has one, or none, for
-/// each wish that the labels were placed by. Says how many were replaced.
+/// each wish that the labels were placed by. Says which were replaced, by the places of their things.
 pub fn lengthen(
     field: &mut Field,
     labels: &mut [Label],
     longer: &[Option<Wish>],
     sizes: &[f64],
-) -> usize {
+) -> Vec<usize> {
     let nowhere = Point {
         x: f64::INFINITY,
         y: f64::INFINITY,
     };
-    let mut replaced = 0;
+    let mut replaced = Vec::new();
     for label in labels {
         let Some(Wish { text, spots, .. }) = &longer[label.wish] else {
             continue;
@@ -240,7 +240,7 @@ pub fn lengthen(
         let mut all = sizes.flat_map(|size| spots(*size));
         if let Some(spot) = all.find(|spot| field.free(spot)) {
             (label.text, label.spot) = (text.clone(), spot);
-            replaced += 1;
+            replaced.push(label.place);
         }
         field.taken[label.taken].0 = label.spot.rect;
     }

@@ -1,5 +1,7 @@
 //! Ids, where they fit, and names, where there is still room then.
 
+use std::collections::BTreeSet;
+
 use bundle_stage::{Endpoint, Id, Node, Point};
 
 use crate::explain::counted;
@@ -29,18 +31,23 @@ pub struct Labels {
     /// Bundles that have none, and of which something is drawn: no picture may have these.
     pub bundles: Vec<Id>,
     pub left_out: Vec<String>,
-    /// Ports and edges whose names have no room, in words.
-    pub unnamed: Vec<String>,
-    /// The places of the nodes whose names have no room.
-    pub nodes: Vec<usize>,
+    pub unnamed: Vec<Unnamed>,
+}
+
+/// A thing whose name has no room on the sheet, by its place in the scene.
+#[derive(Clone, Copy, Eq, Ord, PartialEq, PartialOrd)]
+pub enum Unnamed {
+    Node(usize),
+    Port(usize),
+    Route(usize),
 }
 
 /// The labels of a kind, and how many have no room.
 struct Kind {
     labels: Vec<Label>,
     missing: usize,
-    /// How many names have no room.
-    unnamed: usize,
+    /// The places of what is labelled with its name.
+    named: Vec<usize>,
 }
 
 /// The wishes for ids, each with that for id and name where there is one.
@@ -61,14 +68,13 @@ impl Wishes {
         Kind {
             labels,
             missing,
-            unnamed: 0,
+            named: Vec::new(),
         }
     }
 
     /// Adds names where there is room.
     fn name(&self, field: &mut Field, kind: &mut Kind) {
-        let named = self.named.iter().flatten().count();
-        kind.unnamed = named - lengthen(field, &mut kind.labels, &self.named, self.sizes);
+        kind.named = lengthen(field, &mut kind.labels, &self.named, self.sizes);
     }
 }
 
@@ -82,25 +88,50 @@ pub fn labels(scene: &Scene, strokes: &[Stroke], pens: &Pens, field: &mut Field)
         port_ids(scene, pens),
     ];
     let mut kinds = all.each_ref().map(|wishes| wishes.placed(field));
-    let (names, nodes) = node_names(scene, field, &kinds[2].labels);
+    let names = node_names(scene, field, &kinds[2].labels);
     // Ports last: their names are the longest, and there are most of them.
     for turn in [2, 0, 3, 4] {
         all[turn].name(field, &mut kinds[turn]);
     }
     let what = ["bundle", "bundle", "node", "edge", "port"];
-    let words = |count: fn(&Kind) -> usize, places: &[usize]| {
-        let counts = places.iter().map(|&at| (count(&kinds[at]), what[at]));
-        let counts = counts.filter(|(count, _)| *count > 0);
-        counts.map(|(count, what)| counted(count, what)).collect()
-    };
+    let counts = [0, 2, 3, 4].map(|at| (kinds[at].missing, what[at]));
+    let counts = counts.into_iter().filter(|(count, _)| *count > 0);
+    let shown = [
+        named(&names),
+        kinds[4].named.clone(),
+        kinds[3].named.clone(),
+    ];
     Labels {
         frames: frames(&kinds).map(frame).collect(),
         bundles: without(scene, &kinds[0]),
-        left_out: words(|kind| kind.missing, &[0, 2, 3, 4]),
-        unnamed: words(|kind| kind.unnamed, &[3, 4]),
+        left_out: counts.map(|(count, what)| counted(count, what)).collect(),
+        unnamed: unnamed(scene, &shown),
         svg: drawn(scene, &kinds, &names),
-        nodes,
     }
+}
+
+fn named(names: &[Label]) -> Vec<usize> {
+    names.iter().map(|label| label.place).collect()
+}
+
+/// Nodes, ports and routes that have a name of which none is at these places.
+fn unnamed(scene: &Scene, [nodes, ports, routes]: &[Vec<usize>; 3]) -> Vec<Unnamed> {
+    let records = &scene.records;
+    let kinds: [(_, _, fn(usize) -> Unnamed); 3] = [
+        (&records.nodes, nodes, Unnamed::Node),
+        (&records.ports, ports, Unnamed::Port),
+        (&records.routes, routes, Unnamed::Route),
+    ];
+    let mut all = Vec::new();
+    for (records, shown, of) in kinds {
+        let shown = shown.iter().copied().collect::<BTreeSet<_>>();
+        let records = records.iter().enumerate();
+        let without = records.filter(|(place, record)| {
+            scene.names.of(record.item).is_some() && !shown.contains(place)
+        });
+        all.extend(without.map(|(place, _)| of(place)));
+    }
+    all
 }
 
 /// One for each bundle.
@@ -178,22 +209,15 @@ fn port_ids(scene: &Scene, pens: &Pens) -> Wishes {
     Wishes::of(wishes, &PORTS)
 }
 
-/// The names of nodes, and the places of the nodes whose names have no room.
-fn node_names(scene: &Scene, field: &mut Field, ids: &[Label]) -> (Vec<Label>, Vec<usize>) {
+/// The names of nodes, where there is room.
+fn node_names(scene: &Scene, field: &mut Field, ids: &[Label]) -> Vec<Label> {
     let wishes = ids.iter().filter_map(|id| {
         let node = &scene.nodes[id.place];
         let name = scene.names.said(scene.records.nodes[id.place].item)?;
         Some(name_wish(id.place, node, id.spot, &name))
     });
     let wishes = wishes.collect::<Vec<_>>();
-    let (names, _) = placed(field, &wishes, &NAMES);
-    let nodes = scene.records.nodes.iter().enumerate();
-    let nodes = nodes.filter(|(place, record)| {
-        let shown = names.iter().any(|label| label.place == *place);
-        scene.names.of(record.item).is_some() && !shown
-    });
-    let without = nodes.map(|(place, _)| place).collect();
-    (names, without)
+    placed(field, &wishes, &NAMES).0
 }
 
 /// All labels as SVG.

@@ -5,16 +5,18 @@ use std::collections::BTreeSet;
 use bundle_stage::{Endpoint, Point, Role};
 
 use super::head::{LINE, TEXT, broken};
-use super::labels::{pill_at, pill_size};
+use super::labels::{Unnamed, pill_at, pill_size};
 use super::loose::cross;
 use super::palette::{BLACK, WARNING, colour, mark};
 use super::paths::marked;
 use super::pens::HEAVIEST;
+use super::records::Record;
 use super::scene::{Mark, Route, Scene, Trunk};
 use super::shapes::ring;
 use super::stroke::Stroke;
 use super::tried::dashed;
 use super::xml::{BOLD, mm, wide, words};
+use crate::explain::counted;
 use crate::loose::End;
 
 /// For the bundles, where there are many.
@@ -42,11 +44,13 @@ pub struct Legend {
     signs: Vec<Sign>,
     bundles: Vec<Sign>,
     said: Option<String>,
+    /// The things whose names stand here.
+    listed: BTreeSet<Unnamed>,
 }
 
 impl Legend {
-    /// `named` are the places of the nodes whose names have no room on the sheet.
-    pub fn of(scene: &Scene, named: &BTreeSet<usize>, said: Option<String>) -> Legend {
+    /// `named` are the things whose names have no room on the sheet.
+    pub fn of(scene: &Scene, named: &BTreeSet<Unnamed>, said: Option<String>) -> Legend {
         let size = if scene.trunks.len() > MANY {
             SMALL
         } else {
@@ -54,12 +58,36 @@ impl Legend {
         };
         let bundles = scene.trunks.iter().enumerate();
         let bundles = bundles.map(|(place, trunk)| bundle(scene, place, trunk, size));
-        let named = named.iter().filter_map(|place| node(scene, *place));
+        let (mut signs, mut listed) = (signs(scene), BTreeSet::new());
+        let mut long = 0.0;
+        for one in named {
+            let Some(sign) = name(scene, *one) else {
+                continue;
+            };
+            // Nodes, which come first, all stand here.
+            long += sign.width();
+            if matches!(one, Unnamed::Node(_)) || long < MOST_NAMES {
+                signs.push(sign);
+                listed.insert(*one);
+            }
+        }
         Legend {
-            signs: signs(scene).into_iter().chain(named).collect(),
+            signs,
             bundles: bundles.collect(),
             said,
+            listed,
         }
+    }
+
+    /// Of things whose names have no room on the sheet those whose names do not stand here either.
+    pub fn unlisted(&self, named: &[Unnamed]) -> Vec<String> {
+        let without = named.iter().filter(|one| !self.listed.contains(one));
+        let without = without.collect::<Vec<_>>();
+        let ports = without.iter().filter(|one| matches!(one, Unnamed::Port(_)));
+        let ports = ports.count();
+        let counts = [(without.len() - ports, "edge"), (ports, "port")];
+        let counts = counts.into_iter().filter(|(count, _)| *count > 0);
+        counts.map(|(count, what)| counted(count, what)).collect()
     }
 
     pub fn height(&self, width: f64) -> f64 {
@@ -185,6 +213,32 @@ fn bundle(scene: &Scene, place: usize, trunk: &Trunk, size: f64) -> Sign {
         start: at.x + pill_size(&name, size).0 + 1.0,
         size,
         text: format!("{called}{way}; {role}, {inside}, width {}", trunk.width),
+    }
+}
+
+/// No more names of ports and edges stand in the legend than go into some lines of the first paper, in
+/// millimetres: more would take the sheet's room.
+const MOST_NAMES: f64 = 2_400.0;
+
+/// A thing's id, and its name beside it.
+fn name(scene: &Scene, of: Unnamed) -> Option<Sign> {
+    let of_record = |record: &Record, sample: String| {
+        let name = scene.names.said(record.item)?;
+        Some(Sign {
+            sample,
+            start: SAMPLE + GAP,
+            size: TEXT,
+            text: format!("{} {name}", record.item),
+        })
+    };
+    match of {
+        Unnamed::Node(place) => node(scene, place),
+        Unnamed::Port(place) => of_record(&scene.records.ports[place], SQUARE.to_string()),
+        Unnamed::Route(place) => {
+            let route = &scene.routes[place];
+            let ink = route.input.or(route.output).map_or(BLACK, colour);
+            of_record(&scene.records.routes[place], thin("M0 0H10", ink))
+        }
     }
 }
 

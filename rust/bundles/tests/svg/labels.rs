@@ -1,4 +1,4 @@
-//! Names on the sheet: every node's, there or in the legend, and no label on a line.
+//! Names on the sheet: all there or in the legend, or counted, and no label on a line.
 
 use std::collections::BTreeSet;
 
@@ -141,7 +141,55 @@ fn all_named(picture: &str, board: &Board, names: &Names) -> usize {
         let listed = legend.iter().any(|of| of.words == name);
         assert!(shown || listed, "{name}");
     }
+    let listed = legend.iter().map(|of| &of.words[..]).collect();
+    assert_eq!(neither(&elements, &listed, board, names), counted(legend));
     on_sheet.len()
+}
+
+/// The names of how many edges and ports are neither on the sheet nor in the legend, which has these words.
+fn neither(
+    elements: &[Element],
+    listed: &BTreeSet<&str>,
+    board: &Board,
+    names: &Names,
+) -> [usize; 2] {
+    let ids = ["edge-id", "port-id"].map(|class| of_class(elements, class));
+    let labels = ids.iter().flatten();
+    let on_sheet = labels.map(|label| (label.value("data-of"), &label.words[..]));
+    let on_sheet = on_sheet.collect::<BTreeSet<_>>();
+    let is_neither = |key: &str, short: &str, long: &str| {
+        !on_sheet.contains(&(key, short)) && !listed.contains(long)
+    };
+    let edges = board.edges.iter().map(|edge| edge.id).filter(|id| {
+        let Some(name) = names.edge(*id) else {
+            return false;
+        };
+        let said = format!("{id} {name}");
+        is_neither(&format!("route-{id}"), &said, &format!("edge {said}"))
+    });
+    let ports = board.ports.iter().filter(|port| {
+        let (node, id) = (port.node, port.id);
+        let Some(name) = names.port(node, id) else {
+            return false;
+        };
+        let long = format!("port {node}:{id} {name}");
+        is_neither(&format!("port-{node}-{id}"), &format!("{id} {name}"), &long)
+    });
+    [edges.count(), ports.count()]
+}
+
+/// How many names of edges and ports the last line says have no room.
+fn counted(legend: &[Element]) -> [usize; 2] {
+    let notes = of_class(legend, "note").into_iter();
+    let note = notes.map(|line| &line.words[..]).collect::<Vec<_>>();
+    let note = note.join(" ");
+    let said = note.split("No room for the names of ").nth(1);
+    let said = said.and_then(|rest| rest.split('.').next()).unwrap_or("");
+    ["edge", "port"].map(|what| {
+        let mut parts = said.split(", ").filter_map(|part| part.split_once(' '));
+        let count = parts.find(|(_, of)| of.trim_end_matches('s') == what);
+        count.map_or(0, |(count, _)| count.parse().expect("a count"))
+    })
 }
 
 #[test]
@@ -159,8 +207,9 @@ fn names_of_the_clock_board() {
         assert!(picture.contains(words), "{words}");
     }
     none_covered(&checked(&picture));
-    // The one name that has no room is counted, and is there under the pointer.
-    assert!(picture.contains("No room for the names of 1 port."));
+    // The one name that has no room stands in the legend, and is there under the pointer.
+    assert!(picture.contains(">port 5:13 pulse missing</text>"));
+    assert!(!picture.contains("No room"));
     assert!(picture.contains("<title>port 5:13 pulse missing</title>"));
     // Names move no line but the marks of bundles, which keep clear of labels.
     let plain = bundles::svg::svg(&board, &sheet, &Names::default(), "named").expect("clear");
@@ -183,6 +232,18 @@ fn long_names_are_listed() {
     assert!(all_named(&picture, &board, &names) < board.nodes.len());
     none_covered(&checked(&picture));
     assert_eq!(false_joint(&picture, &board, &sheet), Ok(()));
+    // More than the legend has room for are counted; it takes those of ports first.
+    let elements = elements(&picture);
+    let listed = |what: &str| {
+        let lines = elements.iter().filter(|of| of.words.starts_with(what));
+        lines.count()
+    };
+    let [edges, _] = counted(&elements);
+    assert!(
+        listed("port 4:") > 8 && edges > 0,
+        "{} {edges}",
+        listed("port 4:")
+    );
 }
 
 #[test]
