@@ -94,15 +94,26 @@ pub struct Spot {
     pub node: Option<usize>,
     /// Inside that node.
     pub inside: bool,
-    /// It may lie over a node.
-    pub over: bool,
+    pub over: Over,
     /// The bundle on whose trunk it may stand.
     pub on: Option<usize>,
+    /// It stands away from that trunk, and is to be nearer to it than to any other.
+    pub away: bool,
     /// From below upwards.
     pub turned: bool,
     /// The height of its letters.
     pub size: f64,
     pub anchor: Anchor,
+}
+
+/// What of nodes that are not its own it may lie over.
+#[derive(Clone, Copy, PartialEq, PartialOrd)]
+pub enum Over {
+    Nothing,
+    /// Their ground.
+    Ground,
+    /// Their sides too.
+    Sides,
 }
 
 /// Where the words begin or end.
@@ -119,8 +130,9 @@ impl Spot {
             rect,
             node: None,
             inside: false,
-            over: false,
+            over: Over::Nothing,
             on: None,
+            away: false,
             turned: false,
             size,
             anchor: Anchor::Middle,
@@ -151,15 +163,39 @@ impl Field {
         })
     }
 
+    /// Whether it lies in each node that it meets.
+    fn hides_no_side(&self, spot: &Spot) -> bool {
+        let mut nodes = self.nodes.iter();
+        nodes.all(|node| !node.meets(&spot.rect) || spot.rect.within(node))
+    }
+
+    /// Whether it is nearer to the trunk of its bundle than to any other.
+    fn is_of_its_trunk(&self, spot: &Spot) -> bool {
+        let nearest = |own: bool| {
+            let trunks = self.taken.iter().filter(|(_, of)| of.is_some());
+            let trunks = trunks.filter(|(_, of)| (*of == spot.on) == own);
+            let apart = trunks.map(|(rect, _)| rect.apart(&spot.rect));
+            apart.fold(f64::INFINITY, f64::min)
+        };
+        nearest(true) + NEARER < nearest(false)
+    }
+
     pub fn free(&self, spot: &Spot) -> bool {
         let mut taken = self.taken.iter();
+        let is_clear = match spot.over {
+            Over::Nothing => self.is_of_its_node(spot),
+            Over::Ground => self.hides_no_side(spot),
+            Over::Sides => true,
+        };
         spot.rect.within(&self.page)
-            && (spot.over || self.is_of_its_node(spot))
+            && is_clear
+            && (!spot.away || self.is_of_its_trunk(spot))
             && !taken.any(|(rect, of)| (of.is_none() || *of != spot.on) && rect.meets(&spot.rect))
     }
 }
 
-/// How much nearer a label beside its node is to it than to any other node, in millimetres.
+/// How much nearer a label beside its node is to it than to any other node, in millimetres, and one that stands
+/// away from its trunk to that.
 const NEARER: f64 = 0.3;
 
 /// A thing to be labelled: its words and its places, best first.
@@ -179,14 +215,15 @@ pub struct Label {
     taken: usize,
 }
 
-/// Labels for as many wishes as can be, as few of them over nodes and as many inside theirs, at the largest size
-/// that allows it. Says how many are left out.
+/// Labels for as many wishes as can be, as few of them over the sides of nodes or over nodes and as many inside
+/// theirs, at the largest size that allows it. Says how many are left out.
 pub fn placed(field: &mut Field, wishes: &[Wish], sizes: &[f64]) -> (Vec<Label>, usize) {
     let before = field.taken.len();
     let worth = |labels: &[Label]| {
-        let over = labels.iter().filter(|label| label.spot.over);
-        let inside = labels.iter().filter(|label| label.spot.inside);
-        (labels.len(), Reverse(over.count()), inside.count())
+        let count = |of: fn(&Spot) -> bool| labels.iter().filter(|one| of(&one.spot)).count();
+        let sides = Reverse(count(|spot| spot.over == Over::Sides));
+        let over = Reverse(count(|spot| spot.over > Over::Nothing));
+        (labels.len(), sides, over, count(|spot| spot.inside))
     };
     let mut best: Vec<Label> = Vec::new();
     for size in sizes {
@@ -217,8 +254,8 @@ pub fn placed(field: &mut Field, wishes: &[Wish], sizes: &[f64]) -> (Vec<Label>,
     (best, left_out)
 }
 
-/// Replaces labels by longer ones of the same things, where there is room; `longer` has one, or none, for
-/// each wish that the labels were placed by. Says which were replaced, by the places of their things.
+/// Replaces labels by longer ones of the same things, where there is room that is no worse; `longer` has one, or none,
+/// for each wish that the labels were placed by. Says which were replaced, by the places of their things.
 pub fn lengthen(
     field: &mut Field,
     labels: &mut [Label],
@@ -237,7 +274,8 @@ pub fn lengthen(
         // Its own place is free for it.
         field.taken[label.taken].0 = Rect::of(nowhere, nowhere, 0.0);
         let sizes = sizes.iter().filter(|size| **size <= label.spot.size);
-        let mut all = sizes.flat_map(|size| spots(*size));
+        let all = sizes.flat_map(|size| spots(*size));
+        let mut all = all.filter(|spot| spot.over <= label.spot.over);
         if let Some(spot) = all.find(|spot| field.free(spot)) {
             (label.text, label.spot) = (text.clone(), spot);
             replaced.push(label.place);

@@ -2,7 +2,7 @@
 
 use bundle_stage::{Node, Point, Side};
 
-use super::field::{Anchor, Rect, Spot, Wish, moved};
+use super::field::{Anchor, Over, Rect, Spot, Wish, moved};
 use super::labels::{AROUND, NODES, pill_size};
 use super::pens::Pens;
 use super::scene::{Port, Route, Trunk, corners};
@@ -268,7 +268,8 @@ pub fn is_long(trunk: &Trunk) -> bool {
 }
 
 /// On the spine or the collector, else beside them; over a node only where there is nowhere else, as where a
-/// trunk at the far side of its node lies over it, and never with the second id, at the port.
+/// trunk at the far side of its node lies over it; over its side only where there is no room some millimetres away
+/// from the trunk either. The second id, at the port, is never over one.
 pub fn bundle_wish(place: usize, trunk: &Trunk, end: End, pens: &Pens, text: &str) -> Wish {
     let parts = [trunk.spine, trunk.collector].map(|part| Piece {
         start: part.start,
@@ -282,16 +283,23 @@ pub fn bundle_wish(place: usize, trunk: &Trunk, end: End, pens: &Pens, text: &st
             let (width, height) = pill_size(&text, size);
             let box_of = (width + 2.0 * AROUND, height + 2.0 * AROUND);
             let rects = bundle_rects(&parts, end, half, box_of);
-            let on = |over: bool| {
+            let on = |over: Over| {
                 move |rect: &Rect| Spot {
                     on: Some(place),
                     over,
                     ..Spot::new(*rect, size)
                 }
             };
-            let outside = rects.iter().map(on(false));
-            let over = rects.iter().filter(|_| end == End::Collector);
-            outside.chain(over.map(on(true))).collect()
+            if end == End::Port {
+                return rects.iter().map(on(Over::Nothing)).collect();
+            }
+            let away = away(&parts, half, box_of);
+            let away = away.iter().map(on(Over::Nothing));
+            let away = away.map(|spot| Spot { away: true, ..spot });
+            let clear = [Over::Nothing, Over::Ground].into_iter();
+            let clear = clear.flat_map(|over| rects.iter().map(on(over)));
+            let sides = rects.iter().map(on(Over::Sides));
+            clear.chain(away).chain(sides).collect()
         }
     };
     Wish {
@@ -331,6 +339,19 @@ fn bundle_rects(
     }
     for part in &boxes {
         rects.extend(at_corners(part, width, height));
+    }
+    rects
+}
+
+/// Places around a bundle, but not right beside it.
+fn away([spine, collector]: &[Piece; 2], half: f64, (width, height): (f64, f64)) -> Vec<Rect> {
+    let mut rects = Vec::new();
+    for far in [1.0, 2.0, 3.0, 4.0] {
+        for part in [collector, spine] {
+            let around = trunk_box(part, half + far);
+            rects.extend(beside(&around, width, height));
+            rects.extend(at_corners(&around, width, height));
+        }
     }
     rects
 }

@@ -1,14 +1,14 @@
 //! Nodes in a picture that is read back: each reads as one, and its id and name as its own.
 
-use bundle_stage::{Board, Node, Sheet};
+use bundle_stage::{Answer, Board, Node, Sheet};
 use bundles::names::Names;
 use bundles::text;
 
 use super::apart::{SEEN, Shown, false_joint};
-use super::labels::letters;
+use super::labels::{frames, letters};
 use super::ports::squares;
 use super::read::{Element, Line, lines};
-use super::{board, checked, of_class, svg};
+use super::{board, checked, each_stored, of_class, svg};
 
 /// The bodies of the nodes, by their ids in the picture.
 fn bodies(elements: &[Element]) -> Vec<(String, Line)> {
@@ -217,4 +217,59 @@ fn a_node_without_height() {
         assert!(full || tall < 0.45 || white > 0.19, "{beside}: {white}");
         assert!(squares(&elements, &board).is_empty());
     }
+}
+
+/// The frames of bundles' ids that lie over a side of a node.
+fn over_sides(elements: &[Element]) -> usize {
+    let bodies = bodies(elements);
+    let hides = |frame: &Line| {
+        let mut bodies = bodies.iter().map(|(_, body)| body);
+        bodies.any(|body| apart(frame, body) == 0.0 && !within(frame, body))
+    };
+    frames(elements).iter().filter(|frame| hides(frame)).count()
+}
+
+/// A bundle of little room beside the upper side of its node: its id stands above both.
+#[test]
+fn no_frame_over_a_side() {
+    let text = "port_stub 5\nroute_lane_gap 4\nedge_node_clearance 0\n\
+                minimum_parallel_wire_spacing 4\nmember_endpoint_reserve 5\n\
+                node 1139918578 at -50,13 size 20,12\nnode 1173006753 at 766,31 size 20,64\n\
+                node 1206094928 at -70,83 size 40,12\nnode 1239183103 at 733,-400 size 10,10\n\
+                node 1272271278 at 733,225 size 10,10\n\
+                port 1139918578:1 east 6\nport 1173006753:1 west 6\nport 1206094928:1 east 6\n\
+                port 1173006753:2 west 58\nport 1239183103:1 south 5\nport 1272271278:1 north 5\n\
+                edge 554755230 from 1139918578:1 to 1173006753:1 via -30,19 112,19 112,31 632,31 632,37 766,37\n\
+                edge 562617241 from 1139918578:1 to 1173006753:1 via -30,19 103,19 103,25 182,25 182,37 766,37\n\
+                edge 570479252 from 1206094928:1 to 1173006753:2 via -30,89 766,89\n\
+                edge 578341263 from 1206094928:1 to 1173006753:2 via -30,89 172,89 172,95 763,95 763,89 766,89\n\
+                edge 586203274 from 1206094928:1 to 1173006753:2 via -30,89 -2,89 -2,101 762,101 762,89 766,89\n\
+                edge 594065285 from 1239183103:1 to 1272271278:1 via 738,-390 738,225\n\
+                bundle 3733973493 at 1139918578:1 input width 2 members 554755230@0 562617241@1\n\
+                bundle 3746591752 at 1173006753:1 output width 4 members 554755230@0 562617241@1\n";
+    let board = text::read(text.as_bytes()).expect("a board");
+    let sheet = board.draw().expect("a sheet");
+    let picture = svg(&board, &sheet, "above");
+    assert_eq!(false_joint(&picture, &board, &sheet), Ok(()));
+    let elements = checked(&picture);
+    assert_eq!(frames(&elements).len(), 3);
+    assert_eq!(over_sides(&elements), 0);
+}
+
+/// Only where nothing else has room is such a frame over a node's side: nowhere on these.
+#[test]
+fn no_frames_over_sides_of_stored_boards() {
+    let (mut all, mut over) = (0, 0);
+    each_stored("stored/jobs.bin", |board, answer| {
+        let Answer::Drawn(sheet) = answer else {
+            return;
+        };
+        if let Ok(picture) = bundles::svg::svg(board, sheet, &Names::default(), "sides") {
+            let elements = checked(&picture);
+            all += frames(&elements).len();
+            over += over_sides(&elements);
+        }
+    });
+    println!("{over} of {all} frames over sides of nodes");
+    assert!(all > 100 && over == 0, "{over} of {all}");
 }
