@@ -188,8 +188,8 @@ The page is one file that needs nothing else: open it with a browser. It has the
 `bundles svg`. Point at a bundle, a route, a node or a port, and its way from unit to port is lifted,
 the rest is dimmed, and the way is told in words; a click or a tap of the finger keeps it so. Of another
 bundle on the way, as in a chain, only the stretch between its port and the taps on the way is lifted, where
-wires leave it elsewhere too; that is told. The search takes names and ids, as `5:11`, `edge 41` or `B4 time code`; of what it finds it lists twelve, and says how
-many more there are. Wheel, two fingers, `+` and `-` zoom;
+wires leave it elsewhere too; that is told. The search takes names and ids, as `5:11`, `edge 41` or `B4 time code`, words in any order; of what it finds it lists twelve, and says how
+many more there are, or that there is nothing. Wheel, two fingers, `+` and `-` zoom;
 dragging and the arrows move; Page Up and Page Down move the words where they are longer than their place, and so do
 the arrows while the words have the focus; `0` shows the whole sheet, Tab goes from one thing to the next, the bundles first
 in the order of the legend, Enter or Space chooses, Escape shows all again, `/` goes to the search. What search, Tab or address choose is brought into

@@ -40,7 +40,7 @@ function fill(element, text) {
   });
 }
 
-const plain = (text) => text.replace(/[\u2068\u2069]/g, "").toLowerCase();
+const plain = (text) => text.replace(/[\u2068\u2069]/g, "").trim().replace(/\s+/g, " ").toLowerCase();
 
 function lift(way) {
   const lifted = new Set(way ? way.lifted : []);
@@ -48,7 +48,9 @@ function lift(way) {
   svg.classList.toggle("chosen", way !== null);
   for (const old of svg.querySelectorAll(".stretch, .cut")) old.remove();
   for (const part of svg.querySelectorAll("[data-way], [data-of], .tap")) {
-    part.classList.toggle("lifted", lifted.has(part.dataset.of || part.id));
+    // The id and the name of a bundle are lifted with a stretch of it too.
+    const of = part.dataset.of;
+    part.classList.toggle("lifted", lifted.has(of || part.id) || stretches.has(of));
     part.classList.toggle("partly", stretches.has(part.id));
   }
   for (const key of stretches) stretch(document.getElementById(key), lifted);
@@ -109,8 +111,14 @@ function fromAddress() {
     // No text: nothing has such an id.
   }
   chooseFar(hash.replace(/^edge-/, "route-"));
-  if (!hash || chosen) return;
-  line("Nothing here is called \u2068" + hash.replace(/[\u2066-\u2069]/g, "") + "\u2069.", "");
+  if (hash && !chosen) nothing(hash);
+}
+
+// What is not there is said, and nothing stays lifted.
+function nothing(words) {
+  choose("");
+  told.replaceChildren();
+  line("Nothing here is called \u2068" + words.replace(/[\u2066-\u2069]/g, "") + "\u2069.", "");
 }
 
 function wayOf(target) {
@@ -137,15 +145,18 @@ function prepare() {
 
 // ---- search
 
+// What has the words as they stand comes first; then what has words that start so, in any order.
 function matches(words) {
-  const text = plain(words.trim());
+  const text = plain(words);
   if (!text) return [];
   const rank = ({ name, terms }) => {
     const all = [name, ...terms].map(plain);
     if (all.includes(text)) return 0;
-    return all.some((term) => term.includes(text)) ? 1 : 2;
+    if (all.some((term) => term.includes(text))) return 1;
+    const joined = " " + all.join(" ");
+    return text.split(" ").every((word) => joined.includes(" " + word)) ? 2 : 3;
   };
-  const ranked = ways.map((way) => [rank(way), way]).filter(([rank]) => rank < 2);
+  const ranked = ways.map((way) => [rank(way), way]).filter(([rank]) => rank < 3);
   ranked.sort((a, b) => a[0] - b[0]);
   return ranked.map(([, way]) => way);
 }
@@ -165,6 +176,7 @@ function list() {
     found.append(button);
   }
   if (all.length > MOST) found.append(` and ${all.length - MOST} more: a longer word finds fewer`);
+  if (!all.length && plain(find.value)) found.append("Nothing here is called that.");
 }
 
 // ---- zoom and pan
@@ -335,6 +347,7 @@ document.getElementById("search").addEventListener("submit", (event) => {
   event.preventDefault();
   const first = matches(find.value)[0];
   if (first) chooseFar(first.key);
+  else if (plain(find.value)) nothing(find.value.trim());
 });
 document.getElementById("larger").addEventListener("click", () => zoom(0.7));
 document.getElementById("smaller").addEventListener("click", () => zoom(1 / 0.7));

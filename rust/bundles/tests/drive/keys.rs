@@ -130,6 +130,80 @@ impl Page {
             .value("(find.value = '') + list() + find.blur()");
     }
 
+    /// Types words into the search, in place of what stands there.
+    fn types(&mut self, words: &str) {
+        self.browser.value("(find.value = '') + find.focus()");
+        let words = format!("\"text\":\"{words}\"");
+        self.browser.ask("Input.insertText", &words);
+    }
+
+    /// Words are found in any order, with any blanks between them; and where nothing is, that is said, and
+    /// nothing stays lifted.
+    pub fn words_found(&mut self) {
+        let first = "found.querySelector('button')?.textContent + ''";
+        for words in [
+            "B4 time code",
+            "time code B4",
+            "  time   code  b4 ",
+            "code b4 ti",
+        ] {
+            self.types(words);
+            assert_eq!(self.browser.value(first), "bundle 4 time code", "{words}");
+            self.browser.key("Enter");
+            self.seen("bundle-4", words);
+        }
+        let listed = "found.textContent";
+        for words in ["zzz", "time zzz", "ode b4"] {
+            self.browser.value("choose('bundle-4') + ''");
+            self.types(words);
+            let said = self.browser.value(listed);
+            assert_eq!(said, "Nothing here is called that.", "{words}");
+            self.seen("bundle-4", "typing");
+            self.browser.key("Enter");
+            self.seen("all", words);
+            let said = self.browser.value("told.textContent");
+            assert_eq!(said, format!("Nothing here is called {words}."));
+        }
+        // Of blanks alone nothing is said.
+        self.browser.value("choose('node-5') + ''");
+        self.types("  ");
+        assert_eq!(self.browser.value(listed), "");
+        self.browser.key("Enter");
+        self.seen("node-5", "blanks");
+        self.browser
+            .value("(find.value = '') + choose('') + find.blur()");
+    }
+
+    /// What is found is listed over the sheet, which stays where it is, and each of it can be pointed at.
+    pub fn listed_over_the_sheet(&mut self) {
+        for (width, height) in [(1200, 900), (420, 700)] {
+            self.browser.window(width, height);
+            let place = "JSON.stringify(svg.getBoundingClientRect()).replace(/\"/g, '')";
+            let before = self.browser.value(place);
+            for words in ["port", "zzz"] {
+                self.types(words);
+                assert_eq!(self.browser.value(place), before, "{words}");
+                let words = self.browser.value("found.textContent.length + ''");
+                assert_ne!(words, "0");
+            }
+            self.types("port");
+            let hidden = "[...found.querySelectorAll('button')].slice(0, 4).filter((button) => { \
+                          const { x, y, width, height } = button.getBoundingClientRect(); \
+                          return document.elementFromPoint(x + width / 2, y + height / 2) !== button; }) \
+                          .length + ' ' + found.querySelectorAll('button').length";
+            assert_eq!(self.browser.value(hidden), "0 12");
+            self.browser.key("Enter");
+            assert_eq!(self.browser.value(place), before, "Enter");
+            let shown = self
+                .browser
+                .value("found.getBoundingClientRect().height + ''");
+            assert_eq!(shown, "0");
+            self.browser.value("choose('') + find.blur()");
+        }
+        self.browser.window(1200, 900);
+        self.browser.value("(find.value = '') + whole()");
+    }
+
     /// The search has the focus, and no stroke in it.
     pub fn slash(&mut self) {
         self.browser

@@ -284,6 +284,8 @@ fn keys() {
         page.tab();
         page.long_words("node-5");
         page.many_found();
+        page.words_found();
+        page.listed_over_the_sheet();
         page.slash();
         page.held();
     }

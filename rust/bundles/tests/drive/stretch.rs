@@ -38,6 +38,13 @@ const WALK: &str = r#"(id, port, edges) => {
   return count.join(" ");
 }"#;
 
+/// The bundles whose ids on the sheet are not dimmed.
+const LABELLED: &str = r#"(() => {
+  const frames = [...svg.querySelectorAll(".ids [data-of^='bundle-']")];
+  const shown = frames.filter((frame) => getComputedStyle(frame).opacity === "1");
+  return [...new Set(shown.map((frame) => frame.dataset.of))].sort().join(" ");
+})()"#;
+
 impl Page {
     fn walks(&mut self, key: &str, (id, port, edges): (u32, &str, &str)) {
         self.browser.value(&format!("choose('{key}') + ''"));
@@ -55,6 +62,32 @@ impl Page {
         self.browser
             .value("[...told.querySelectorAll('.part')].map((line) => line.textContent).join('|')")
     }
+}
+
+/// The id of a bundle is lifted with its stretch: a line that is lifted would run through a dimmed one.
+#[test]
+fn ids_on_stretches() {
+    let (board, names) = example("clock-board");
+    let Some(mut page) = Page::open("ids", &drawn(&board, &names, "ids")) else {
+        return;
+    };
+    for (key, labelled) in [
+        ("port-5-11", "bundle-4"),
+        ("route-33", "bundle-3 bundle-4"),
+        ("node-7", "bundle-3 bundle-4"),
+        ("bundle-4", "bundle-3 bundle-4"),
+        ("route-71", ""),
+    ] {
+        page.browser.value(&format!("choose('{key}') + ''"));
+        page.seen(key, "choosing");
+        assert_eq!(page.browser.value(LABELLED), labelled, "{key}");
+    }
+    page.browser.value("choose('') + ''");
+    let all = (1..=6).map(|id| format!("bundle-{id}"));
+    assert_eq!(
+        page.browser.value(LABELLED),
+        all.collect::<Vec<_>>().join(" ")
+    );
 }
 
 #[test]
