@@ -36,6 +36,7 @@ mod stretch;
 mod stroke;
 mod tried;
 mod tries;
+mod unnamed;
 mod walk;
 mod white;
 mod wishes;
@@ -57,7 +58,7 @@ use drawn::strokes;
 use facts::Facts;
 use field::field;
 use head::Head;
-use labels::{Labels, Unnamed, labels};
+use labels::{Labels, labels};
 use legend::Legend;
 use loose::Crosses;
 use page::{MARGIN, PAPERS, Page};
@@ -69,6 +70,7 @@ use scene::Scene;
 use shapes::{lines, marks, nodes, square};
 use stroke::Stroke;
 use tries::{Pages, Try, larger, tries};
+use unnamed::{Unnamed, room_on};
 use white::unclear;
 use xml::mm;
 
@@ -181,12 +183,13 @@ fn about(board: &Board, sheet: &Sheet) -> String {
 /// colour of its own; `said` stands below the legend.
 fn picture(scene: Scene, head: &Head, ink: &str, said: Option<String>) -> Result<String, Unclear> {
     // Names for which there is no room stand in the legend, which then takes room itself.
-    let mut named = BTreeSet::new();
+    let (mut named, mut room) = (BTreeSet::new(), 0.0);
     loop {
-        let legend = Legend::of(&scene, &named, said.clone());
+        let legend = Legend::of(&scene, (&named, room), said.clone());
         let drawn = with_legend(&scene, head, &legend, ink)?;
         let before = named.len();
         named.extend(drawn.unnamed);
+        room = f64::max(room, drawn.room);
         if named.len() == before {
             return Ok(drawn.svg);
         }
@@ -198,6 +201,8 @@ struct Drawn {
     svg: String,
     /// What has a name for which there is no room on the sheet.
     unnamed: Vec<Unnamed>,
+    /// How long names of ports and edges in the legend may be in all.
+    room: f64,
     /// How many ends that are not at their ports have no room for their crosses.
     uncrossed: usize,
 }
@@ -256,6 +261,7 @@ fn drawn(pages: &Pages<'_>, one: Try, most: usize, ink: &str) -> Option<Result<D
     Some(Ok(Drawn {
         svg,
         unnamed: labels.unnamed,
+        room: room_on(&page),
         uncrossed,
     }))
 }

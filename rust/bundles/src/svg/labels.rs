@@ -1,7 +1,5 @@
 //! Ids, where they fit, and names, where there is still room then.
 
-use std::collections::BTreeSet;
-
 use bundle_stage::{Endpoint, Id, Node, Point};
 
 use crate::explain::counted;
@@ -12,6 +10,7 @@ use super::pens::{HEAVIEST, Pens};
 use super::records::Record;
 use super::scene::{Scene, Trunk, corners};
 use super::stroke::Stroke;
+use super::unnamed::{Unnamed, unnamed};
 use super::wishes::{End, bundle_wish, edge_wish, is_long, name_wish, node_wish, port_wish};
 use super::xml::{BOLD, mm, wide_bold, words};
 
@@ -32,14 +31,6 @@ pub struct Labels {
     pub bundles: Vec<Id>,
     pub left_out: Vec<String>,
     pub unnamed: Vec<Unnamed>,
-}
-
-/// A thing whose name has no room on the sheet, by its place in the scene.
-#[derive(Clone, Copy, Eq, Ord, PartialEq, PartialOrd)]
-pub enum Unnamed {
-    Node(usize),
-    Port(usize),
-    Route(usize),
 }
 
 /// The labels of a kind, and how many have no room.
@@ -112,26 +103,6 @@ pub fn labels(scene: &Scene, strokes: &[Stroke], pens: &Pens, field: &mut Field)
 
 fn named(names: &[Label]) -> Vec<usize> {
     names.iter().map(|label| label.place).collect()
-}
-
-/// Nodes, ports and routes that have a name of which none is at these places.
-fn unnamed(scene: &Scene, [nodes, ports, routes]: &[Vec<usize>; 3]) -> Vec<Unnamed> {
-    let records = &scene.records;
-    let kinds: [(_, _, fn(usize) -> Unnamed); 3] = [
-        (&records.nodes, nodes, Unnamed::Node),
-        (&records.ports, ports, Unnamed::Port),
-        (&records.routes, routes, Unnamed::Route),
-    ];
-    let mut all = Vec::new();
-    for (records, shown, of) in kinds {
-        let shown = shown.iter().copied().collect::<BTreeSet<_>>();
-        let records = records.iter().enumerate();
-        let without = records.filter(|(place, record)| {
-            scene.names.of(record.item).is_some() && !shown.contains(place)
-        });
-        all.extend(without.map(|(place, _)| of(place)));
-    }
-    all
 }
 
 /// One for each bundle.

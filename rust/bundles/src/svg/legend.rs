@@ -5,7 +5,7 @@ use std::collections::BTreeSet;
 use bundle_stage::{Endpoint, Point, Role};
 
 use super::head::{LINE, TEXT, broken};
-use super::labels::{Unnamed, pill_at, pill_size};
+use super::labels::{pill_at, pill_size};
 use super::loose::cross;
 use super::palette::{BLACK, WARNING, colour, mark};
 use super::paths::marked;
@@ -15,8 +15,8 @@ use super::scene::{Mark, Route, Scene, Trunk};
 use super::shapes::ring;
 use super::stroke::Stroke;
 use super::tried::dashed;
+use super::unnamed::{Unnamed, in_words};
 use super::xml::{BOLD, mm, wide, words};
-use crate::explain::counted;
 use crate::loose::End;
 
 /// For the bundles, where there are many.
@@ -49,8 +49,13 @@ pub struct Legend {
 }
 
 impl Legend {
-    /// `named` are the things whose names have no room on the sheet.
-    pub fn of(scene: &Scene, named: &BTreeSet<Unnamed>, said: Option<String>) -> Legend {
+    /// `named` are the things whose names have no room on the sheet. Those of nodes all stand here, of ports and
+    /// edges those that go into lines of so many millimetres in all.
+    pub fn of(
+        scene: &Scene,
+        (named, room): (&BTreeSet<Unnamed>, f64),
+        said: Option<String>,
+    ) -> Legend {
         let size = if scene.trunks.len() > MANY {
             SMALL
         } else {
@@ -64,9 +69,11 @@ impl Legend {
             let Some(sign) = name(scene, *one) else {
                 continue;
             };
-            // Nodes, which come first, all stand here.
-            long += sign.width();
-            if matches!(one, Unnamed::Node(_)) || long < MOST_NAMES {
+            let is_node = matches!(one, Unnamed::Node(_));
+            if !is_node {
+                long += sign.width();
+            }
+            if is_node || long < room {
                 signs.push(sign);
                 listed.insert(*one);
             }
@@ -79,15 +86,10 @@ impl Legend {
         }
     }
 
-    /// Of things whose names have no room on the sheet those whose names do not stand here either.
+    /// Of these things those whose names do not stand here, in words.
     pub fn unlisted(&self, named: &[Unnamed]) -> Vec<String> {
         let without = named.iter().filter(|one| !self.listed.contains(one));
-        let without = without.collect::<Vec<_>>();
-        let ports = without.iter().filter(|one| matches!(one, Unnamed::Port(_)));
-        let ports = ports.count();
-        let counts = [(without.len() - ports, "edge"), (ports, "port")];
-        let counts = counts.into_iter().filter(|(count, _)| *count > 0);
-        counts.map(|(count, what)| counted(count, what)).collect()
+        in_words(&without.copied().collect::<Vec<_>>())
     }
 
     pub fn height(&self, width: f64) -> f64 {
@@ -215,10 +217,6 @@ fn bundle(scene: &Scene, place: usize, trunk: &Trunk, size: f64) -> Sign {
         text: format!("{called}{way}; {role}, {inside}, width {}", trunk.width),
     }
 }
-
-/// No more names of ports and edges stand in the legend than go into some lines of the first paper, in
-/// millimetres: more would take the sheet's room.
-const MOST_NAMES: f64 = 2_400.0;
 
 /// A thing's id, and its name beside it.
 fn name(scene: &Scene, of: Unnamed) -> Option<Sign> {

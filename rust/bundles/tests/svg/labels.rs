@@ -246,6 +246,22 @@ fn long_names_are_listed() {
     );
 }
 
+/// On a larger page the legend has room for more names.
+#[test]
+fn names_of_a_largest_board() {
+    let job = file("rust/bundles/tests/data/largest-7-0.job");
+    let board = Board::from_bytes(&job).expect("a board");
+    let sheet = board.draw().expect("a sheet");
+    let names = names_for(&board, 12);
+    let picture = bundles::svg::svg(&board, &sheet, &names, "largest").expect("clear");
+    all_named(&picture, &board, &names);
+    let elements = checked(&picture);
+    let listed = |of: &&Element| of.name == "text" && of.words.starts_with("port ");
+    let listed = elements.iter().filter(listed).count();
+    assert!(listed > 200, "{listed}");
+    assert_eq!(false_joint(&picture, &board, &sheet), Ok(()));
+}
+
 #[test]
 fn names_of_stored_boards() {
     let (mut boards, mut on_sheet, mut nodes) = (0, 0, 0);
