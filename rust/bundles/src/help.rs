@@ -168,8 +168,10 @@ lines would be too near to each other, the sheet is stretched across or down, an
 page says how much, or that it is not to scale. An id of a node, port or edge for which there is no room is
 left out, and the last line counts those. Names stand on the sheet where there is room beside the ids without
 covering a line: a node's below its id or beside its box, those of bundles, ports and edges with their ids. Names
-that have no room there stand in the legend; where those of ports and edges would take more than a sixth of the
-page, the last line counts the others. In a browser a line or a box under the pointer says its id and its name.
+that have no room there stand in the legend, where lines with those of ports and edges take a sixth of the page at
+most. Where that takes from an edge the room for its id, or a name has no room, the next larger paper that has room
+for all is taken; where none has, the last line counts what is left out. In a browser a line or a box under the
+pointer says its id and its name.
 
 Without a TITLE the title is the job's name without its end.
 

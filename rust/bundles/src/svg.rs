@@ -28,12 +28,14 @@ mod records;
 mod refused;
 mod rings;
 mod said;
+mod samples;
 mod scene;
 mod shapes;
 mod shifts;
 mod spans;
 mod stretch;
 mod stroke;
+mod taken;
 mod tried;
 mod tries;
 mod unnamed;
@@ -42,7 +44,6 @@ mod white;
 mod wishes;
 mod xml;
 
-use std::collections::BTreeSet;
 use std::fmt;
 
 use bundle_stage::{Board, Point, Sheet};
@@ -54,7 +55,6 @@ use crate::names::Names;
 use crate::text::number;
 pub(crate) use xml::escaped;
 
-use drawn::strokes;
 use facts::Facts;
 use field::field;
 use head::Head;
@@ -69,9 +69,8 @@ use said::{capital, not_joined, on_frames, warnings};
 use scene::Scene;
 use shapes::{lines, marks, nodes, square};
 use stroke::Stroke;
-use tries::{Pages, Try, larger, tries};
-use unnamed::{Unnamed, room_on};
-use white::unclear;
+use taken::picture;
+use unnamed::in_words;
 use xml::mm;
 
 /// Why there is no picture: on no paper could all that does not join be drawn apart.
@@ -179,93 +178,6 @@ fn about(board: &Board, sheet: &Sheet) -> String {
     )
 }
 
-/// On the smallest paper on which all that does not join is drawn apart. `ink` is for what has no
-/// colour of its own; `said` stands below the legend.
-fn picture(scene: Scene, head: &Head, ink: &str, said: Option<String>) -> Result<String, Unclear> {
-    // Names for which there is no room stand in the legend, which then takes room itself.
-    let (mut named, mut room) = (BTreeSet::new(), 0.0);
-    loop {
-        let legend = Legend::of(&scene, (&named, room), said.clone());
-        let drawn = with_legend(&scene, head, &legend, ink)?;
-        let before = named.len();
-        named.extend(drawn.unnamed);
-        room = f64::max(room, drawn.room);
-        if named.len() == before {
-            return Ok(drawn.svg);
-        }
-    }
-}
-
-/// A page that is clear.
-struct Drawn {
-    svg: String,
-    /// What has a name for which there is no room on the sheet.
-    unnamed: Vec<Unnamed>,
-    /// How long names of ports and edges in the legend may be in all.
-    room: f64,
-    /// How many ends that are not at their ports have no room for their crosses.
-    uncrossed: usize,
-}
-
-/// The same with this legend: on the first page that is clear.
-fn with_legend(scene: &Scene, head: &Head, legend: &Legend, ink: &str) -> Result<Drawn, Unclear> {
-    let pages = Pages::of(scene, head, legend);
-    let mut what = String::new();
-    for one in tries() {
-        match drawn(&pages, one, usize::MAX, ink) {
-            Some(Ok(first)) => return Ok(with_crosses(&pages, one.paper(), first, ink)),
-            Some(Err(words)) => what = words,
-            None => {}
-        }
-    }
-    Err(Unclear::on_paper(&what))
-}
-
-/// An end without its cross could be taken for joined: where a page has no room for all of them, the first of
-/// those that have more is taken that has room for most.
-fn with_crosses(pages: &Pages<'_>, paper: usize, first: Drawn, ink: &str) -> Drawn {
-    let mut best = first;
-    let mut others = larger(paper);
-    while best.uncrossed > 0
-        && let Some(one) = others.next()
-    {
-        if let Some(Ok(better)) = drawn(pages, one, best.uncrossed, ink) {
-            best = better;
-        }
-    }
-    best
-}
-
-/// A page with fewer uncrossed ends than so many, or why it is not clear; none where the sheet cannot lie on it.
-fn drawn(pages: &Pages<'_>, one: Try, most: usize, ink: &str) -> Option<Result<Drawn, String>> {
-    let page = pages.page(one)?;
-    let mut scene = pages.scene.clone().moved(|point| page.at(point));
-    let mut pens = Pens::of(&scene);
-    let (strokes, miscounted) = strokes(&mut scene, &mut pens, one.tunnels());
-    // Where others are to be better than one that is clear, few are.
-    let is_better = || loose::left_out(&scene, &strokes) < most;
-    if most < usize::MAX && !is_better() {
-        return None;
-    }
-    if let Some(words) = miscounted.or_else(|| unclear(&scene, &strokes, &pens)) {
-        return Some(Err(words));
-    }
-    let uncrossed = loose::left_out(&scene, &strokes);
-    bodies::widen(&mut scene, &strokes, &pens);
-    let around = (pages.head, pages.legend);
-    let (svg, labels) = page_of(&scene, (&strokes, &pens), around, &page, ink);
-    // A bundle that is not named is followed by its colour alone.
-    if let Some(id) = labels.bundles.first() {
-        return Some(Err(format!("there is no room for the id of bundle {id}")));
-    }
-    Some(Ok(Drawn {
-        svg,
-        unnamed: labels.unnamed,
-        room: room_on(&page),
-        uncrossed,
-    }))
-}
-
 /// All of a page.
 fn page_of(
     scene: &Scene,
@@ -300,7 +212,7 @@ fn page_of(
     if let Some(tried) = &scene.tried {
         svg.push_str(&tried.draw(scene, page.width - MARGIN / 2.0));
     }
-    let unnamed = legend.unlisted(&labels.unnamed);
+    let unnamed = in_words(&legend.unlisted(&labels.unnamed));
     let without = [("ids", &labels.left_out), ("names", &unnamed)];
     let note = note(scene, (&without, crosses.left_out), page);
     svg.push_str(&legend.draw(corner(MARGIN, page.bottom), inner, &note));

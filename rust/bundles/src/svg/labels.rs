@@ -1,5 +1,7 @@
 //! Ids, where they fit, and names, where there is still room then.
 
+use std::collections::BTreeSet;
+
 use bundle_stage::{Endpoint, Id, Node, Point};
 
 use crate::explain::counted;
@@ -30,6 +32,8 @@ pub struct Labels {
     /// Bundles that have none, and of which something is drawn: no picture may have these.
     pub bundles: Vec<Id>,
     pub left_out: Vec<String>,
+    /// The routes whose ids are there, by their places.
+    pub routes: BTreeSet<usize>,
     pub unnamed: Vec<Unnamed>,
 }
 
@@ -96,6 +100,7 @@ pub fn labels(scene: &Scene, strokes: &[Stroke], pens: &Pens, field: &mut Field)
         frames: frames(&kinds).map(frame).collect(),
         bundles: without(scene, &kinds[0]),
         left_out: counts.map(|(count, what)| counted(count, what)).collect(),
+        routes: kinds[3].labels.iter().map(|label| label.place).collect(),
         unnamed: unnamed(scene, &shown),
         svg: drawn(scene, &kinds, &names),
     }

@@ -7,15 +7,13 @@ use bundle_stage::{Endpoint, Point, Role};
 use super::head::{LINE, TEXT, broken};
 use super::labels::{pill_at, pill_size};
 use super::loose::cross;
-use super::palette::{BLACK, WARNING, colour, mark};
-use super::paths::marked;
-use super::pens::HEAVIEST;
+use super::palette::{BLACK, WARNING, colour};
 use super::records::Record;
+use super::samples::{BOX, OPEN_DOT, SAMPLE, SQUARE, crossing, halves, heavy, joint, sample, thin};
 use super::scene::{Mark, Route, Scene, Trunk};
 use super::shapes::ring;
-use super::stroke::Stroke;
 use super::tried::dashed;
-use super::unnamed::{Unnamed, in_words};
+use super::unnamed::Unnamed;
 use super::xml::{BOLD, mm, wide, words};
 use crate::loose::End;
 
@@ -24,7 +22,6 @@ const SMALL: f64 = 2.2;
 /// For what stands below the legend.
 const NOTE: f64 = 0.85 * TEXT;
 const MANY: usize = 12;
-const SAMPLE: f64 = 10.0;
 const GAP: f64 = 2.0;
 
 /// A sample and what it means.
@@ -42,18 +39,27 @@ struct Sign {
 /// for notes.
 pub struct Legend {
     signs: Vec<Sign>,
+    /// The first of these that is a name of a port or an edge.
+    names: usize,
     bundles: Vec<Sign>,
     said: Option<String>,
     /// The things whose names stand here.
     listed: BTreeSet<Unnamed>,
 }
 
+/// What the names of ports and edges have of the legend.
+#[derive(Clone, Copy, Default)]
+pub struct Room {
+    pub width: f64,
+    pub lines: usize,
+}
+
 impl Legend {
     /// `named` are the things whose names have no room on the sheet. Those of nodes all stand here, of ports and
-    /// edges those that go into lines of so many millimetres in all.
+    /// edges those that go into so many lines.
     pub fn of(
         scene: &Scene,
-        (named, room): (&BTreeSet<Unnamed>, f64),
+        (named, room): (&BTreeSet<Unnamed>, Room),
         said: Option<String>,
     ) -> Legend {
         let size = if scene.trunks.len() > MANY {
@@ -64,32 +70,39 @@ impl Legend {
         let bundles = scene.trunks.iter().enumerate();
         let bundles = bundles.map(|(place, trunk)| bundle(scene, place, trunk, size));
         let (mut signs, mut listed) = (signs(scene), BTreeSet::new());
-        let mut long = 0.0;
+        // Nodes come first.
+        let mut nodes = signs.len();
         for one in named {
             let Some(sign) = name(scene, *one) else {
                 continue;
             };
+            signs.push(sign);
             let is_node = matches!(one, Unnamed::Node(_));
-            if !is_node {
-                long += sign.width();
+            nodes += usize::from(is_node);
+            if !is_node && taken(&signs, nodes, room.width) > room.lines {
+                signs.pop();
+                break;
             }
-            if is_node || long < room {
-                signs.push(sign);
-                listed.insert(*one);
-            }
+            listed.insert(*one);
         }
         Legend {
             signs,
+            names: nodes,
             bundles: bundles.collect(),
             said,
             listed,
         }
     }
 
-    /// Of these things those whose names do not stand here, in words.
-    pub fn unlisted(&self, named: &[Unnamed]) -> Vec<String> {
+    /// In how many lines of a legend of this width names of ports and edges stand.
+    pub fn lines_of_names(&self, width: f64) -> usize {
+        taken(&self.signs, self.names, width)
+    }
+
+    /// Of these things those whose names do not stand here.
+    pub fn unlisted(&self, named: &[Unnamed]) -> Vec<Unnamed> {
         let without = named.iter().filter(|one| !self.listed.contains(one));
-        in_words(&without.copied().collect::<Vec<_>>())
+        without.copied().collect()
     }
 
     pub fn height(&self, width: f64) -> f64 {
@@ -171,6 +184,12 @@ fn flow(signs: &[Sign], width: f64) -> (Vec<(f64, usize)>, usize) {
     (places, if signs.is_empty() { 0 } else { row + 1 })
 }
 
+/// In how many lines those from the one with this place on stand.
+fn taken(signs: &[Sign], first: usize, width: f64) -> usize {
+    let (places, lines) = flow(signs, width);
+    places.get(first).map_or(0, |(_, line)| lines - line)
+}
+
 /// The same in columns, from above downwards.
 fn columns(signs: &[Sign], width: f64) -> (Vec<(f64, usize)>, usize) {
     let widest = signs.iter().map(Sign::width).fold(1.0, f64::max);
@@ -234,8 +253,7 @@ fn name(scene: &Scene, of: Unnamed) -> Option<Sign> {
         Unnamed::Port(place) => of_record(&scene.records.ports[place], SQUARE.to_string()),
         Unnamed::Route(place) => {
             let route = &scene.routes[place];
-            let ink = route.input.or(route.output).map_or(BLACK, colour);
-            of_record(&scene.records.routes[place], thin("M0 0H10", ink))
+            of_record(&scene.records.routes[place], sample(route))
         }
     }
 }
@@ -257,9 +275,6 @@ fn node(scene: &Scene, place: usize) -> Option<Sign> {
         text: name,
     })
 }
-
-const BOX: &str = "<rect x=\"0\" y=\"-1.8\" width=\"10\" height=\"3.6\" fill=\"#eeeeee\" \
-                   stroke=\"#222222\" stroke-width=\"0.3\"/>\n";
 
 /// No more ports are named of one bundle.
 const MOST_PORTS: usize = 8;
@@ -337,7 +352,6 @@ fn line_signs(scene: &Scene) -> [Known<'static>; 5] {
     let bundled = !scene.trunks.is_empty();
     let any = |test: fn(&Route) -> bool| bundled && scene.routes.iter().any(test);
     let mut taps = scene.trunks.iter().flat_map(|trunk| &trunk.taps);
-    let halves = thin("M0 0H5", colour(0)) + &thin("M5 0H10", colour(1));
     [
         (bundled, joint(), "joint: a tap on its collector"),
         (true, crossing(), "crossing: no joint"),
@@ -353,35 +367,8 @@ fn line_signs(scene: &Scene) -> [Known<'static>; 5] {
         ),
         (
             any(|route| route.input.is_some() && route.output.is_some()),
-            halves,
+            halves(colour(0), colour(1)),
             "edge in two bundles",
         ),
     ]
-}
-
-const OPEN_DOT: &str = "<circle cx=\"5\" cy=\"0\" r=\"0.9\" fill=\"white\" stroke=\"#222222\" \
-                        stroke-width=\"0.35\"/>\n";
-const SQUARE: &str = "<rect x=\"4.4\" y=\"-0.6\" width=\"1.2\" height=\"1.2\" fill=\"white\" \
-                      stroke=\"#222222\" stroke-width=\"0.3\"/>\n";
-
-fn thin(d: &str, colour: &str) -> String {
-    format!("<path d=\"{d}\" fill=\"none\" stroke=\"{colour}\" stroke-width=\"0.35\"/>\n")
-}
-
-/// A bundle from one place of a sample to another.
-fn heavy(ends: [(f64, f64); 2], place: usize) -> String {
-    let ends = ends.map(|(x, y)| Point { x, y });
-    let stroke = Stroke::new(ends.to_vec(), HEAVIEST, Some(place));
-    marked(&[stroke], HEAVIEST, (colour(place), mark(place)), &[])
-}
-
-fn joint() -> String {
-    let first = colour(0);
-    heavy([(5.0, -1.6), (5.0, 1.6)], 0)
-        + &thin("M5 0H10", first)
-        + &format!("<circle cx=\"5\" cy=\"0\" r=\"1\" fill=\"{first}\"/>\n")
-}
-
-fn crossing() -> String {
-    thin("M5 -1.6V-1.2M5 -0.6V1.6", BLACK) + &thin("M0 0H4.1A0.9 0.9 0 0 1 5.9 0H10", BLACK)
 }

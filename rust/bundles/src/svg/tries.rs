@@ -59,30 +59,24 @@ pub fn larger(paper: usize) -> impl Iterator<Item = Try> {
     })
 }
 
-/// The pages of a sheet, with what stands above and below it.
+/// The pages of a sheet, with what stands above it.
 pub struct Pages<'a> {
     pub scene: &'a Scene,
     pub head: &'a Head,
-    pub legend: &'a Legend,
     /// Worked out where the first pages do not do.
     needs: OnceCell<Option<[Needs; 2]>>,
 }
 
 impl<'a> Pages<'a> {
-    pub fn of(scene: &'a Scene, head: &'a Head, legend: &'a Legend) -> Pages<'a> {
+    pub fn of(scene: &'a Scene, head: &'a Head) -> Pages<'a> {
         let needs = OnceCell::new();
-        Pages {
-            scene,
-            head,
-            legend,
-            needs,
-        }
+        Pages { scene, head, needs }
     }
 
-    /// A page, if the sheet can lie on it so.
-    pub fn page(&self, of: Try) -> Option<Page> {
+    /// A page with this legend, if the sheet can lie on it so.
+    pub fn page(&self, of: Try, legend: &Legend) -> Option<Page> {
         let above = |width: f64| self.head.height(width);
-        let below = |width: f64| self.legend.height(width);
+        let below = |width: f64| legend.height(width);
         match of {
             Try::ToScale(paper, _) => Some(Page::of(self.scene, paper, above, below)),
             Try::Stretched(paper, wide) => {

@@ -5,7 +5,6 @@ use std::collections::BTreeSet;
 use crate::explain::counted;
 
 use super::head::LINE;
-use super::page::Page;
 use super::records::Record;
 use super::scene::Scene;
 
@@ -47,10 +46,10 @@ pub fn in_words(all: &[Unnamed]) -> Vec<String> {
     counts.map(|(count, what)| counted(count, what)).collect()
 }
 
-/// How long the names of ports and edges are in all that stand in the legend of a page, in millimetres: more would
-/// take the sheet's room.
-pub fn room_on(page: &Page) -> f64 {
-    page.width * page.height * SHARE / LINE
+/// How many lines of the legend names of ports and edges take at most on a page of this height: more would take the
+/// sheet's room.
+pub fn lines_on(height: f64) -> usize {
+    (height * SHARE / LINE).floor().max(0.0) as usize
 }
 
 const SHARE: f64 = 1.0 / 6.0;

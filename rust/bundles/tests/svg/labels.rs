@@ -55,7 +55,7 @@ pub fn frames(elements: &[Element]) -> Vec<Line> {
 }
 
 /// A name for everything: short ones, or of so many letters.
-fn names_for(board: &Board, letters: usize) -> Names {
+pub fn names_for(board: &Board, letters: usize) -> Names {
     let mut names = Names::default();
     let name = |what: &str, id: Id| {
         let name = format!("{what}{id}");
@@ -101,7 +101,7 @@ pub fn letters(label: &Element) -> (Line, f64) {
 }
 
 /// No label of a node, port or edge lies on a line.
-fn none_covered(elements: &[Element]) {
+pub fn none_covered(elements: &[Element]) {
     let lines = ["route", "bundle"].map(|class| drawn(elements, class));
     let lines = lines.iter().flatten().flat_map(|of| of.lines.iter());
     let lines = lines.copied().collect::<Vec<_>>();
@@ -128,7 +128,7 @@ fn none_covered(elements: &[Element]) {
 }
 
 /// Every node's name is on the sheet or in the legend. How many are on the sheet.
-fn all_named(picture: &str, board: &Board, names: &Names) -> usize {
+pub fn all_named(picture: &str, board: &Board, names: &Names) -> usize {
     let elements = elements(picture);
     let legend = elements.iter().position(|of| of.value("class") == "legend");
     let legend = &elements[legend.expect("a legend")..];
@@ -179,7 +179,7 @@ fn neither(
 }
 
 /// How many names of edges and ports the last line says have no room.
-fn counted(legend: &[Element]) -> [usize; 2] {
+pub fn counted(legend: &[Element]) -> [usize; 2] {
     let notes = of_class(legend, "note").into_iter();
     let note = notes.map(|line| &line.words[..]).collect::<Vec<_>>();
     let note = note.join(" ");
@@ -221,45 +221,6 @@ fn names_of_the_clock_board() {
             .collect::<Vec<_>>()
     };
     assert_eq!(lines(&picture), lines(&plain));
-}
-
-/// Names that are too long for the sheet stand in the legend.
-#[test]
-fn long_names_are_listed() {
-    let (board, sheet) = example("clock-board");
-    let names = names_for(&board, 60);
-    let picture = bundles::svg::svg(&board, &sheet, &names, "long").expect("clear");
-    assert!(all_named(&picture, &board, &names) < board.nodes.len());
-    none_covered(&checked(&picture));
-    assert_eq!(false_joint(&picture, &board, &sheet), Ok(()));
-    // More than the legend has room for are counted; it takes those of ports first.
-    let elements = elements(&picture);
-    let listed = |what: &str| {
-        let lines = elements.iter().filter(|of| of.words.starts_with(what));
-        lines.count()
-    };
-    let [edges, _] = counted(&elements);
-    assert!(
-        listed("port 4:") > 8 && edges > 0,
-        "{} {edges}",
-        listed("port 4:")
-    );
-}
-
-/// On a larger page the legend has room for more names.
-#[test]
-fn names_of_a_largest_board() {
-    let job = file("rust/bundles/tests/data/largest-7-0.job");
-    let board = Board::from_bytes(&job).expect("a board");
-    let sheet = board.draw().expect("a sheet");
-    let names = names_for(&board, 12);
-    let picture = bundles::svg::svg(&board, &sheet, &names, "largest").expect("clear");
-    all_named(&picture, &board, &names);
-    let elements = checked(&picture);
-    let listed = |of: &&Element| of.name == "text" && of.words.starts_with("port ");
-    let listed = elements.iter().filter(listed).count();
-    assert!(listed > 200, "{listed}");
-    assert_eq!(false_joint(&picture, &board, &sheet), Ok(()));
 }
 
 #[test]

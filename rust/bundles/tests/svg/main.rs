@@ -8,6 +8,7 @@ mod crowds;
 mod labels;
 mod lengths;
 mod letters;
+mod listed;
 mod loose;
 mod marks;
 mod nodes;
