@@ -64,8 +64,8 @@ fn meet(one: &Line, two: &Line) -> bool {
     over(x(one), x(two)) && over(y(one), y(two))
 }
 
-/// The clock board with one of the names for everything.
-fn named(name: &str) -> String {
+/// The clock board with one of the names for everything, below this title.
+fn named(name: &str, title: &str) -> String {
     let (board, sheet) = example("clock-board");
     let mut names = Names::default();
     for node in &board.nodes {
@@ -80,13 +80,13 @@ fn named(name: &str) -> String {
     for bundle in &board.bundles {
         names.set_bundle(bundle.id, name);
     }
-    bundles::svg::svg(&board, &sheet, &names, name).expect("a clear picture")
+    bundles::svg::svg(&board, &sheet, &names, title).expect("a clear picture")
 }
 
 #[test]
 fn wide_letters_keep_to_their_places() {
     for name in NAMES {
-        let picture = named(name);
+        let picture = named(name, name);
         let elements = checked(&picture);
         let mut labels = Vec::new();
         for class in ["node-id", "node-name", "port-id", "edge-id"] {
@@ -120,14 +120,14 @@ fn wide_letters_keep_to_their_places() {
 #[test]
 fn long_words_are_broken() {
     let name = NAMES[4];
-    let picture = named(name);
+    let titled = name.repeat(5);
+    let picture = named(name, &titled);
     let elements = elements(&picture);
-    let width = elements[0].value("width").trim_end_matches("mm");
-    let width = width.parse::<f64>().expect("a number");
+    let width = width(&elements);
     let title = of_class(&elements, "title");
     assert!(title.len() > 1, "one line");
     let whole = title.iter().map(|line| line.words.as_str());
-    assert_eq!(whole.collect::<String>(), name);
+    assert_eq!(whole.collect::<String>(), titled);
     for line in title {
         assert!(
             around(line)[1].0 + long(line) / 2.0 < width - 9.9,
@@ -135,6 +135,29 @@ fn long_words_are_broken() {
             line.words
         );
     }
+    legend_keeps(&elements, name);
+}
+
+/// One name that is longer than a line of the legend.
+#[test]
+fn a_long_word_in_the_legend_is_broken() {
+    let name = NAMES[4].repeat(3);
+    let (board, sheet) = example("clock-board");
+    let mut names = Names::default();
+    names.set_port(board.ports[0].node, board.ports[0].id, &name);
+    let picture = bundles::svg::svg(&board, &sheet, &names, "one").expect("a clear picture");
+    assert!(!picture.contains(&format!("{name}</text>")), "one line");
+    legend_keeps(&elements(&picture), &name);
+}
+
+fn width(elements: &[Element]) -> f64 {
+    let width = elements[0].value("width").trim_end_matches("mm");
+    width.parse::<f64>().expect("a number")
+}
+
+/// The legend ends with the page, and has this name, in several lines or in one.
+fn legend_keeps(elements: &[Element], name: &str) {
+    let width = width(elements);
     let legend = elements.iter().position(|of| of.value("class") == "legend");
     let legend = &elements[legend.expect("a legend")..];
     let (mut start, mut words) = (0.0, String::new());

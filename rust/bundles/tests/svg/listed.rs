@@ -102,15 +102,21 @@ fn long_names_of_edges() {
 #[test]
 fn names_of_several_lines() {
     let (board, sheet) = example("clock-board");
-    let mut names = Names::default();
-    for port in &board.ports {
-        names.set_port(port.node, port.id, &"port name ".repeat(25));
+    for count in [1, 2, 4, 8, 16] {
+        let mut names = Names::default();
+        for port in &board.ports[..count] {
+            names.set_port(port.node, port.id, &"port name ".repeat(40));
+        }
+        let picture = bundles::svg::svg(&board, &sheet, &names, "lines").expect("clear");
+        let elements = checked(&picture);
+        assert_eq!(counted(&elements), [0, 0]);
+        assert_eq!(of_class(&elements, "edge-id").len(), board.edges.len());
+        on_a_sixth(&elements);
+        if count == 1 {
+            assert_eq!(width(&picture), "297mm");
+            assert!(lines_of_names(&elements) > 1, "one line");
+        }
     }
-    let picture = bundles::svg::svg(&board, &sheet, &names, "lines").expect("clear");
-    let elements = checked(&picture);
-    assert_eq!(counted(&elements), [0, 0]);
-    assert_eq!(of_class(&elements, "edge-id").len(), board.edges.len());
-    on_a_sixth(&elements);
 }
 
 /// The sample of an edge in the legend has the colours that the edge has on the sheet.
