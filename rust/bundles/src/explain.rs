@@ -7,7 +7,7 @@ use bundle_stage::{
 
 use crate::joints::Joints;
 use crate::lines::Lines;
-use crate::loose::{End, Loose, on_sheet};
+use crate::loose::{End, Loose, on_board, on_sheet};
 use crate::names::Names;
 use crate::signs::{is_isolate, isolated};
 use crate::text::number;
@@ -68,26 +68,17 @@ pub struct Drawing<'a> {
 }
 
 /// A table of a plan's places, and its visits left. With its job: the bundles' ids and roles, where they
-/// stand on the sheet that is drawn from it, and whether the stage plans the job so today.
+/// stand on the sheet that is drawn from it, what names say of them as in the explanation of an answer, and
+/// whether the stage plans the job so today.
 pub fn explain_plan(plan: &Plan, drawing: Option<&Drawing<'_>>) -> String {
     let mut text = format!("a plan for {}\n", counted(plan.places.len(), "bundle"));
-    let planned = |x: &Option<f64>| x.map_or(from("none: rail"), number);
-    let rows = plan.places.iter().enumerate();
     let fits = drawing.filter(|drawing| drawing.board.bundles.len() == plan.places.len());
     if !plan.places.is_empty() {
-        text.push('\n');
-        text.push_str(&match fits {
-            None => {
-                let head = ["place", "planned x"].map(from);
-                let rows = rows.map(|(place, x)| [(place + 1).to_string(), planned(x)]);
-                table(&[head].into_iter().chain(rows).collect::<Vec<_>>())
-            }
-            Some(drawing) => {
-                let head = ["bundle", "role", "planned x", "drawn", "name"].map(from);
-                let rows = rows.map(|(place, x)| planned_row(drawing, place, planned(x)));
-                table(&[head].into_iter().chain(rows).collect::<Vec<_>>())
-            }
-        });
+        text.push_str(&format!("\n{}", planned_table(plan, fits)));
+    }
+    let named = fits.map_or(String::new(), Drawing::named);
+    if !named.is_empty() {
+        text.push_str(&format!("\n{named}"));
     }
     text.push('\n');
     let granted = drawing.map(|drawing| drawing.board.grants.tap);
@@ -105,6 +96,34 @@ pub fn explain_plan(plan: &Plan, drawing: Option<&Drawing<'_>>) -> String {
         }
     }
     text
+}
+
+impl Drawing<'_> {
+    /// What names say of the sheet that is drawn from the plan, or of the board where it is refused.
+    fn named(&self) -> String {
+        match self.answer {
+            Answer::Drawn(sheet) => named(self.board, sheet, self.names),
+            Answer::Refused(_) => said(self.board, self.names, &on_board(self.board)),
+        }
+    }
+}
+
+/// A line for each place; `fits` is the job that has as many bundles.
+fn planned_table(plan: &Plan, fits: Option<&Drawing<'_>>) -> String {
+    let planned = |x: &Option<f64>| x.map_or(from("none: rail"), number);
+    let rows = plan.places.iter().enumerate();
+    match fits {
+        None => {
+            let head = ["place", "planned x"].map(from);
+            let rows = rows.map(|(place, x)| [(place + 1).to_string(), planned(x)]);
+            table(&[head].into_iter().chain(rows).collect::<Vec<_>>())
+        }
+        Some(drawing) => {
+            let head = ["bundle", "role", "planned x", "drawn", "name"].map(from);
+            let rows = rows.map(|(place, x)| planned_row(drawing, place, planned(x)));
+            table(&[head].into_iter().chain(rows).collect::<Vec<_>>())
+        }
+    }
 }
 
 fn planned_row(drawing: &Drawing<'_>, place: usize, planned: String) -> [String; 5] {
@@ -178,7 +197,11 @@ fn port(at: Endpoint) -> String {
 /// What names say of a sheet: a line for each bundle, with its id, its name and its way; then the names of
 /// the nodes, ports and edges that have one. Nothing where there is neither.
 pub fn named(board: &Board, sheet: &Sheet, names: &Names) -> String {
-    ways(board, names, &on_sheet(board, sheet)) + &records(board, names)
+    said(board, names, &on_sheet(board, sheet))
+}
+
+fn said(board: &Board, names: &Names, loose: &[Loose]) -> String {
+    ways(board, names, loose) + &records(board, names)
 }
 
 /// A line for each bundle: its id, its name and its way.

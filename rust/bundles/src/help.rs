@@ -118,7 +118,8 @@ where the bundle's port is.
 
 With a PLAN in the answer's place the table has a line for each bundle: the x that is planned for it, or
 none. With the JOB it also has the bundle's id and role and where it stands on the sheet that is drawn from
-the plan, and it is said whether the plan is the one that is made for this job, and whether the sheet is
+the plan; then from which ports to which each bundle leads, and the names of nodes, ports and edges, as with an
+answer's JOB; and it is said whether the plan is the one that is made for this job, and whether the sheet is
 accepted, or why it is refused and where.",
     },
     Command {

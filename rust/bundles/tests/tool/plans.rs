@@ -70,6 +70,46 @@ fn a_plan_in_words() {
     );
 }
 
+/// With the job, ways and names are those of the explanation of its answer; where the sheet is refused they are
+/// told too, and where the plan does not fit there are none.
+#[test]
+fn names_beside_a_plan() {
+    let kept = Kept::new("plan-names");
+    let board = clock_board().replace("edge 41 from", "edge 41 \"net 41\" from");
+    let board = kept.folder.write("named.txt", board);
+    let told = |words: &str| {
+        let from = words.find("\nB1").expect("ways");
+        let to = words.find("\ntap visits: ").expect("visits");
+        words[from..to].to_string()
+    };
+    let answer = kept
+        .folder
+        .write("named.answer", out(0, &["draw", &board], b""));
+    let due = told(&text(out(0, &["explain", &answer, &board], b"")));
+    let words = text(out(0, &["explain", "--plan", &kept.file, &board], b""));
+    assert_eq!(told(&words), due, "{words}");
+    assert!(due.contains("\nB4 time code: 2:1, 5:11, 5:12 → 7:1\n"));
+    assert!(due.contains("\n  5:11: time code\n") && due.contains("\nedge 41: net 41\n"));
+    let mut number = kept.plan.clone();
+    (number[10], number[11]) = (0x7f, 0xff);
+    let wrong = kept.folder.write("wrong.plan", number);
+    let words = text(out(1, &["explain", "--plan", &wrong, &board], b""));
+    assert!(
+        words.contains("\ndrawn on this job: refused with 18, "),
+        "{words}"
+    );
+    assert_eq!(told(&words), due, "{words}");
+    let words = text(out(
+        1,
+        &["explain", "--plan", &kept.file, &example("board.job")],
+        b"",
+    ));
+    assert!(
+        words.contains("refused with 17, ") && !words.contains("→"),
+        "{words}"
+    );
+}
+
 /// It fits, is not the plan of that job, and is drawn.
 #[test]
 fn the_plan_of_another_revision() {
