@@ -197,8 +197,9 @@ dragging and the arrows move; Page Up and Page Down move the words where they ar
 the arrows while the words have the focus; `0` shows the whole sheet, Tab goes from one thing to the next, the bundles first
 in the order of the legend, Enter or Space chooses, Escape shows all again, `/` goes to the search. What search, Tab or address choose is brought into
 view. Behind `#` in the address can stand what is chosen: sheet.html#bundle-4, #edge-41, #port-5-11, #node-5.
-Printed it is the picture, on paper of its size. Where no picture would be clear, the page has the words that say so,
-search and ways as else, and the exit code is 2, as with `bundles svg`.
+Printed it is the picture, on paper of its size. Where no picture would be clear, the page has the title, the words that say so
+and those that the picture would have below its title, search and ways as else, and the exit code is 2, as with
+`bundles svg`.
 
 Where an end of a route is not at its port, the way has a cross between the two instead of an arrow, and above
 it stands why.

@@ -37,16 +37,24 @@ pub fn html_from(planned: &Planned<'_>, sheet: &Sheet) -> Result<String, Unclear
     Ok(page(&picture, &ways, planned.title))
 }
 
-/// The page of a finished sheet of which no picture would be clear: the words that say so. What it has can be
-/// searched all the same, and its ways are told.
+/// The page of a finished sheet of which no picture would be clear: its title, the words that say so, and those
+/// that a picture would have below its title. What it has can be searched all the same, and its ways are told.
 pub fn html_unclear(
     unclear: &Unclear,
     (board, sheet): (&Board, &Sheet),
     names: &Names,
     title: &str,
 ) -> String {
-    let words = escaped(&unclear.to_string());
-    let words = format!("<p class=\"warning\">{words}</p>");
+    let line = |class: &str, words: &str| format!("<p class=\"{class}\">{}</p>\n", escaped(words));
+    let mut words = format!("<h1>{}</h1>\n", escaped(title));
+    if let Some(about) = unclear.about() {
+        words.push_str(&line("about", about));
+    }
+    words.push_str(&line("warning", &unclear.to_string()));
+    for warning in unclear.warnings() {
+        words.push_str(&line("warning", warning));
+    }
+    let words = format!("<div class=\"words\">\n{words}</div>\n");
     page(&words, &ways(board, Some(sheet), names), title)
 }
 

@@ -42,9 +42,8 @@ mod unnamed;
 mod walk;
 mod white;
 mod wishes;
+mod without;
 mod xml;
-
-use std::fmt;
 
 use bundle_stage::{Board, Point, Sheet};
 
@@ -61,7 +60,7 @@ use head::Head;
 use labels::{Labels, labels};
 use legend::Legend;
 use loose::Crosses;
-use page::{MARGIN, PAPERS, Page};
+use page::{MARGIN, Page};
 use palette::BLACK;
 use pens::Pens;
 pub use refused::{svg_refused, svg_refused_from};
@@ -71,31 +70,8 @@ use shapes::{lines, marks, nodes, square};
 use stroke::Stroke;
 use taken::picture;
 use unnamed::in_words;
+pub use without::Unclear;
 use xml::mm;
-
-/// Why there is no picture: on no paper could all that does not join be drawn apart.
-#[derive(Clone, Debug, Eq, PartialEq)]
-pub struct Unclear {
-    what: String,
-}
-
-impl Unclear {
-    /// What is still so on the largest paper.
-    fn on_paper(what: &str) -> Unclear {
-        let (long, short) = PAPERS[PAPERS.len() - 1];
-        Unclear {
-            what: format!("on paper of {long} by {short} mm still {what}"),
-        }
-    }
-}
-
-impl fmt::Display for Unclear {
-    fn fmt(&self, to: &mut fmt::Formatter<'_>) -> fmt::Result {
-        write!(to, "no picture, as it would mislead: {}", self.what)
-    }
-}
-
-impl std::error::Error for Unclear {}
 
 /// A board that was drawn from a plan, by the plan's bytes, and what its picture has beside it.
 #[derive(Clone, Copy, Debug)]
@@ -138,9 +114,7 @@ fn sheet_of(
     let mut scene = Scene::of_sheet(board, sheet);
     scene.names = names.clone();
     // What meets on the sheet itself meets on every paper.
-    if let Some((_, what)) = ports::contacts(&scene).next() {
-        return Err(Unclear { what });
-    }
+    let met = ports::contacts(&scene).next().map(|(_, what)| what);
     scene.mark(joints.found());
     scene.list(joints.crossings());
     scene.records.loose = on_sheet(board, sheet);
@@ -155,7 +129,11 @@ fn sheet_of(
         about: Some(about(board, sheet)),
         warnings,
     };
-    picture(scene, &head, BLACK, Some(joints.line()))
+    let drawn = match met {
+        Some(what) => Err(Unclear::of(what)),
+        None => picture(scene, &head, BLACK, Some(joints.line())),
+    };
+    drawn.map_err(|unclear| unclear.below(&head))
 }
 
 /// What stands below the title of a sheet.

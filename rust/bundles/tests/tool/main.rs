@@ -192,6 +192,34 @@ fn no_clear_picture() {
     assert!(page.0.ends_with("</html>\n"));
 }
 
+/// The page without a picture says of which board it is, of what kind the sheet is, and what is wrong with it
+/// beside, as a picture does below its title.
+#[test]
+fn words_of_no_picture() {
+    let short = UNCLEAR.replace("via 10,5 100,5", "via 11,5 100,5");
+    let words = ["html", "-", "--title", "short & <long>"];
+    let page = text(out(2, &words, short.as_bytes()));
+    let body = page.split("<main id=\"sheet\">\n").nth(1).expect("a sheet");
+    let body = body.split("</main>").next().expect("its end");
+    let lines = body.lines().collect::<Vec<_>>();
+    assert_eq!(
+        lines[..2],
+        ["<div class=\"words\">", "<h1>short &amp; &lt;long&gt;</h1>"]
+    );
+    let starts = [
+        "<p class=\"about\">A sheet of 110 by 15: 3 nodes, 1 edge, 0 bundles. ",
+        "<p class=\"warning\">no picture, as it would mislead: ",
+        "<p class=\"warning\">Edge 1 starts at (11, 5), not at its port 1:1, which stands at (10, 5).</p>",
+        "<p class=\"warning\">Edge 1 lies on the frame of node 3.</p>",
+    ];
+    for (line, start) in lines[2..].iter().zip(starts) {
+        assert!(line.starts_with(start), "{line}");
+    }
+    assert_eq!(lines.len(), 7, "{body}");
+    let well = text(out(0, &["html", &example("clock-board.txt")], b""));
+    assert!(!well.contains("<div class=\"words\">"));
+}
+
 #[test]
 fn version() {
     let due = concat!("bundles ", env!("CARGO_PKG_VERSION"), "\n");
