@@ -5,6 +5,7 @@
 //! sheet's lengths. A joint is a dot; where lines cross without one, the one goes
 //! over the other in an arch. Routes that lie over each other are drawn side by side.
 
+mod beside;
 mod bodies;
 mod crossings;
 mod drawn;
@@ -188,7 +189,7 @@ fn page_of(
     svg.push_str(&crosses.draw());
     svg.push_str(&marks(scene, page.width));
     if let Some(tried) = &scene.tried {
-        svg.push_str(&tried.draw(scene, page.width - MARGIN / 2.0));
+        svg.push_str(&tried.draw(scene, strokes, frame));
     }
     let unnamed = in_words(&legend.unlisted(&labels.unnamed));
     let without = [("ids", &labels.left_out), ("names", &unnamed)];

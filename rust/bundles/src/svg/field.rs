@@ -305,7 +305,7 @@ pub fn field(scene: &Scene, strokes: &[Stroke], page: (Point, Point)) -> Field {
     let marks = scene.marks.iter();
     let marks = marks.map(|mark| Rect::of(mark.at, mark.at, MARK));
     let tried = scene.tried.iter();
-    let tried = tried.flat_map(|tried| tried.taken(scene, page.1.x));
+    let tried = tried.flat_map(|tried| tried.taken(scene, strokes, page));
     let taken_too = dots.chain(ports).chain(marks).chain(tried);
     taken.extend(taken_too.map(|rect| (rect, None)));
     let nodes = scene.nodes.iter().map(corners);

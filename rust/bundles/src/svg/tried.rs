@@ -5,13 +5,13 @@ use bundle_stage::{Attempt, Board, DrawnBundle, Id, Point, Segment};
 use crate::names::Names;
 use crate::signs::isolated;
 
-use super::bodies::sides;
-use super::field::{Rect, moved};
-use super::page::MARGIN;
+use super::beside::{Placed, at_collector, at_ring, others};
+use super::field::Rect;
 use super::palette::{GREY, WARNING};
 use super::scene::{MARK, Scene, shown};
 use super::shapes::ring;
-use super::xml::{BOLD, cut, escaped, mm, place, wide_bold, words};
+use super::stroke::Stroke;
+use super::xml::{escaped, mm, place};
 
 /// The refused bundle as it was to be drawn.
 #[derive(Clone)]
@@ -28,8 +28,6 @@ pub struct Tried {
     at: Option<Point>,
 }
 
-/// The height of letters.
-const SIZE: f64 = 2.6;
 /// The width of the refused bundle's lines.
 const WIDTH: f64 = 0.7;
 
@@ -90,7 +88,7 @@ impl Tried {
     }
 
     /// Over everything else: dashed lines, open dots, a ring where it was refused, and words.
-    pub fn draw(&self, scene: &Scene, width: f64) -> String {
+    pub fn draw(&self, scene: &Scene, strokes: &[Stroke], frame: (Point, Point)) -> String {
         let (id, name) = (self.id, self.name(&scene.names));
         let d = |parts: &[Segment]| {
             let line = |part: &Segment| format!("M{}L{}", place(part.start), place(part.end));
@@ -115,7 +113,7 @@ impl Tried {
         if let Some(at) = self.at {
             svg.push_str(&ring(at.x, at.y, MARK));
         }
-        let words = self.words(scene, width);
+        let words = self.words(scene, strokes, frame);
         svg.extend(words.into_iter().map(|(words, _)| words));
         svg + "</g>\n"
     }
@@ -125,86 +123,49 @@ impl Tried {
     }
 
     /// What ids are to leave free.
-    pub fn taken(&self, scene: &Scene, width: f64) -> Vec<Rect> {
+    pub fn taken(&self, scene: &Scene, strokes: &[Stroke], frame: (Point, Point)) -> Vec<Rect> {
         let lines = self.lines();
         let lines = lines.map(|part| Rect::of(part.start, part.end, WIDTH));
         let dots = self.taps.iter().map(|tap| Rect::of(*tap, *tap, 1.0));
         let ring = self.ring();
-        let words = self.words(scene, width);
+        let words = self.words(scene, strokes, frame);
         let words = words.into_iter().map(|(_, rect)| rect);
         lines.chain(dots).chain(ring).chain(words).collect()
     }
 
-    /// A word at the ring, and the bundle's name at the upper end of its collector; and where they are: not over
-    /// the lines of what was tried where there is room beside them, and over as few others as can be.
-    fn words(&self, scene: &Scene, width: f64) -> Vec<(String, Rect)> {
+    /// A word at the ring, and the bundle's name at its collector; and where they are: not over the lines of what
+    /// was tried where there is room beside them, and over as few others as can be, if need be by the id alone.
+    fn words(&self, scene: &Scene, strokes: &[Stroke], frame: (Point, Point)) -> Vec<Placed> {
         let lines = self.lines();
         let lines = lines.map(|part| Rect::of(part.start, part.end, WIDTH / 2.0 + 0.3));
         let dots = self.taps.iter().map(|tap| Rect::of(*tap, *tap, 1.0));
         let mut own = lines.chain(dots).chain(self.ring()).collect::<Vec<_>>();
-        let others = others(scene);
-        let top = self.parts.last().map(|collector| {
-            let Segment { start, end } = *collector;
-            if start.y < end.y { start } else { end }
+        let others = others(scene, strokes);
+        let here = self.at.map(|at| vec![at_ring(at, "refused here", frame)]);
+        let names = [self.name(&scene.names), String::new()];
+        let names = names.map(|name| format!("B{}{name}: refused, not drawn", self.id));
+        let name = self.parts.last().map(|collector| {
+            let all = names.iter();
+            let all = all.map(|said| at_collector(*collector, said, frame));
+            all.collect::<Vec<_>>()
         });
-        let said = format!(
-            "B{}{}: refused, not drawn",
-            self.id,
-            self.name(&scene.names)
-        );
-        let here = self.at.map(|at| (around(at), "refused here"));
-        let top = top.map(|top| (above(top), &said[..]));
+        let inside = |rect: &Rect| frame.0.y <= rect.low.y && rect.high.y <= frame.1.y;
+        let met = |one: &Placed, of: &[Rect]| of.iter().filter(|rect| rect.meets(&one.1)).count();
         let mut words = Vec::new();
-        for (places, said) in here.into_iter().chain(top) {
-            let all = places.into_iter().flat_map(|at| beside(at, said, width));
-            let all = all.collect::<Vec<_>>();
-            let met = |one: &(String, Rect), of: &[Rect]| {
-                of.iter().filter(|rect| rect.meets(&one.1)).count()
-            };
-            let free = all.iter().filter(|one| met(one, &own) == 0);
-            let best = free.min_by_key(|one| met(one, &others));
+        for ways in here.into_iter().chain(name) {
+            let free = ways.iter().flatten();
+            let free = free.filter(|one| inside(&one.1) && met(one, &own) == 0);
+            let counted = free.map(|one| (met(one, &others), one));
+            let best = counted.min_by_key(|(count, _)| *count).map(|(_, one)| one);
             // The word at the ring is worth more than what it may lie over.
-            let best = best.or(all.first().filter(|_| words.is_empty()));
-            if let Some(one) = best.cloned() {
+            let first = ways[0].first().filter(|_| words.is_empty());
+            if let Some(one) = best.or(first).cloned() {
                 own.push(one.1);
                 words.push(one);
             }
         }
         words
     }
-}
-
-/// The lines of the board as it was given, with room for a cross at their ends, the frames of its nodes, and its
-/// ports.
-fn others(scene: &Scene) -> Vec<Rect> {
-    let runs = scene
-        .routes
-        .iter()
-        .flat_map(|route| route.points.windows(2));
-    let runs = runs.map(|run| (run[0], run[1]));
-    let sides = scene.nodes.iter().flat_map(sides);
-    let lines = runs.chain(sides).map(|(a, b)| Rect::of(a, b, 0.4));
-    let ports = scene.ports.iter();
-    let ports = ports.map(|port| Rect::of(port.low, port.high, port.size));
-    let routes = scene.routes.iter();
-    let ends = routes.flat_map(|route| [route.points.first(), route.points.last()]);
-    let ends = ends.flatten().map(|end| Rect::of(*end, *end, 1.5));
-    lines.chain(ports).chain(ends).collect()
-}
-
-/// Where words at a ring may begin: a little below its middle, then further down and up.
-fn around(at: Point) -> Vec<Point> {
-    let lines = [
-        1.0, -0.6, 0.2, 1.4, -1.0, 1.8, -1.4, 2.6, -2.2, 3.4, -3.0, 4.2, -3.8,
-    ];
-    lines.map(|line| moved(at, 0.0, line * MARK)).to_vec()
-}
-
-/// The same at the upper end of a collector.
-fn above(top: Point) -> Vec<Point> {
-    let lines = (0..8).map(f64::from);
-    let places = lines.map(|line| moved(top, 0.0, -0.6 * SIZE * line - 0.5));
-    places.collect()
 }
 
 /// The runs of a member's route, as it was led, that do not lie on its given one.
@@ -226,36 +187,6 @@ fn led(board: &Board, attempt: &Attempt, edge: Id) -> Vec<Segment> {
         end: run[1],
     })
     .collect()
-}
-
-/// Words to the right of a place and to its left, where the page has more room first, and where they are.
-fn beside(at: Point, said: &str, width: f64) -> Vec<(String, Rect)> {
-    let long = wide_bold(said, SIZE);
-    let rooms = [width - at.x, at.x].map(|room| room - 1.2 * MARK - MARGIN / 2.0);
-    let right = (1.0, "start", rooms[0]);
-    let left = (-1.0, "end", rooms[1]);
-    let sides = if long < rooms[0] || rooms[0] > rooms[1] {
-        [right, left]
-    } else {
-        [left, right]
-    };
-    // Words that are cut stand where there is more room.
-    let first = sides[0].2;
-    let sides = sides.into_iter();
-    let sides = sides.filter(|(.., room)| *room == first || long < *room);
-    let words = sides.map(|(side, anchor, room)| {
-        // The whole name is there under the pointer.
-        let said = &cut(said, SIZE, room);
-        let long = wide_bold(said, SIZE);
-        let at = moved(at, 1.2 * side * MARK, 0.0);
-        let more = format!(
-            "text-anchor=\"{anchor}\" {BOLD} fill=\"{WARNING}\" stroke=\"white\" \
-             stroke-width=\"0.6\" paint-order=\"stroke\""
-        );
-        let rect = Rect::of(at, moved(at, side * long, -SIZE), 0.0);
-        (words(at, SIZE, &more, said), rect)
-    });
-    words.collect()
 }
 
 /// A dashed line on white, so that it shows on what it lies over.

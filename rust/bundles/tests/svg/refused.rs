@@ -185,7 +185,7 @@ fn ring_at(picture: &str, board: &Board, x: f64, y: f64) {
     assert!(dx.hypot(dy) < 0.05, "{dx} {dy}");
 }
 
-/// The words beside what was tried lie on none of its lines.
+/// The words beside what was tried lie on none of its lines, and on none of the board's.
 fn words_beside(picture: &str) {
     let elements = elements(picture);
     let tried = tried(&elements);
@@ -203,6 +203,63 @@ fn words_beside(picture: &str) {
         let far = nearest(&[middle], &lines, |_| false).0;
         assert!(far > half + 0.35, "{}: {far}", label.words);
     }
+    assert_eq!(words_over(picture), Vec::<String>::new());
+}
+
+/// What of the board the words beside what was tried lie on: routes as they are drawn, and sides of nodes.
+fn words_over(picture: &str) -> Vec<String> {
+    let elements = elements(picture);
+    let inside = |class: &str, name: &str| {
+        let of = elements.iter().enumerate();
+        let of = of.filter(|(_, of)| of.value("class") == class);
+        let parts = of.flat_map(|(place, of)| {
+            let parts = elements[place + 1..].iter();
+            parts.take_while(|part| part.depth > of.depth)
+        });
+        let parts = parts.filter(|part| part.name == name);
+        parts.collect::<Vec<_>>()
+    };
+    let mut all = Vec::new();
+    for path in inside("route", "path") {
+        all.extend(lines(path.value("d")));
+    }
+    for frame in inside("node", "rect") {
+        let [low, high] = frame.rect();
+        let [left, right] = [(low.0, high.1), (high.0, low.1)];
+        all.extend([[low, left], [left, high], [high, right], [right, low]]);
+    }
+    assert!(all.len() > 8, "no board");
+    let words = inside("refused", "text").into_iter();
+    let over = words.filter(|label| {
+        let ([from, to], half) = letters(label);
+        let middle = [(from.0 + half, from.1), (to.0 - half, to.1)];
+        nearest(&[middle], &all, |_| false).0 < half + 0.2
+    });
+    over.map(|label| label.words.clone()).collect()
+}
+
+/// Words beside what was tried are off the board's own lines and the sides of nodes where there is another place:
+/// here between two nodes, where routes are drawn side by side and the whole name is too long.
+#[test]
+fn words_off_the_board() {
+    let text = "port_stub 0\nroute_lane_gap 5\nedge_node_clearance 3\n\
+        minimum_parallel_wire_spacing 0\nmember_endpoint_reserve 3\n\
+        node 1 at -10,-10 size 10,20\nnode 2 at 12,-10 size 10,20\n\
+        port 1:1 east 10\nport 2:1 west 12\n\
+        edge 11 from 1:1 to 2:1 via 0,0 12,0 12,2\n\
+        edge 12 from 1:1 to 2:1 via 0,0 0,7 8,7 12,7 12,2\n\
+        edge 13 from 1:1 to 2:1 via 0,0 2,0 2,14 12,14 12,2\n\
+        bundle 2395637334 \"trunk of this name\" at 1:1 input width 3 members 11@0 12@1 13@2\n\
+        bundle 5 at 2:1 output width 3 members 11@0 12@1 13@2\n";
+    let text = text::read_all(text.as_bytes()).expect("a text");
+    let refusal = text.board.draw().expect_err("refused");
+    assert_eq!(refusal, Refusal::TapUnreachable);
+    let picture = bundles::svg::svg_refused(&text.board, refusal, &text.names, "10");
+    words_beside(&picture);
+    assert!(picture.contains(">B2395637334: refused, not drawn<"));
+    let whole = "bundle 2395637334 \u{2068}trunk of this name\u{2069} as it was tried: refused";
+    let plain = whole.replace(['\u{2068}', '\u{2069}'], "");
+    assert!(picture.contains(whole) || picture.contains(&plain));
 }
 
 /// 11: a wire in no bundle across the spine of bundle 3, which is the one that is shown.
