@@ -8,25 +8,25 @@ use Rattle.board.specs.declared.Bundle.{Bundle}
 use Rattle.board.specs.declared.Member.{Member}
 use Rattle.board.specs.declared.DrawnTap.{DrawnTap}
 use Rattle.board.specs.declared.DrawnBundle.{DrawnBundle}
-use Rattle.arrayvec.specs.ArrayVec.{ArrayVec}
+use Rattle.table.specs.Table.{Table}
 
 abbrev pub Nodes : Type 0
-Nodes = ArrayVec PlacedNode
+Nodes = Table PlacedNode
 
 abbrev pub Ports : Type 0
-Ports = ArrayVec Port
+Ports = Table Port
 
 abbrev pub Edges : Type 0
-Edges = ArrayVec Edge
+Edges = Table Edge
 
 abbrev pub Bundles : Type 0
-Bundles = ArrayVec Bundle
+Bundles = Table Bundle
 
 abbrev pub Members : Type 0
-Members = ArrayVec Member
+Members = Table Member
 
 abbrev pub DrawnTaps : Type 0
-DrawnTaps = ArrayVec DrawnTap
+DrawnTaps = Table DrawnTap
 
 abbrev pub DrawnBundles : Type 0
-DrawnBundles = ArrayVec DrawnBundle
+DrawnBundles = Table DrawnBundle

@@ -14,12 +14,12 @@ ghost use Rattle.plan.specs.Plan.{if_between, drop_all, initial_x};
 ghost use Rattle.plan.specs.Prepared.{Listing, plan_in};
 ghost use Rattle.components.specs.Settled.{ranges_in, Chosen, bound_in, inner, extent};
 
-use arrayvec::ArrayVec;
 use components::{Extent, Places};
 use geometry::Role;
 use limits::MAX_BUNDLES;
 use plan::{Bound, NO_X, Planned, Planning, Range};
 use search::{Bounds, TapVisits};
+use table::Table;
 
 // ---- the bundles of a component
 
@@ -28,7 +28,7 @@ pub fn of_role(role: Role, ranges: &[Range], order: &[usize]) -> Places
     requires { (length order.now ≤ max_bundles) × Listing order.now (length ranges.now) }
     ensures { Chosen role (ranges_in ranges.now) order.now (length ranges.now) result.items }
 {
-    let mut chosen = ArrayVec::new();
+    let mut chosen = Table::new();
     for &i in order {
         if ranges[i].bundle.role == role {
             chosen.push(i);

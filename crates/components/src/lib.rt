@@ -9,13 +9,13 @@
 ghost use Rattle.std.specs.Prelude.{◌≡◌};
 ghost use Rattle.refusal.specs.declared.Refusal.TheVariants.{NoRoomToSplit};
 
-use arrayvec::ArrayVec;
 use limits::MAX_BUNDLES;
 use refusal::Refusal;
 use search::TapVisits;
+use table::Table;
 
 // Places in a table of bundles, in order.
-pub type Places = ArrayVec<usize, MAX_BUNDLES>;
+pub type Places = Table<usize, MAX_BUNDLES>;
 
 // How far the bundles of one role go: of inputs the largest minimum and the largest x found, of
 // outputs the smallest maximum and the smallest x found.

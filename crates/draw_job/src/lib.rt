@@ -17,7 +17,6 @@ ghost use Rattle.job_tables.specs.Came.{job_in, Came};
 ghost use Rattle.draw_job.specs.JobTables.{Writes, Ended, TapsOf, MembersOn, Lent};
 
 use answer::Frame;
-use arrayvec::ArrayVec;
 use board::{DrawnTap, DrawnTaps, Edge, Member};
 use components::NoRoom;
 use drawing::GeometryVisits;
@@ -29,6 +28,7 @@ use plan::Planning;
 use refusal::Refusal;
 use route::PresentRoutes;
 use search::TapVisits;
+use table::Table;
 use turns::TurnWork;
 
 // What a sheet is drawn in, lent, beside the slots of the present routes: the tap of each member,
@@ -72,7 +72,7 @@ pub fn tap_rows(table: &[Edge], members: &[Member], taps: &[Point]) -> DrawnTaps
     requires members_on { MembersOn table.now members.now }
     ensures { TapsOf table.now members.now taps.now result }
 {
-    let mut rows = ArrayVec::new();
+    let mut rows = Table::new();
     for (i, m) in members.iter().enumerate() {
         rows.push(DrawnTap {
             edge: table[m.edge].id,

@@ -7,11 +7,11 @@ ghost use Rattle.limits.specs.Limits.{max_bundles, max_members};
 ghost use Rattle.job.specs.Job.{bundle_of, member_of};
 ghost use Rattle.job.specs.Reads.{BundlesTold};
 
-use arrayvec::ArrayVec;
 use board::{Bundle, Member};
 use job::{BundlesRead, RawBundle, RawMember};
 use job_keys::TableKeys;
 use refusal::Refusal;
+use table::Table;
 use wire::Unread;
 
 // ---- rows
@@ -61,8 +61,8 @@ pub fn read_bundles<'a>(
     requires { (length keys.old ≤ max_bundles) × (length member_keys.old ≡ max_members) }
     ensures { BundlesTold s.old.bytes.now s.new.bytes.now (length keys.old) tables.entry.nodes.now tables.entry.ports.now tables.entry.edges.now keys.new member_keys.new result }
 {
-    let mut bundles = ArrayVec::new();
-    let mut members = ArrayVec::new();
+    let mut bundles = Table::new();
+    let mut members = Table::new();
     let mut known = true;
     let mut members_known = true;
     for i in 0..keys.len() {

@@ -9,10 +9,10 @@ ghost use Rattle.geometry.specs.Points.{points_from};
 ghost use Rattle.job.specs.Job.{point, push, port_of, edge_of};
 ghost use Rattle.job.specs.Reads.{ended_as, NodesTold, PortsTold, EdgesTold};
 
-use arrayvec::ArrayVec;
 use board::{Edge, Nodes, Port};
 use job::{EdgesRead, PortsRead, RawEdge, RawPort};
 use refusal::Refusal;
+use table::Table;
 use wire::Unread;
 
 // ---- rows
@@ -57,7 +57,7 @@ pub fn read_nodes(s: &mut Unread<'_>, keys: &mut [(u64, u64)], grid: bool) -> Re
     requires { length keys.old ≤ max_nodes }
     ensures { NodesTold grid s.old.bytes.now s.new.bytes.now (length keys.old) keys.new result }
 {
-    let mut rows = ArrayVec::new();
+    let mut rows = Table::new();
     for key in keys.iter_mut() {
         let n = job_records::node(s, grid)?;
         *key = (n.id, 0);
@@ -75,7 +75,7 @@ pub fn read_ports(
     requires { length keys.old ≤ max_ports }
     ensures { PortsTold grid s.old.bytes.now s.new.bytes.now (length keys.old) nodes.now keys.new result }
 {
-    let mut rows = ArrayVec::new();
+    let mut rows = Table::new();
     let mut known = true;
     for key in keys.iter_mut() {
         let p = job_records::port(s, grid)?;
@@ -117,7 +117,7 @@ pub fn read_edges(
     requires { (length keys.old ≤ max_edges) × (length points.old ≡ point_numbers) }
     ensures { EdgesTold grid s.old.bytes.now s.new.bytes.now (length keys.old) nodes.now points.new keys.new result }
 {
-    let mut rows = ArrayVec::new();
+    let mut rows = Table::new();
     let mut known = true;
     let mut total = 0;
     for key in keys.iter_mut() {

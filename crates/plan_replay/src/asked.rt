@@ -5,7 +5,6 @@ ghost use Rattle.limits.specs.Limits.{max_bundles};
 ghost use Rattle.plan.specs.Prepared.{Listing};
 
 use crate::fields::Written;
-use arrayvec::ArrayVec;
 use board::Bundle;
 use components::Places;
 use geometry::Role;
@@ -13,6 +12,7 @@ use limits::MAX_BUNDLES;
 use plan::layout::Layout;
 use plan::{Bound, NO_X, Planned, Planning, Reached};
 use search::{MemberRoutes, TapVisits};
+use table::Table;
 
 // sheet_replay has the same: of the crates below both, those that know a plan read no records.
 pub(crate) fn plan_at(record: &[u8], from: usize) -> Planning {
@@ -53,7 +53,7 @@ fn inputs_of(reaches: &[Reached]) -> Places
     requires { length reaches.now ≤ max_bundles }
     ensures { Listing result.items (length reaches.now) }
 {
-    let mut inputs = ArrayVec::new();
+    let mut inputs = Table::new();
     for (i, r) in reaches.iter().enumerate() {
         if r.bundle.role == Role::Input {
             inputs.push(i);

@@ -16,19 +16,19 @@ ghost use Rattle.plan.specs.Prepared.{Among, ranged_from, x_of, plan_in};
 ghost use Rattle.plan.specs.Lent.{BundleTells};
 ghost use Rattle.separation.specs.Taken.{lanes_in, outmost, cut_past, none_taken, RangesTell, RangesFit};
 
-use arrayvec::ArrayVec;
 use geometry::Role;
 use limits::MAX_BUNDLES;
 use plan::layout::Setting;
 use plan::search_work::SearchWork;
 use plan::{Bound, Planned, Planning, Range};
 use search::{Bounds, Outcome, Searched, TapVisits};
+use table::Table;
 
 // The x taken so far by the bundles of each role. No one type with plan::Used (see there).
-#[derive(Drop)]
+#[derive(Clone, Copy)]
 pub struct Lanes {
-    pub input: ArrayVec<f64, MAX_BUNDLES>,
-    pub output: ArrayVec<f64, MAX_BUNDLES>,
+    pub input: Table<f64, MAX_BUNDLES>,
+    pub output: Table<f64, MAX_BUNDLES>,
 }
 
 // Whether x is a pitch away from each of those taken. A loop and no `all`, with which it was proved, but an
@@ -164,8 +164,8 @@ pub fn separate(setting: Setting, ranges: &[Range], p: Planning, work: &mut Sear
     ensures { (b : Board) (given : List Route) → RangesTell b given setting.entry ranges.now → plan_in (length ranges.now) result ≡ separated search_of b given (map ranged_from ranges.now) (map x_of (take (length ranges.now) p.rows)) none_taken p.left.0 }
 {
     let mut lanes = Lanes {
-        input: ArrayVec::new(),
-        output: ArrayVec::new(),
+        input: Table::new(),
+        output: Table::new(),
     };
     let mut rows = p.rows;
     let mut left = p.left;

@@ -23,7 +23,6 @@ ghost use Rattle.checks.specs.MemberSlices.{members_from, Row};
 ghost use Rattle.member_rewriting.specs.Ways.{way_of};
 ghost use Rattle.turns.specs.TurnTables.{turn_of, standing, ends_as, drawn_in, row_drawn, Faced, Ready, Longer, Lists, Room, Short, Rows, Full, GivenIn, Follow, Once};
 
-use arrayvec::ArrayVec;
 use board::{Bundle, DrawnBundle, DrawnBundles, Edge, Member};
 use checks::{BoardSlices, MemberTaps, Rules};
 use drawing::GeometryVisits;
@@ -34,6 +33,7 @@ use plan::tables::BoardTables;
 use plan::{Bound, Offsets, Planned};
 use refusal::Refusal;
 use route::PresentRoutes;
+use table::Table;
 
 // What a turn works in, lent: a mask of the routes that it changes, and room for the numbers of one slot.
 #[derive(Drop)]
@@ -45,7 +45,7 @@ pub struct TurnWork<'a> {
 
 // The bundles drawn, and how the last turn ended. No Result of both: after a refusal too it is told which
 // bundles were drawn before it (sheet_replay writes how many).
-#[derive(Drop)]
+#[derive(Clone, Copy)]
 pub struct Drawing {
     pub ended: Result<(), Refusal>,
     pub drawn: DrawnBundles,
@@ -182,7 +182,7 @@ fn draw_bundles(
         nodes: board.nodes,
         edges: board.edges,
     };
-    let mut drawn = ArrayVec::new();
+    let mut drawn = Table::new();
     for (i, bundle) in board.bundles.iter().enumerate() {
         let port = board.ports[bundle.port];
         let t = BundleTurn {

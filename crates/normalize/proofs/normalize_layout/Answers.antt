@@ -1,10 +1,8 @@
 -- `normalize::normalize_layout` meets its contract. Assumes nothing.
 use mathlib.Core.Path.{refl, ◌∙◌}
 use lib.Ieee.{of_bits}
-use Rattle.drawing.specs.Normal.{shifted_node}
-use Rattle.normalize.specs.PageTables.{sheet_in, shifted_row}
+use Rattle.normalize.specs.PageTables.{sheet_in}
 use Rattle.normalize.proofs.Outer.{least_corner, size_of}
-use Rattle.normalize.proofs.Shift.{mapped_items}
 use Rattle.normalize.proofs.Paged.{laid_is, Turned, turned_by, turned_still, page_turned, taps_turned}
 use Rattle.normalize.proofs.normalize_layout.Goals as goal
 use Rattle.normalize.proofs.normalize_layout.Goals.{Joined-o, then-o, else-o}
@@ -17,11 +15,10 @@ turned c =
     elim c.if-o.branch [
       | then-o w ↦ rw (w.points-is, w.taps-is, w.n-is, w.d-is)
           (turned_by o a.nodes.now _ a.drawn.now _ a.points.now _ a.counts.now a.taps.now _ w.if-o.true
-          (mapped_items (shifted_node o) a.nodes.now _ _ _ c.table_of-n.ensures w.as_mut_slice.ensures.value w.shift_rows-then-o.ensures)
-          (mapped_items (shifted_row o) a.drawn.now _ _ _ c.table_of-d.ensures w.as_mut_slice-then-o.ensures.value w.shift_rows-then-o-2.ensures)
+          w.shifted_table-n.ensures w.shifted_table-d.ensures
           w.shift_routes.ensures w.shift_rows.ensures c.requires.taps)
       | else-o w ↦ rw (w.points-is, w.taps-is, w.n-is, w.d-is)
-          (turned_still o a.nodes.now _ a.drawn.now _ a.points.now a.points.now a.counts.now a.taps.now a.taps.now w.if-o.false c.table_of-n.ensures c.table_of-d.ensures refl refl)
+          (turned_still o a.nodes.now _ a.drawn.now _ a.points.now a.points.now a.counts.now a.taps.now a.taps.now w.if-o.false c.of-n.ensures c.of-d.ensures refl refl)
     ]
 
 pub outermost_of_sheet-size-requires : goal.outermost_of_sheet-size-requires
