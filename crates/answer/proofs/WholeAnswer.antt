@@ -1,11 +1,11 @@
 -- The whole answer from the rows: its parts, their lengths, and the writes joined. Assumes nothing.
-use Rattle.std.specs.Prelude.{ℕ, suc, ◌+◌, ◌*◌, ◌-◌, ◌≤◌, ◌≡◌, refl, List, [], ◌∷◌, ◌++◌, Float}
+use Rattle.std.specs.Prelude.{ℕ, zero, suc, take, ◌+◌, ◌*◌, ◌-◌, ◌≤◌, ◌≡◌, refl, List, [], ◌∷◌, ◌++◌, Float}
 use Rattle.std.proofs.Common.{ap, ◌∙◌, arith, length-append}
 use Rattle.std.proofs.Math.ListN.{length, length-map}
 use Rattle.std.proofs.lemmas.List.Edits.{sets}
 use Rattle.wire.specs.Bytes.{bytes}
 use Rattle.wire.proofs.BytesLaws.{bytes_length}
-use Rattle.route.specs.Slots.{routes_of, routes_length}
+use Rattle.route.specs.Slots.{routes_of, routes_from, routes_length}
 use Rattle.board.specs.declared.Edge.{Edge}
 use Rattle.board.specs.declared.PlacedNode.{PlacedNode}
 use Rattle.board.specs.declared.DrawnBundle.{DrawnBundle}
@@ -25,6 +25,16 @@ answer_joined o h n r u p q e eh ep eq ee =
     let joined : sets (sets (sets (sets o 4 h) 36 n) p r) q u ≡ sets o 4 body =
     sets_then (sets (sets o 4 h) 36 n) p q r u eq ∙ sets_then (sets o 4 h) 36 p n (r ++ u) ep ∙ sets_then o 4 36 h (n ++ (r ++ u)) (omega arith) in
     rw (joined, size) (sets_before o 0 4 (bytes 4 (length body)) body (omega (arith, bytes_length 4 (length body))))
+
+-- a line for each edge, whatever counts go on behind them
+lines_cut : (slots : List Float) (es : List Edge) (k : ℕ) (ns : List ℕ) → lines_of es (routes_from slots k (take (length es) ns)) ≡ lines_of es (routes_from slots k ns)
+unfolding lines_of routes_from
+lines_cut slots [] k ns = refl
+lines_cut slots (e ∷ es) k [] = refl
+lines_cut slots (e ∷ es) k (n ∷ ns) = rw (lines_cut slots es (suc k) ns)
+
+pub sheet_cut : (f : Frame) (n : List PlacedNode) (e : List Edge) (slots : List Float) (counts : List ℕ) (b : List DrawnBundle) (t : List DrawnTap) → sheet_of f n e slots (take (length e) counts) b t ≡ sheet_of f n e slots counts b t
+sheet_cut f n e slots counts b t = rw (lines_cut slots e 0 counts)
 
 lines_count : (es : List Edge) (rs : List Route) → length es ≤ length rs → length (lines_of es rs) ≡ length es
 unfolding lines_of

@@ -188,16 +188,13 @@ fn drawn_in(
         width: l.width,
         height: l.height,
     };
-    let present = PresentRoutes {
-        points,
-        counts: &counts[..],
-    };
     Ok(answer::write_answer(
         answer,
         frame,
         nodes,
         board.edges,
-        present,
+        points,
+        &counts[..],
         shifted,
         t.as_slice(),
     ))

@@ -4,15 +4,15 @@
 
 #![tactic(auto)]
 
-ghost use Rattle.std.specs.Prelude.{◌≡◌, ◌*◌, ◌≤◌, length};
-ghost use Rattle.limits.specs.Limits.{max_nodes, max_edges, max_bundles, max_members, slot_numbers};
-ghost use Rattle.route.specs.Slots.{Held};
+ghost use Rattle.std.specs.Prelude.{◌≡◌, ◌≤◌, length};
+ghost use Rattle.limits.specs.Limits.{max_nodes, max_edges, max_bundles, max_members};
 ghost use Rattle.answer.specs.SheetTables.{Windows};
 ghost use Rattle.job_tables.specs.Came.{Came};
-ghost use Rattle.draw_job.specs.JobTables.{MembersOn, Lent};
+ghost use Rattle.plan.specs.MemberColumns.{edges_of};
+ghost use Rattle.draw_job.specs.JobTables.{MembersOn, OnSheet, Lent};
 
 use answer::Frame;
-use board::{DrawnBundle, Edge, Member, PlacedNode};
+use board::{DrawnBundle, DrawnBundles, Edge, Member, PlacedNode};
 use draw_job::SheetWork;
 use drawing::GeometryVisits;
 use geometry::Point;
@@ -21,7 +21,6 @@ use limits::{
     ALL_SLOT_NUMBERS, ANY_ANSWER_ROOM, JOB_ROOM, MAX_BUNDLES, MAX_EDGES, MAX_MEMBERS,
     POINT_NUMBERS, SLOT_NUMBERS,
 };
-use plan::tables::BoardTables;
 use plan::{Bound, NO_X, Planned, Planning};
 use route::PresentRoutes;
 use search::TapVisits;
@@ -86,7 +85,17 @@ fn put_page(
     requires members_on { MembersOn s.edges.now s.members.now }
 {
     let t = draw_job::tap_rows(s.edges, s.members, s.taps);
-    let n = answer::write_answer(page, f, s.nodes, s.edges, s.present, s.drawn, t.as_slice());
+    let r = s.present;
+    let n = answer::write_answer(
+        page,
+        f,
+        s.nodes,
+        s.edges,
+        r.points,
+        r.counts,
+        s.drawn,
+        t.as_slice(),
+    );
     records::put(out, at, &page[..n]);
     records::plus(at, n)
 }
@@ -94,8 +103,8 @@ fn put_page(
 // The sheet before the last shift, its width and height 0, and after it. Taps and points are slices of
 // their own: as fields of one lent struct, lent on at a time and told of afterwards, they did not prove.
 fn put_pages<'a>(
-    board: BoardTables<'a>,
-    drawn: &'a [DrawnBundle],
+    j: &'a Job,
+    drawn: &'a DrawnBundles,
     left: TapVisits,
     rest: GeometryVisits,
     points: &mut [f64],
@@ -104,18 +113,19 @@ fn put_pages<'a>(
     page: &mut [u8; ANY_ANSWER_ROOM],
     out: &mut [u8; OUT_ROOM],
 ) -> usize
-    requires few { (length board.edges.now ≤ max_edges) × (length drawn.now ≤ max_bundles) }
-    requires counted { (length counts.now ≡ length board.edges.now) × Held counts.now × (slot_numbers * length counts.now ≤ length points.old) }
-    requires windows { Windows drawn.now (length board.members.now) × (length board.members.now ≤ length taps.old) }
-    requires members_on { MembersOn board.edges.now board.members.now }
+    requires on_sheet { OnSheet j.now (edges_of j.now.members.items) drawn.now points.old counts.now taps.old }
 {
-    let start = put_verdict(out, 0, drawn.len(), rest);
+    let nodes = j.nodes.as_slice();
+    let edges = j.edges.as_slice();
+    let members = j.members.as_slice();
+    let rows = drawn.as_slice();
+    let start = put_verdict(out, 0, rows.len(), rest);
     let present = PresentRoutes { points, counts };
     let before = WrittenSheet {
-        nodes: board.nodes,
-        edges: board.edges,
-        members: board.members,
-        drawn,
+        nodes,
+        edges,
+        members,
+        drawn: rows,
         present,
         taps,
     };
@@ -126,12 +136,12 @@ fn put_pages<'a>(
         height: 0.0,
     };
     let next = put_page(page, unsized_frame, before, out, start);
-    let l = normalize::normalize_layout(board.nodes, drawn, points, counts, taps);
+    let l = normalize::normalize_layout(nodes, rows, points, counts, taps);
     let present = PresentRoutes { points, counts };
     let after = WrittenSheet {
         nodes: l.nodes.as_slice(),
-        edges: board.edges,
-        members: board.members,
+        edges,
+        members,
         drawn: l.drawn.as_slice(),
         present,
         taps,
@@ -187,17 +197,7 @@ fn draw_in(
     );
     match d.ended {
         Err(r) => put_verdict(out, u8::from(r) as u64, d.drawn.len(), visits),
-        Ok(()) => put_pages(
-            board,
-            d.drawn.as_slice(),
-            p.left,
-            visits,
-            points,
-            counts,
-            taps,
-            page,
-            out,
-        ),
+        Ok(()) => put_pages(j, &d.drawn, p.left, visits, points, counts, taps, page, out),
     }
 }
 

@@ -239,15 +239,15 @@ put_page-requires c =
     let many : length l.items ≤ max_bundles = omega (arith, as_many after, few_drawn e) in
     subst (λ (l : List DrawnBundle). (length l ≤ max_bundles) × Printables (length l) l × (page_room ≤ length a.page.now)) (sym c.as_slice-shifted.ensures.value) (many, laws.all_printable a.j.now a.given.now c.requires.came.0 c.board_tables-board.result (c.board_tables-board.ensures a.given.now) a.wants.plan a.plan.now c.if-wants.p (chosen (goal.at.put_page-requires c).Joined-wants) c.in_ok-made.made c.in_ok-made.was o.result.rows (told d.result.ended d.new.visits.0) (edges_by e) (drawn_by e) (points-by e) (counts-by e) (taps_by e) o.ensures d.ensures.told (on_the_grid a.wants.page _ c.if-wants-3.true c.if-off_grid.false) _ (laws.ended_clean d.result.ended d.new.visits.0 _ c.in_ok-d.was) _ n.result.nodes.items a.j.now.edges.items n.new.points l.items t.result.items (told_answer after), wanted_room a.wants.page _ _ c.if-wants-3.true c.requires.came.1)
 
-pub write_answer-requires : goal.write_answer-requires
-write_answer-requires c =
-    let e = (goal.at.write_answer-requires c).In_ok-d in
+pub write_answer-requires-clause-tables : goal.write_answer-requires-clause-tables
+write_answer-requires-clause-tables c =
+    let e = (goal.at.write_answer-requires-clause-tables c).In_ok-d in
     let a = c.args in
     let n = c.normalize_layout-l in
     let t = c.tap_rows-t in
     let on = on_sheet e in
     let l = n.result.drawn in
-    let after = (goal.at.write_answer-requires c).After-tap_rows-t in
+    let after = (goal.at.write_answer-requires-clause-tables c).After-tap_rows-t in
     let long : length t.result.items ≡ length a.j.now.members.items = t.ensures.count_is ∙ taps_long e in
     rw (c.as_slice-nodes.ensures.value, edges_are e, c.as_slice-shifted.ensures.value, c.as_slice.ensures.value)
     (record {
@@ -255,6 +255,15 @@ write_answer-requires c =
       windows = rw long (windows_kept (length a.j.now.members.items) (drawn_by e).items l.items (rw c.as_slice-drawn.ensures.value at n.ensures.rows) (windows e));
       room_for_it = laws.sheet_room _ _ _ _ (told_drawn e) (told_answer after) c.requires.plan_in_bounds;
     })
+
+pub write_answer-requires-clause-stored : goal.write_answer-requires-clause-stored
+write_answer-requires-clause-stored c =
+    let e = (goal.at.write_answer-requires-clause-stored c).In_ok-d in
+    let on = on_sheet e in
+    rw (edges_are e) (omega (arith, on.slots, on.counted, c.normalize_layout-l.auto.points))
+
+pub write_answer-requires-clause-held : goal.write_answer-requires-clause-held
+write_answer-requires-clause-held c = (on_sheet (goal.at.write_answer-requires-clause-held c).In_ok-d).hold
 
 pub returns-in_err-d : goal.returns-in_err-d
 returns-in_err-d c =

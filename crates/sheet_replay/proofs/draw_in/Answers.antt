@@ -1,15 +1,12 @@
 -- `sheet_replay::draw_in` is safe and ends. Assumes nothing.
-use mathlib.Core.Path.{refl, sym, subst}
-use Prim.Native.Nat.{◌≤◌}
-use native.Mathlib.Omega.{arith}
-use lib.ListN.{length}
-use Rattle.limits.specs.Limits.{max_bundles}
+use mathlib.Core.Path.{refl, ap, subst}
+use Rattle.std.specs.Prelude.{List}
 use Rattle.board.specs.Board.{Board}
+use Rattle.board.specs.declared.Member.{Member}
 use Rattle.plan.specs.MemberColumns.{edges_of}
 use Rattle.checks.specs.Purse.{told}
 use Rattle.job_tables.proofs.Ready as tables
-use Rattle.draw_job.specs.JobTables.{MembersOn, OnSheet}
-use Rattle.draw_job.proofs.Answers as answers
+use Rattle.draw_job.specs.JobTables.{OnSheet}
 use Rattle.draw_job.proofs.Ready as ready
 use Rattle.draw_job.proofs.Phases as laws
 use Rattle.sheet_replay.proofs.draw_in.Goals as goal
@@ -40,23 +37,9 @@ on_sheet c =
     let lent = laws.lent_as a.j.now _ c.len.ensures.value _ _ _ _ _ _ refl c.requires.lent in
     laws.on_sheet a.j.now a.given.now c.requires.came c.board_tables-board.result (c.board_tables-board.ensures a.given.now) _ _ _ _ _ lent (told d.result.ended d.new.visits.0) d.result.drawn d.new.taps d.new.points d.new.counts d.auto.taps d.auto.points d.auto.counts _ (laws.ended_clean d.result.ended d.new.visits.0 _ c.in-Ok.is) d.ensures.rows d.ensures.full d.ensures.hold
 
-few_drawn : (c : In-Ok) → length c.draw_sheet-d.result.drawn.items ≤ max_bundles
-few_drawn c = let on = on_sheet c in omega (arith, on.all_drawn, on.fits.bundles)
-
 pub put_pages-requires : goal.put_pages-requires
 put_pages-requires c =
     let a = c.args in
     let d = c.draw_sheet-d in
-    let t = c.board_tables-board.result in
     let same = c.board_tables-board.ensures a.given.now in
-    let e = (goal.at.put_pages-requires c).In-Ok in
-    let on = on_sheet e in
-    let edges = tables.edges_lent a.j.now a.given.now c.requires.came t same in
-    let members = tables.members_lent a.j.now a.given.now c.requires.came t same in
-    rw c.as_slice.ensures.value
-    (record {
-      few = (omega (arith, edges, on.fits.edges), few_drawn e);
-      counted = (omega (arith, on.counted, edges), on.hold, on.slots);
-      windows = (rw members (answers.windows a.j.now (edges_of t.members.now) d.result.drawn d.new.points d.new.counts d.new.taps on), omega (arith, members, on.places));
-      members_on = subst (λ (b : Board). MembersOn b.edges b.members) (sym same) on.members_on;
-    })
+    record { on_sheet = subst (λ (ms : List Member). OnSheet a.j.now (edges_of ms) d.result.drawn d.new.points d.new.counts d.new.taps) (ap (λ (b : Board). b.members) same) (on_sheet (goal.at.put_pages-requires c).In-Ok) }

@@ -27,7 +27,12 @@ few c =
 pub write_answer-n-requires : goal.write_answer-n-requires
 write_answer-n-requires c =
     let a = (goal.at.write_answer-n-requires c).After-as_slice in
-    record { counted = c.requires.edges_in_bounds; windows = rw (taps_long a) c.requires.windows.0; room_for_it = omega (arith, page_long (goal.at.write_answer-n-requires c).Start, few a) }
+    let on = c.args.s.present.slots in
+    record {
+      tables = record { counted = c.requires.edges_in_bounds; windows = rw (taps_long a) c.requires.windows.0; room_for_it = omega (arith, page_long (goal.at.write_answer-n-requires c).Start, few a) };
+      stored = omega (arith, on.slots, c.requires.edges_in_bounds);
+      held = on.hold;
+    }
 
 pub shared_ref_as_front-put : goal.shared_ref_as_front-put
 shared_ref_as_front-put c = rw c.write_answer-n.ensures.place (few (goal.at.shared_ref_as_front-put c).After-as_slice)

@@ -1,15 +1,31 @@
 -- `sheet_replay::put_pages` is safe and ends. Assumes nothing.
-use Rattle.std.proofs.Common.{arith, length}
+use Rattle.std.proofs.Common.{ℕ, ◌≤◌, length, arith}
+use Rattle.answer.specs.SheetTables.{Windows}
+use Rattle.plan.specs.MemberColumns.{edges_of}
 use Rattle.normalize.proofs.Shift.{windows_kept}
+use Rattle.draw_job.proofs.Answers as answers
 use Rattle.sheet_replay.proofs.put_pages.Goals as goal
+use Rattle.sheet_replay.proofs.put_pages.Goals.{Start}
 
-pub normalize_layout-l-requires : goal.normalize_layout-l-requires
-normalize_layout-l-requires c =
-    let w = c.requires.windows in
-    record { tables = (c.args.board.sound.nodes_few, c.requires.few.1); slots = (c.requires.counted.2, c.requires.counted.1); taps = λ i d h. let z = w.0 i d h in omega (arith, z, w.1) }
+-- the taps of each bundle are among those of the members
+windows : (s : Start) → Windows s.args.drawn.now.items (length s.args.j.now.members.items)
+windows s =
+    let a = s.args in
+    answers.windows a.j.now (edges_of a.j.now.members.items) a.drawn.now a.points.now a.counts.now a.taps.now s.requires.on_sheet
+
+pub put_page-next-requires-clause-windows : goal.put_page-next-requires-clause-windows
+put_page-next-requires-clause-windows c =
+    rw (c.as_slice-rows.ensures.value, c.as_slice-members.ensures.value) (windows (goal.at.put_page-next-requires-clause-windows c).Start, c.requires.on_sheet.places)
+
+pub normalize_layout-l-requires-clause-taps : goal.normalize_layout-l-requires-clause-taps
+normalize_layout-l-requires-clause-taps c =
+    let w = windows (goal.at.normalize_layout-l-requires-clause-taps c).Start in
+    rw c.as_slice-rows.ensures.value (λ i d h. let z = w i d h in omega (arith, z, c.requires.on_sheet.places))
 
 pub put_page-requires-clause-windows : goal.put_page-requires-clause-windows
 put_page-requires-clause-windows c =
+    let a = c.args in
     let n = c.normalize_layout-l in
-    let w = c.requires.windows in
-    (rw c.as_slice-2.ensures.value (windows_kept (length c.args.board.members.now) c.args.drawn.now n.result.drawn.items n.ensures.rows w.0), omega (arith, n.auto.taps, w.1))
+    let w = windows (goal.at.put_page-requires-clause-windows c).Start in
+    rw (c.as_slice-2.ensures.value, c.as_slice-members.ensures.value)
+    (windows_kept (length a.j.now.members.items) a.drawn.now.items n.result.drawn.items (rw c.as_slice-rows.ensures.value at n.ensures.rows) w, omega (arith, n.auto.taps, c.requires.on_sheet.places))
