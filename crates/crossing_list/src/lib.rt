@@ -56,7 +56,7 @@ pub fn put_crossings(rows: &[Row], out: &mut [u8])
     let mut room = [Row::default(); MAX_CROSSINGS];
     let mut spare = [Row::default(); MAX_CROSSINGS];
     let own = &mut room[..rows.len()];
-    own.copy_from_slice(rows);
+    slices::copy(own, rows);
     place_sort::sort(own, &mut spare[..]);
     put_list(out, own);
 }

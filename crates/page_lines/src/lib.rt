@@ -39,7 +39,7 @@ fn put_right(out: &mut [u8], at: usize, w: usize, n: u64, fill: u8)
     let digits = &text[text.len().saturating_sub(w)..];
     let start = at + w - digits.len();
     out[at..start].fill(fill);
-    out[start..at + w].copy_from_slice(digits);
+    slices::copy(&mut out[start..at + w], digits);
 }
 
 // k / 128 in 20 columns.

@@ -41,7 +41,7 @@ fn copy_points(route: RouteView, out: &mut [f64], at: usize)
 {
     let n = 2 * route.count;
     let from = 2 * route.start;
-    out[2 * at..2 * at + n].copy_from_slice(&route.points[from..from + n]);
+    slices::copy(&mut out[2 * at..2 * at + n], &route.points[from..from + n]);
 }
 
 // The route of edge e becomes another one: a rewritten route of the scratch, or a given one of the

@@ -44,7 +44,7 @@ pub fn reply(mark: u8, left: u32, n: usize, list: &[f64], xs: &mut [f64]) -> Sea
             x: 0.0,
         };
     }
-    xs[..n].copy_from_slice(&list[..n]);
+    slices::copy(&mut xs[..n], &list[..n]);
     SearchAnswer {
         number: 0,
         mark,

@@ -53,7 +53,7 @@ impl<T: Copy + Default, const N: usize> Table<T, N> {
         ensures { result.items ≡ rows.now }
     {
         let mut all = [T::default(); N];
-        all[..rows.len()].copy_from_slice(rows);
+        slices::copy(&mut all[..rows.len()], rows);
         Table {
             rows: all,
             count: rows.len(),
