@@ -17,7 +17,9 @@ use route::PresentRoutes;
 // The list is written where there are at most 1,024 crossings, unless another refusal is due; more are
 // refused (19). The rows of the crossings are kept here, so that they are cleared only where the list is
 // wanted. permitted is bit 1 of the job's flags. withheld says that the caller refuses the page (16) once
-// 19 was looked for, and is no switch between two ways to work.
+// 19 was looked for, and is no switch between two ways to work. A function of its own for its caller, whose frame
+// stands below the turns' and the searches': the rows, 96 KB, stand beside those, and not on top of them.
+#[inline(never)]
 pub fn list_crossings(
     permitted: bool,
     withheld: bool,
