@@ -16,7 +16,7 @@ use crate::outside::{
 use crate::sheets::Lent;
 
 /// Pages of stack that are enough for every job: what `stack` has measured, rounded up.
-pub const PAGES: usize = 168;
+pub const PAGES: usize = 161;
 /// More than the stage needs, to measure on.
 const MEASURED_ON: usize = 256;
 const PATTERN: u8 = 0xa5;
