@@ -44,8 +44,8 @@ pub written : (before after : List ℕ) (d : Result ℕ Refusal) (n : ℕ) (t : 
 written before after d n t e w = subst (λ (x : Result ℕ Refusal). PlanEnded before after x t) e w
 
 pub notice_after : (before left : List ℕ) (d : Result ℕ Refusal) (e : Refusal) (t : Taken) → d ≡ Err e → PlanEnded before left d t
-    → (n : ℕ) → n ≡ refusal_number e → (after : List ℕ) (r : ℕ) → after ≡ sets left 0 (notice_bytes n) → r ≡ 6 → PlanWrites before after r t
-notice_after before left d e t is w n h after r b c =
+    → (n : ℕ) (after : List ℕ) (r : ℕ) → after ≡ sets left 0 (notice_bytes n) → r ≡ 6 → n ≡ refusal_number e → PlanWrites before after r t
+notice_after before left d e t is w n after r b c h =
     let p : (t ≡ rejected (refusal_number e)) × (left ≡ before) = subst (λ (x : Result ℕ Refusal). PlanEnded before left x t) is w in
     notice_writes before after r n t (p.0 ∙ ap rejected (sym h)) (b ∙ ap (λ (l : List ℕ). sets l 0 (notice_bytes n)) p.1) c
 

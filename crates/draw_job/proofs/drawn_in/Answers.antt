@@ -1,4 +1,5 @@
 -- `draw_job::drawn_in` meets its contract. Assumes nothing.
+use Rattle.std.proofs.Common.{rules}
 use mathlib.Core.Path.{◌≡◌, refl, sym, ◌∙◌, ap, subst}
 use mathlib.Core.Bool.{not, ◌&&◌}
 use mathlib.Core.List.{List}
@@ -84,13 +85,14 @@ points-by c = c.draw_sheet-d.new.points
 abbrev counts-by : In_ok-d → List ℕ
 counts-by c = c.draw_sheet-d.new.counts
 
+-- Here and below, how the sheet ended is searched for, so that an edit of what is handed on is refused at the fact that does not hold.
 on_sheet : (c : In_ok-d) → OnSheet (start c).args.j.now (edges_by c) (drawn_by c) (points-by c) (counts-by c) (taps_by c)
 on_sheet c =
     let s = start c in
     let a = s.args in
     let d = c.draw_sheet-d in
     let lent = laws.lent_as a.j.now _ c.len-2.ensures.value _ _ c.if-wants.points _ _ _ (points_kept (goal.at.In_ok-d c).Joined-wants) s.requires.lent in
-    laws.on_sheet a.j.now a.given.now s.requires.came.0 c.board_tables-board.result (c.board_tables-board.ensures a.given.now) _ _ _ _ _ lent (told d.result.ended d.new.visits.0) (drawn_by c) (taps_by c) (points-by c) (counts-by c) d.auto.taps d.auto.points d.auto.counts _ (laws.ended_clean d.result.ended d.new.visits.0 _ c.in_ok-d.was) d.ensures.rows d.ensures.full d.ensures.hold
+    laws.on_sheet a.j.now a.given.now s.requires.came.0 c.board_tables-board.result (c.board_tables-board.ensures a.given.now) _ _ _ _ _ lent (told d.result.ended d.new.visits.0) (drawn_by c) (taps_by c) (points-by c) (counts-by c) d.auto.taps d.auto.points d.auto.counts _ (laws.ended_clean d.result.ended d.new.visits.0 tt (search rules)) d.ensures.rows d.ensures.full d.ensures.hold
 
 -- what is finished where every turn was clean, with so many visits left
 abbrev done : In_ok-d → ℕ → Finished
@@ -103,7 +105,7 @@ told_drawn c =
     let o = c.corridor_depth_offsets-offsets in
     let from = c.requires.came.0 in
     let t = c.board_tables-board in
-    let clean = laws.ended_clean d.result.ended d.new.visits.0 _ c.in_ok-d.was in
+    let clean = laws.ended_clean d.result.ended d.new.visits.0 tt (search rules) in
     laws.all_drawn a.j.now a.given.now from t.result (t.ensures a.given.now) a.wants.plan a.plan.now c.if-wants.p (chosen (goal.at.In_ok-d c).Joined-wants) c.in_ok-made.made c.in_ok-made.was o.result.rows (told d.result.ended d.new.visits.0) (edges_by c) (drawn_by c) (points-by c) (counts-by c) (taps_by c) o.ensures d.ensures.told _ clean
 
 windows : (c : In_ok-d) → Windows (drawn_by c).items (length (start c).args.j.now.members.items)
@@ -237,7 +239,7 @@ put_page-requires c =
     let l = n.result.drawn in
     let after = (goal.at.put_page-requires c).After-tap_rows-t in
     let many : length l.items ≤ max_bundles = omega (arith, as_many after, few_drawn e) in
-    subst (λ (l : List DrawnBundle). (length l ≤ max_bundles) × Printables (length l) l × (page_room ≤ length a.page.now)) (sym c.as_slice-shifted.ensures.value) (many, laws.all_printable a.j.now a.given.now c.requires.came.0 c.board_tables-board.result (c.board_tables-board.ensures a.given.now) a.wants.plan a.plan.now c.if-wants.p (chosen (goal.at.put_page-requires c).Joined-wants) c.in_ok-made.made c.in_ok-made.was o.result.rows (told d.result.ended d.new.visits.0) (edges_by e) (drawn_by e) (points-by e) (counts-by e) (taps_by e) o.ensures d.ensures.told (on_the_grid a.wants.page _ c.if-wants-3.true c.if-off_grid.false) _ (laws.ended_clean d.result.ended d.new.visits.0 _ c.in_ok-d.was) _ n.result.nodes.items a.j.now.edges.items n.new.points l.items t.result.items (told_answer after), wanted_room a.wants.page _ _ c.if-wants-3.true c.requires.came.1)
+    subst (λ (l : List DrawnBundle). (length l ≤ max_bundles) × Printables (length l) l × (page_room ≤ length a.page.now)) (sym c.as_slice-shifted.ensures.value) (many, laws.all_printable a.j.now a.given.now c.requires.came.0 c.board_tables-board.result (c.board_tables-board.ensures a.given.now) a.wants.plan a.plan.now c.if-wants.p (chosen (goal.at.put_page-requires c).Joined-wants) c.in_ok-made.made c.in_ok-made.was o.result.rows (told d.result.ended d.new.visits.0) (edges_by e) (drawn_by e) (points-by e) (counts-by e) (taps_by e) o.ensures d.ensures.told (on_the_grid a.wants.page _ c.if-wants-3.true c.if-off_grid.false) _ (laws.ended_clean d.result.ended d.new.visits.0 tt (search rules)) _ n.result.nodes.items a.j.now.edges.items n.new.points l.items t.result.items (told_answer after), wanted_room a.wants.page _ _ c.if-wants-3.true c.requires.came.1)
 
 pub write_answer-requires-clause-tables : goal.write_answer-requires-clause-tables
 write_answer-requires-clause-tables c =
@@ -271,7 +273,7 @@ returns-in_err-d c =
     let o = c.corridor_depth_offsets-offsets in
     let d = c.draw_sheet-d in
     let p = err_from_is_err_and c.from_residual-in_err-d.result c.from_residual-in_err-d.ensures.1 in
-    let ended = laws.ended_refused d.result.ended d.new.visits.0 (refusal_number p.0) _ (ap refusal_number p.2) c.in_err-d.was in
+    let ended = laws.ended_refused d.result.ended d.new.visits.0 (refusal_number p.0) p.0 refl (search (rules, p.2)) in
     rw p.1 (laws.refused_outputs a.wants _ _ (laws.all_refused a.j.now a.given.now c.requires.came.0 c.board_tables-board.result (c.board_tables-board.ensures a.given.now) a.wants.plan a.plan.now c.if-wants.p (chosen (goal.at.returns-in_err-d c).Joined-wants) c.in_ok-made.made c.in_ok-made.was o.result.rows (told d.result.ended d.new.visits.0) (edges_of c.board_tables-board.result.members.now) d.result.drawn d.new.points d.new.counts d.new.taps o.ensures d.ensures.told _ _ ended), refl)
 
 pub returns : goal.returns
