@@ -19,19 +19,20 @@ use search::TapVisits;
 
 // That the points are the job's is a fact of the job and the slice that it was read into.
 
-// A job read and planned: the plan's bytes, or a refusal (1, 3 to 9, 15, 13) and nothing written.
-fn planned_in(
-    job: &[u8],
-    given: &mut [f64],
+// A job that was read, planned: the plan's bytes, or a refusal (13) and nothing written. A function of its own that
+// takes the job by value: a caller that lent it would hold two of it, 58 KB, under the reading.
+#[inline(never)]
+fn planned_of(
+    j: Job,
+    given: &[f64],
     sorted: &mut [f64],
     work: &mut [f64],
     plan: &mut [u8],
 ) -> Result<usize, Refusal>
-    requires given_len { (length given.old ≡ point_numbers) × (plan_room ≤ length plan.old) }
+    requires came { Came j given.now × (plan_room ≤ length plan.old) }
     requires sorted_len { (length sorted.old ≡ candidate_room) × (length work.old ≡ search_work) }
-    ensures { PlanEnded plan.old plan.new result (plan_told job.now) }
+    ensures { PlanEnded plan.old plan.new result (after_search (planned (job_in j given.now))) }
 {
-    let j = job_reader::read_job(job, given)?;
     let t = job_tables::board_tables(&j);
     let offsets = plan_depths::corridor_depth_offsets(t);
     let made = planner::plan_interior_collectors(
@@ -44,6 +45,24 @@ fn planned_in(
         work,
     )?;
     Ok(plan_writer::write_plan(plan, &made.rows[..j.bundles.len()], made.left))
+}
+
+// A job read and planned: the plan's bytes, or a refusal (1, 3 to 9, 15, 13) and nothing written.
+fn planned_in(
+    job: &[u8],
+    given: &mut [f64],
+    sorted: &mut [f64],
+    work: &mut [f64],
+    plan: &mut [u8],
+) -> Result<usize, Refusal>
+    requires given_len { (length given.old ≡ point_numbers) × (plan_room ≤ length plan.old) }
+    requires sorted_len { (length sorted.old ≡ candidate_room) × (length work.old ≡ search_work) }
+    ensures { PlanEnded plan.old plan.new result (plan_told job.now) }
+{
+    match job_reader::read_job(job, given) {
+        Ok(j) => planned_of(j, given, sorted, work, plan),
+        Err(r) => Err(r),
+    }
 }
 
 // The same, with the notice of a refusal.
