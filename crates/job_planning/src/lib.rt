@@ -47,25 +47,7 @@ fn planned_of(
     Ok(plan_writer::write_plan(plan, &made.rows[..j.bundles.len()], made.left))
 }
 
-// A job read and planned: the plan's bytes, or a refusal (1, 3 to 9, 15, 13) and nothing written.
-fn planned_in(
-    job: &[u8],
-    given: &mut [f64],
-    sorted: &mut [f64],
-    work: &mut [f64],
-    plan: &mut [u8],
-) -> Result<usize, Refusal>
-    requires given_len { (length given.old ≡ point_numbers) × (plan_room ≤ length plan.old) }
-    requires sorted_len { (length sorted.old ≡ candidate_room) × (length work.old ≡ search_work) }
-    ensures { PlanEnded plan.old plan.new result (plan_told job.now) }
-{
-    match job_reader::read_job(job, given) {
-        Ok(j) => planned_of(j, given, sorted, work, plan),
-        Err(r) => Err(r),
-    }
-}
-
-// The same, with the notice of a refusal.
+// A job read and planned: the plan's bytes, or the notice of a refusal (1, 3 to 9, 15, 13).
 pub fn read_and_plan(
     job: &[u8],
     given: &mut [f64],
@@ -77,7 +59,11 @@ pub fn read_and_plan(
     requires sorted_len { (length sorted.old ≡ candidate_room) × (length work.old ≡ search_work) }
     ensures { PlanWrites plan.old plan.new result (plan_told job.now) }
 {
-    match planned_in(job, given, sorted, work, plan) {
+    let ended = match job_reader::read_job(job, given) {
+        Ok(j) => planned_of(j, given, sorted, work, plan),
+        Err(r) => Err(r),
+    };
+    match ended {
         Ok(length) => length,
         Err(r) => answer::write_notice(plan, u8::from(r)),
     }
