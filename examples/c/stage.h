@@ -33,7 +33,7 @@ extern "C" {
 #define STAGE_WANT_PAGE 2u
 #define STAGE_WANT_CROSSINGS 4u
 /* Stack that a call needs at most, as measured. */
-#define STAGE_STACK_SIZE 656360
+#define STAGE_STACK_SIZE 656920
 
 /*
  * Writes the answer to the job, or the notice of its refusal, to the front of the answer's buffer, and

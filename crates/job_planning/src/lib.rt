@@ -20,7 +20,7 @@ use search::TapVisits;
 // That the points are the job's is a fact of the job and the slice that it was read into.
 
 // A job that was read, planned: the plan's bytes, or a refusal (13) and nothing written. A function of its own that
-// takes the job by value: a caller that lent it would hold two of it, 58 KB, under the reading.
+// takes the job by value: a caller that lent it would hold it twice, 58 KB, while it is read.
 #[inline(never)]
 fn planned_of(
     j: Job,

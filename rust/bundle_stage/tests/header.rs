@@ -103,7 +103,7 @@ fn of_answers(is: &mut impl FnMut(&str, usize)) {
     let readme = file("README.md");
     for (name, words) in [
         ("ANSWER_SIZE_MAX", "at most 52,484 bytes"),
-        ("STACK_SIZE", "at most 656,360 bytes of stack"),
+        ("STACK_SIZE", "at most 656,920 bytes of stack"),
     ] {
         assert!(readme.contains(words), "{words}");
         let digits = words.chars().filter(char::is_ascii_digit);

@@ -103,15 +103,19 @@ impl Buffers {
         self.answer[..count] == case.from_plan.0
     }
 
-    /// `stage_sheet` with all that can be wanted.
+    /// `stage_sheet` with all that can be wanted, and with the list alone, since a page that is refused
+    /// withholds the list.
     fn sheet(&mut self, stack: &mut Fenced, case: &Case) -> bool {
-        self.sheet_with(stack, case, WANT_PAGE | WANT_CROSSINGS, &case.told)
+        [WANT_PAGE | WANT_CROSSINGS, WANT_CROSSINGS]
+            .iter()
+            .all(|wants| self.sheet_with(stack, case, *wants, &case.told))
     }
 
     /// The same from a plan.
     fn sheet_from_plan(&mut self, stack: &mut Fenced, case: &Case) -> bool {
-        let wants = PLAN_GIVEN | WANT_PAGE | WANT_CROSSINGS;
-        self.sheet_with(stack, case, wants, &case.from_plan)
+        [WANT_PAGE | WANT_CROSSINGS, WANT_CROSSINGS]
+            .iter()
+            .all(|wants| self.sheet_with(stack, case, PLAN_GIVEN | wants, &case.from_plan))
     }
 
     fn sheet_with(&mut self, stack: &mut Fenced, case: &Case, wants: u32, told: &Told) -> bool {
@@ -199,11 +203,11 @@ pub fn stack(seed: u64, count: u64) -> bool {
     enough
 }
 
-/// Largest jobs and chains that sort much, which need the most, on a stack of that many pages. Too few end
-/// the process by a signal.
+/// Largest jobs, chains that sort much and jobs with the longest lists, on a stack of that many pages. Too few
+/// end the process by a signal.
 pub fn stack_of(pages: usize) -> bool {
     let good = all_cases(1, 6)
-        .filter(|(name, _)| ["largest", "chains"].contains(name))
+        .filter(|(name, _)| ["largest", "chains", "crossed"].contains(name))
         .all(|(_, cases)| runs_on(pages, &cases));
     println!(
         "on {pages} pages: {}",
